@@ -1,0 +1,29 @@
+-- `facts::rows::own_row` meets its contract: each turn fills one more sum.
+use Prim.Native.Nat.{ℕ, _-_}
+use mathlib.Core.Path.{_≡_, ap, sym, _∙_}
+use mathlib.Core.List.{List}
+use borrow.Author.Needs.{needs}
+use lib.Dec.{eqb}
+use Rattle.facts.specs.Numbers.{bias}
+use Rattle.facts.specs.Tabulate.{Filled, filled-none, filled-more, filled-whole}
+use Rattle.facts.specs.Store.{pick, inRow, concatenated, ownRow}
+use Rattle.facts.proofs.rows.own_row.Statement.{statement}
+use Rattle.facts.proofs.rows.own_row.Tie as tie
+
+abbrev Inv-loop : tie.InvT-loop
+Inv-loop x up base next₀ j₀ next j = Filled (next .sums) (next₀ .sums) 17 (λ n. pick (eqb n x) bias (concatenated up (inRow base n))) j
+
+abbrev μ-loop : tie.MeasureT-loop
+μ-loop x up base next₀ j₀ next j = 17 - j
+
+pub own-row-spec : {M : Type 1} → statement M
+unfolding ownRow
+own-row-spec =
+    tie.close
+    (tie.spec
+    Inv-loop μ-loop
+    (λ c. filled-none _ _ _ (search needs))
+    (λ c. search needs) (λ c. search needs) (λ c κs. search needs) (λ c κs. search needs) (λ c. search needs) (λ c. search needs) (λ c. search needs)
+    (λ c. search needs)
+    (λ c. filled-more (c .before .before .before .before .loop .inv) (search needs) (rw (c .before .concat .ensures) at (c .choose .ensures)))
+    (λ c. ap (λ (l : List ℕ). record { sums = l }) (filled-whole (c .before .loop .inv) (c .loop-test .left))))

@@ -1,0 +1,150 @@
+-- What each operation of the fact store makes of the 17 rows of 17 sums, as the code does. That this is what the paper says is proved in Exact.
+use Prim.Native.Nat.{ℕ, _+_, _-_, _^_, min, max}
+use mathlib.Core.List.{List, [], _∷_}
+use mathlib.Core.Bool.{Bool, true, false, not}
+use lib.ListN.{getD, set}
+use lib.Dec.{ltb, leb, eqb}
+use Rattle.facts.specs.Numbers.{bias, maxValue, zeroVar}
+use Rattle.facts.specs.Tabulate.{tabulate}
+use Rattle.facts.specs.declared.rows.Row.{Row}
+use Rattle.facts.specs.declared.FactSet.{FactSet}
+
+abbrev pub pick : Bool → ℕ → ℕ → ℕ
+pick true a b = a
+pick false a b = b
+
+abbrev pub pickBool : Bool → Bool → Bool → Bool
+pickBool true a b = a
+pickBool false a b = b
+
+abbrev pub pickRow : Bool → Row → Row → Row
+pickRow true a b = a
+pickRow false a b = b
+
+abbrev pub pickSet : Bool → FactSet → FactSet → FactSet
+pickSet true f g = f
+pickSet false f g = g
+
+-- ---- sums
+
+-- What a sum that is out of range counts as.
+abbrev pub unbounded : ℕ
+unbounded = 2 ^ 64 - 1
+
+-- The sum of two chains, one after the other; of sums in range it is a + b.
+unfoldable pub concatenated : ℕ → ℕ → ℕ
+concatenated a b = pick (leb (2 ^ 40) a) unbounded (pick (leb (2 ^ 40) b) unbounded (a + b - bias))
+
+-- The sum with the other sign.
+abbrev pub negated : ℕ → ℕ
+negated a = bias + bias - a
+
+-- ---- rows and sets, as lists
+
+abbrev pub noRow : Row
+noRow = record { sums = [] }
+
+abbrev pub rowAt : FactSet → ℕ → Row
+rowAt f i = getD (f .rows) i noRow
+
+abbrev pub inRow : Row → ℕ → ℕ
+inRow row j = getD (row .sums) j 0
+
+abbrev pub sumAt : FactSet → ℕ → ℕ → ℕ
+sumAt f i j = inRow (rowAt f i) j
+
+abbrev pub rowOf : (ℕ → ℕ) → Row
+rowOf sum = record { sums = tabulate 17 sum }
+
+abbrev pub setOf : List Row → Bool → FactSet
+setOf rows mark = record { rows = rows; contradiction = mark }
+
+-- ---- questions
+
+unfoldable pub leastSum : FactSet → ℕ → ℕ → ℕ
+leastSum f x y = pick (ltb zeroVar x) unbounded (pick (ltb zeroVar y) unbounded (sumAt f x y))
+
+unfoldable pub shown : FactSet → ℕ → ℕ → ℕ → Bool
+shown f x y k = pickBool (f .contradiction) true (leb (leastSum f x y) k)
+
+unfoldable pub endShown : FactSet → ℕ → ℕ → ℕ → ℕ → ℕ → ℕ → Bool
+endShown f q n k r m j = pickBool (f .contradiction) true (leb (concatenated (concatenated (leastSum f q r) (leastSum f n m)) k) j)
+
+-- ---- new
+
+abbrev pub newSum : ℕ → ℕ → ℕ
+newSum i j = pick (eqb i j) bias (pick (eqb i zeroVar) bias (bias + maxValue))
+
+unfoldable pub newRow : ℕ → Row
+newRow i = rowOf (newSum i)
+
+unfoldable pub newSet : FactSet
+newSet = setOf (tabulate 17 newRow) false
+
+-- ---- add
+
+unfoldable pub loweredRow : Row → ℕ → ℕ → Row → Row
+loweredRow row start y through = pickRow (leb (inRow row y) start) row (rowOf (λ j. min (inRow row j) (concatenated start (inRow through j))))
+
+unfoldable pub lowered : FactSet → ℕ → ℕ → ℕ → FactSet
+lowered f x y k = setOf (tabulate 17 (λ i. loweredRow (rowAt f i) (concatenated (sumAt f i x) k) y (rowAt f y))) (f .contradiction)
+
+unfoldable pub marked : FactSet → FactSet
+marked f = setOf (f .rows) true
+
+unfoldable pub added : FactSet → ℕ → ℕ → ℕ → FactSet
+added f x y k =
+    pickSet (ltb zeroVar x) f
+    (pickSet (ltb zeroVar y) f
+    (pickSet (shown f x y k) f
+    (pickSet (ltb (concatenated (sumAt f y x) k) bias) (marked f)
+    (lowered f x y k))))
+
+-- ---- drop, a range, shift
+
+unfoldable pub ownRow : Row → ℕ → ℕ → Row
+ownRow base x up = rowOf (λ j. pick (eqb j x) bias (concatenated up (inRow base j)))
+
+unfoldable pub reroutedRow : Row → ℕ → ℕ → Row
+reroutedRow row x to = rowOf (λ j. pick (eqb j x) to (inRow row j))
+
+abbrev pub rerouted : FactSet → ℕ → ℕ → ℕ → ℕ → Row
+rerouted f x y down i = reroutedRow (rowAt f i) x (concatenated (sumAt f i y) down)
+
+-- The variable x anew, between y - down and y + up: its row goes through y's, and each sum to it through that to y.
+unfoldable pub reassigned : FactSet → ℕ → ℕ → ℕ → ℕ → FactSet
+reassigned f x y up down = setOf (set (tabulate 17 (rerouted f x y down)) x (ownRow (rowAt f y) x up)) (f .contradiction)
+
+-- x in a range: low <= x <= high, both plain numbers.
+unfoldable pub ranged : FactSet → ℕ → ℕ → ℕ → FactSet
+ranged f x low high = pickSet (ltb 15 x) f (reassigned f x zeroVar (bias + high) (bias - low))
+
+unfoldable pub dropped : FactSet → ℕ → FactSet
+dropped f x = pickSet (ltb 15 x) f (reassigned f x zeroVar (bias + maxValue) bias)
+
+unfoldable pub shifted : FactSet → ℕ → ℕ → FactSet
+shifted f x k = pickSet (ltb 15 x) f (added (added (reassigned f x x k (negated k)) zeroVar x bias) x zeroVar (bias + maxValue))
+
+-- ---- join
+
+abbrev pub same : Bool → Bool → Bool
+same true b = b
+same false b = not b
+
+-- A fact may relate i and j, or both are zero.
+abbrev pub related : (ℕ → Bool) → ℕ → ℕ → Bool
+related pointer i j = pickBool (eqb i zeroVar) true (pickBool (eqb j zeroVar) true (same (pointer i) (pointer j)))
+
+-- The greater sum; between a pointer and an integer the chain through zero.
+unfoldable pub joinedSum : Bool → ℕ → ℕ → ℕ → ℕ → ℕ → ℕ → ℕ
+joinedSum comparable a b toA toB fromA fromB = pick comparable (max a b) (concatenated (max toA toB) (max fromA fromB))
+
+unfoldable pub joinedRow : (ℕ → Bool) → ℕ → Row → Row → Row → Row → Row
+joinedRow pointer i a b zeroA zeroB =
+    rowOf (λ j. joinedSum (related pointer i j) (inRow a j) (inRow b j) (inRow a zeroVar) (inRow b zeroVar) (inRow zeroA j) (inRow zeroB j))
+
+unfoldable pub joined : (ℕ → Bool) → FactSet → FactSet → FactSet
+joined pointer f g =
+    pickSet (f .contradiction) g
+    (pickSet (g .contradiction) f
+    (setOf (tabulate 17 (λ i. joinedRow pointer i (rowAt f i) (rowAt g i) (rowAt f zeroVar) (rowAt g zeroVar))) false))

@@ -1,0 +1,178 @@
+-- What each operation makes, case by case, and sum by sum.
+use Prim.Native.Nat.{ℕ, _+_, _-_, _^_, _≤_, _<_, min, max}
+use mathlib.Core.Path.{_≡_, refl, sym, ap, _∙_}
+use mathlib.Core.Logic.{_≢_}
+use mathlib.Core.Bool.{Bool, true, false, false≢true}
+use borrow.Author.Tests.{lt-ltb, le-ltb, lt-leb, le-leb, ltb-true, ltb-false, ne-eqb, eqb-true, eqb-false}
+use lib.Dec.{ltb, leb, eqb}
+use lib.ListN.{getD, set, length}
+use lib.Seq.{getD-set-same, getD-set-other}
+use native.Mathlib.Omega.{arith}
+use Rattle.facts.specs.Numbers.{bias, maxValue, zeroVar}
+use Rattle.facts.specs.Tabulate.{tabulate, length-tabulate, getD-tabulate}
+use Rattle.facts.specs.Store.{pick, pickBool, pickRow, pickSet, unbounded, concatenated, negated, noRow, rowAt, inRow, sumAt, rowOf, setOf, leastSum, shown, newSum, newRow, newSet, loweredRow, lowered, marked, added, ownRow, reroutedRow, rerouted, reassigned, dropped, ranged, shifted, related, joinedSum, joinedRow, joined}
+use Rattle.facts.specs.Operations.{anewAt}
+use Rattle.facts.specs.declared.rows.Row.{Row}
+use Rattle.facts.specs.declared.FactSet.{FactSet}
+
+pub picked : {b : Bool} (f g : FactSet) → b ≡ true → pickSet b f g ≡ f
+picked f g e = rw e
+
+pub passed : {b : Bool} (f g : FactSet) → b ≡ false → pickSet b f g ≡ g
+passed f g e = rw e
+
+-- ---- sums in range
+
+pub concat-plain : (a b : ℕ) → a < 2 ^ 40 → b < 2 ^ 40 → concatenated a b ≡ a + b - bias
+unfolding concatenated
+concat-plain a b ha hb = rw (lt-leb (2 ^ 40) a ha, lt-leb (2 ^ 40) b hb)
+
+-- ---- join
+
+module _ (pointer : ℕ → Bool) (f g : FactSet) where
+  pub joined-first : f .contradiction ≡ true → joined pointer f g ≡ g
+  unfolding joined
+  joined-first e = picked _ _ e
+
+  pub joined-second : f .contradiction ≡ false → g .contradiction ≡ true → joined pointer f g ≡ f
+  unfolding joined
+  joined-second e d = passed _ _ e ∙ picked _ _ d
+
+  pub joined-both : f .contradiction ≡ false → g .contradiction ≡ false
+      → joined pointer f g ≡ setOf (tabulate 17 (λ i. joinedRow pointer i (rowAt f i) (rowAt g i) (rowAt f zeroVar) (rowAt g zeroVar))) false
+  unfolding joined
+  joined-both e d = passed _ _ e ∙ passed _ _ d
+
+pub least-node : (f : FactSet) (x y : ℕ) → x < 17 → y < 17 → leastSum f x y ≡ sumAt f x y
+unfolding leastSum
+least-node f x y hx hy = rw (le-ltb zeroVar x (omega arith), le-ltb zeroVar y (omega arith))
+
+-- A set without the mark shows a fact by its sum; what is not shown, is not shown by a set with the mark.
+pub shown-clear : (f : FactSet) (x y k : ℕ) → f .contradiction ≡ false → shown f x y k ≡ leb (leastSum f x y) k
+unfolding shown
+shown-clear f x y k e = go (f .contradiction) e
+  where
+    go : (b : Bool) → b ≡ false → pickBool b true (leb (leastSum f x y) k) ≡ leb (leastSum f x y) k
+    go true e = absurd (false≢true (sym e))
+    go false e = refl
+
+pub not-shown : (f : FactSet) (x y k : ℕ) → shown f x y k ≡ false → f .contradiction ≡ false
+unfolding shown
+not-shown f x y k s = go (f .contradiction) s
+  where
+    go : (b : Bool) → pickBool b true (leb (leastSum f x y) k) ≡ false → b ≡ false
+    go true s = s
+    go false s = refl
+
+-- ---- add
+
+module _ (f : FactSet) (x y k : ℕ) where
+  pub added-left : 16 < x → added f x y k ≡ f
+  unfolding added
+  added-left h = picked _ _ (lt-ltb _ _ h)
+
+  pub added-right : x ≤ 16 → 16 < y → added f x y k ≡ f
+  unfolding added
+  added-right hx h = passed _ _ (le-ltb _ _ hx) ∙ picked _ _ (lt-ltb _ _ h)
+
+  pub added-shown : x ≤ 16 → y ≤ 16 → shown f x y k ≡ true → added f x y k ≡ f
+  unfolding added
+  added-shown hx hy s = passed _ _ (le-ltb _ _ hx) ∙ passed _ _ (le-ltb _ _ hy) ∙ picked _ _ s
+
+  pub added-closed : x ≤ 16 → y ≤ 16 → shown f x y k ≡ false → concatenated (sumAt f y x) k < bias → added f x y k ≡ marked f
+  unfolding added
+  added-closed hx hy s h = passed _ _ (le-ltb _ _ hx) ∙ passed _ _ (le-ltb _ _ hy) ∙ passed _ _ s ∙ picked _ _ (lt-ltb _ _ h)
+
+  pub added-lowered : x ≤ 16 → y ≤ 16 → shown f x y k ≡ false → bias ≤ concatenated (sumAt f y x) k → added f x y k ≡ lowered f x y k
+  unfolding added
+  added-lowered hx hy s h = passed _ _ (le-ltb _ _ hx) ∙ passed _ _ (le-ltb _ _ hy) ∙ passed _ _ s ∙ passed _ _ (le-ltb _ _ h)
+
+-- ---- drop, a range, shift
+
+module _ (f : FactSet) (x : ℕ) where
+  pub dropped-other : 15 < x → dropped f x ≡ f
+  unfolding dropped
+  dropped-other h = picked _ _ (lt-ltb _ _ h)
+
+  pub dropped-variable : x ≤ 15 → dropped f x ≡ reassigned f x zeroVar (bias + maxValue) bias
+  unfolding dropped
+  dropped-variable h = passed _ _ (le-ltb _ _ h)
+
+  -- Dropping keeps the mark.
+  pub mark-dropped : dropped f x .contradiction ≡ f .contradiction
+  unfolding dropped reassigned
+  mark-dropped = go (ltb 15 x)
+    where
+      go : (b : Bool) → pickSet b f (reassigned f x zeroVar (bias + maxValue) bias) .contradiction ≡ f .contradiction
+      go true = refl
+      go false = refl
+
+  pub ranged-other : (low high : ℕ) → 15 < x → ranged f x low high ≡ f
+  unfolding ranged
+  ranged-other low high h = picked _ _ (lt-ltb _ _ h)
+
+  pub ranged-variable : (low high : ℕ) → x ≤ 15 → ranged f x low high ≡ reassigned f x zeroVar (bias + high) (bias - low)
+  unfolding ranged
+  ranged-variable low high h = passed _ _ (le-ltb _ _ h)
+
+  pub shifted-other : (k : ℕ) → 15 < x → shifted f x k ≡ f
+  unfolding shifted
+  shifted-other k h = picked _ _ (lt-ltb _ _ h)
+
+  pub shifted-variable : (k : ℕ) → x ≤ 15 → shifted f x k ≡ added (added (reassigned f x x k (negated k)) zeroVar x bias) x zeroVar (bias + maxValue)
+  unfolding shifted
+  shifted-variable k h = passed _ _ (le-ltb _ _ h)
+
+-- ---- sum by sum
+
+in-picked : (b : Bool) (row : Row) (g : ℕ → ℕ) (j : ℕ) → j < 17 → inRow (pickRow b row (rowOf g)) j ≡ pick b (inRow row j) (g j)
+in-picked true row g j h = refl
+in-picked false row g j h = getD-tabulate 17 g j 0 h
+
+in-own : (base : Row) (x up j : ℕ) → j < 17 → inRow (ownRow base x up) j ≡ pick (eqb j x) bias (concatenated up (inRow base j))
+unfolding ownRow
+in-own base x up j h = getD-tabulate 17 _ j 0 h
+
+in-rerouted : (row : Row) (x to j : ℕ) → j < 17 → inRow (reroutedRow row x to) j ≡ pick (eqb j x) to (inRow row j)
+unfolding reroutedRow
+in-rerouted row x to j h = getD-tabulate 17 _ j 0 h
+
+module _ (f : FactSet) (x y up down : ℕ) where
+  own-row : x < 17 → rowAt (reassigned f x y up down) x ≡ ownRow (rowAt f y) x up
+  unfolding reassigned
+  own-row h = getD-set-same (tabulate 17 (rerouted f x y down)) x (ownRow (rowAt f y) x up) noRow (omega (arith, length-tabulate 17 (rerouted f x y down)))
+
+  other-row : (i : ℕ) → i < 17 → i ≢ x → rowAt (reassigned f x y up down) i ≡ reroutedRow (rowAt f i) x (concatenated (sumAt f i y) down)
+  unfolding reassigned
+  other-row i h n = getD-set-other (tabulate 17 (rerouted f x y down)) x i (ownRow (rowAt f y) x up) noRow n ∙ getD-tabulate 17 (rerouted f x y down) i noRow h
+
+module _ (f : FactSet) (i j : ℕ) (hi : i < 17) (hj : j < 17) where
+  pub sum-new : sumAt newSet i j ≡ newSum i j
+  unfolding newSet newRow
+  sum-new = rw (getD-tabulate, getD-tabulate)
+
+  pub sum-lowered : (x y k : ℕ) → sumAt (lowered f x y k) i j
+      ≡ pick (leb (sumAt f i y) (concatenated (sumAt f i x) k)) (sumAt f i j) (min (sumAt f i j) (concatenated (concatenated (sumAt f i x) k) (sumAt f y j)))
+  unfolding lowered loweredRow
+  sum-lowered x y k = rw getD-tabulate (in-picked (leb (sumAt f i y) (concatenated (sumAt f i x) k)) (rowAt f i) _ j hj)
+
+  pub sum-reassigned : (x y up down : ℕ) → x < 17
+      → sumAt (reassigned f x y up down) i j ≡ anewAt (sumAt f i j) (concatenated up (sumAt f y j)) (concatenated (sumAt f i y) down) (eqb i x) (eqb j x)
+  sum-reassigned x y up down hx = go (eqb i x) refl
+    where
+      own : (b : Bool) → pick b bias (concatenated up (sumAt f y j)) ≡ anewAt (sumAt f i j) (concatenated up (sumAt f y j)) (concatenated (sumAt f i y) down) true b
+      own true = refl
+      own false = refl
+
+      other : (b : Bool) → pick b (concatenated (sumAt f i y) down) (sumAt f i j) ≡ anewAt (sumAt f i j) (concatenated up (sumAt f y j)) (concatenated (sumAt f i y) down) false b
+      other true = refl
+      other false = refl
+
+      go : (a : Bool) → eqb i x ≡ a → sumAt (reassigned f x y up down) i j ≡ anewAt (sumAt f i j) (concatenated up (sumAt f y j)) (concatenated (sumAt f i y) down) a (eqb j x)
+      go true e = ap (λ (n : ℕ). sumAt (reassigned f x y up down) n j) (eqb-true i x e) ∙ ap (λ (row : Row). inRow row j) (own-row f x y up down hx) ∙ in-own (rowAt f y) x up j hj ∙ own (eqb j x)
+      go false e = ap (λ (row : Row). inRow row j) (other-row f x y up down i hi (eqb-false i x e)) ∙ in-rerouted (rowAt f i) x (concatenated (sumAt f i y) down) j hj ∙ other (eqb j x)
+
+  pub sum-joined : (g : FactSet) (pointer : ℕ → Bool) → f .contradiction ≡ false → g .contradiction ≡ false → sumAt (joined pointer f g) i j
+      ≡ joinedSum (related pointer i j) (sumAt f i j) (sumAt g i j) (sumAt f i zeroVar) (sumAt g i zeroVar) (sumAt f zeroVar j) (sumAt g zeroVar j)
+  unfolding joinedRow
+  sum-joined g pointer e d = ap (λ (h : FactSet). sumAt h i j) (joined-both pointer f g e d) ∙ rw (getD-tabulate, getD-tabulate)

@@ -1,0 +1,62 @@
+// Sums of chains, each kept as the natural number that is 2^33 more.
+ghost use mathlib.Core.Path.{_≡_};
+ghost use mathlib.Core.Bool.{Bool, true, false};
+ghost use Prim.Native.Nat.{ℕ, min, max};
+ghost use Rattle.facts.specs.Store.{pick, concatenated, negated};
+
+// The sum 0.
+pub const BIAS: u64 = 8589934592;
+
+// The greatest value of a variable, as a sum.
+pub const MAX_VALUE: u64 = 12884901887;
+
+// No bound at all: what a sum that is out of range counts as.
+pub const UNBOUNDED: u64 = 18446744073709551615;
+
+// Sums of a fact set stay far below this; so none that is added wraps.
+const LIMIT: u64 = 1099511627776;
+
+// The sum of two chains, one after the other.
+pub fn concat(a: u64, b: u64) -> u64
+    ensures { λ r. ⌜ r ≡ concatenated a b ⌝ }
+{
+    if LIMIT <= a {
+        return UNBOUNDED;
+    }
+    if LIMIT <= b {
+        return UNBOUNDED;
+    }
+    let both = a + b;
+    if both < BIAS {
+        return 0;
+    }
+    both - BIAS
+}
+
+// The sum with the other sign.
+pub fn negate(a: u64) -> u64
+    ensures { λ r. ⌜ r ≡ negated a ⌝ }
+{
+    if 17179869184 < a {
+        return 0;
+    }
+    17179869184 - a
+}
+
+pub fn least(a: u64, b: u64) -> u64
+    ensures { λ r. ⌜ r ≡ min a b ⌝ }
+{
+    if a < b { a } else { b }
+}
+
+pub fn greatest(a: u64, b: u64) -> u64
+    ensures { λ r. ⌜ r ≡ max a b ⌝ }
+{
+    if a < b { b } else { a }
+}
+
+pub fn choose(first: bool, a: u64, b: u64) -> u64
+    ensures { λ r. ⌜ r ≡ pick first a b ⌝ }
+{
+    if first { a } else { b }
+}
