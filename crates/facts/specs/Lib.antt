@@ -10,3 +10,4 @@ pub mod Exact
 pub mod ExactAfter
 pub mod History
 pub mod Sound
+pub mod Examples

@@ -61,6 +61,10 @@ setOf rows mark = record { rows = rows; contradiction = mark }
 
 -- ---- questions
 
+-- The mark: the facts contradict.
+abbrev pub contradictory : FactSet → Bool
+contradictory f = f .contradiction
+
 unfoldable pub leastSum : FactSet → ℕ → ℕ → ℕ
 leastSum f x y = pick (ltb zeroVar x) unbounded (pick (ltb zeroVar y) unbounded (sumAt f x y))
 

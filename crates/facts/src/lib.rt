@@ -5,7 +5,7 @@ ghost use mathlib.Core.Path.{_≡_};
 ghost use mathlib.Core.Bool.{Bool, true, false};
 ghost use Prim.Native.Nat.{ℕ, _<_};
 ghost use lib.ListN.{getD};
-ghost use Rattle.facts.specs.Store.{leastSum, shown, endShown, newSet, added, reassigned, dropped, ranged, shifted, joined};
+ghost use Rattle.facts.specs.Store.{contradictory, leastSum, shown, endShown, newSet, added, reassigned, dropped, ranged, shifted, joined};
 
 mod rows;
 mod sums;
@@ -35,9 +35,10 @@ impl FactSet {
 
     // The facts contradict: some chain from x to x has a sum below zero.
     pub fn contradicts(self) -> bool
-        ensures { λ r. ⌜ r ≡ self .contradiction ⌝ }
+        ensures { λ r. ⌜ r ≡ contradictory self ⌝ }
     {
-        self.contradiction
+        let mark = self.contradiction;
+        mark
     }
 
     // The least sum of the chains from x to y; of anything but a variable or zero, no bound at all.

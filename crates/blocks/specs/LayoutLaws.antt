@@ -1,0 +1,248 @@
+-- The layout, one statement at a time, as the code meets it.
+use Prim.Native.Nat.{ℕ, zero, suc, _+_, _-_, _<_, _≤_}
+use mathlib.Core.Path.{_≡_, refl, sym, _∙_, ap}
+use mathlib.Core.Bool.{Bool, true, false, _||_}
+use mathlib.Core.List.{List, [], _∷_}
+use native.Mathlib.Omega.{arith}
+use native.Mathlib.Numerals.{sub-one}
+use native.Mathlib.Nat.{pos-of-ne-zero}
+use borrow.Author.Tests.{lt-ltb, le-ltb, ne-eqb, eqb-false, ltb-false}
+use lib.IntN.{ℤ}
+use lib.Dec.{ltb, eqb}
+use Rattle.table.specs.declared.Sections.{Sections}
+use Rattle.table.specs.declared.Condition.{Condition}
+use Rattle.table.specs.declared.Simple.{Simple}
+use Rattle.table.specs.declared.Statement.{Statement}
+use Rattle.table.specs.declared.Statement.the-variants.{Plain, If, While, Bundle}
+use Rattle.table.specs.declared.StatementRead.{StatementRead}
+use Rattle.table.specs.declared.StatementRead.the-variants.{Read, Unread}
+use Rattle.table.specs.declared.Refusal.{Refusal}
+use Rattle.table.specs.declared.Refusal.the-variants.{StatementRecord, BlockLayout}
+use Rattle.table.specs.Statements.{statementAt}
+use Rattle.blocks.specs.declared.Layout.{Layout}
+use Rattle.blocks.specs.declared.Layout.the-variants.{LaidOut, Refused}
+use Rattle.blocks.specs.Layout.{maxDepth, maxBundle, also, when, contents, contentsFrom, bundleLayout, kindLayout, nodeLayout, blockLayout, verdict}
+
+-- Lists of refusals.
+
+pub laid-out : (xs : List Refusal) → xs ≡ [] → LaidOut ≡ verdict xs
+unfolding verdict
+laid-out xs e = rw e
+
+pub none-refused : (xs : List Refusal) (r : Layout) → r ≡ verdict xs → r ≡ LaidOut → xs ≡ []
+unfolding verdict
+none-refused [] r e p = refl
+none-refused (x ∷ xs) r e p = cc
+
+-- A test that does not refuse leaves the rest, and so does a part that is laid out.
+pub skip : (b : Bool) (r : Refusal) (ys : List Refusal) → b ≡ false → also (when b r) ys ≡ ys
+unfolding also when
+skip b r ys e = rw e
+
+pub pass : (xs ys : List Refusal) → xs ≡ [] → also xs ys ≡ ys
+unfolding also
+pass xs ys e = rw e
+
+-- A test that refuses is the answer, and so is a part that is refused.
+pub refuse : (b : Bool) (r : Refusal) (ys : List Refusal) → b ≡ true → Refused r ≡ verdict (also (when b r) ys)
+unfolding also when verdict
+refuse b r ys e = rw e
+
+pub refuse-part : (xs ys : List Refusal) (l : Layout) (r : Refusal) → l ≡ verdict xs → l ≡ Refused r → l ≡ verdict (also xs ys)
+unfolding also verdict
+refuse-part [] ys l r e p = let z : LaidOut ≡ Refused r = sym e ∙ p in let o : _≡_ {A = ℕ} 0 1 = cc in absurd (omega arith)
+refuse-part (x ∷ xs) ys l r e p = e
+
+-- Where nothing is refused, no part is.
+pub no-first : (xs ys : List Refusal) → also xs ys ≡ [] → xs ≡ []
+unfolding also
+no-first [] ys e = refl
+no-first (x ∷ xs) ys e = cc
+
+pub no-rest : (xs ys : List Refusal) → also xs ys ≡ [] → ys ≡ []
+unfolding also
+no-rest [] ys e = e
+no-rest (x ∷ xs) ys e = cc
+
+pub passed : (b : Bool) (r : Refusal) → when b r ≡ [] → b ≡ false
+unfolding when
+passed true r e = cc
+passed false r e = refl
+
+-- The contents of a bundle.
+
+pub contents-none : (n : ℕ) (T : List ℤ) (h : Sections) (a x : ℕ) → n ≤ 0 → contents n T h a x ≡ []
+unfolding contents
+contents-none zero T h a x p = refl
+contents-none (suc n) T h a x p = absurd (omega arith)
+
+pub contents-some : (n : ℕ) (T : List ℤ) (h : Sections) (a x : ℕ) (s : StatementRead) → 0 < n → statementAt T h x ≡ s
+    → contents n T h a x ≡ contentsFrom s a x (contents (n - 1) T h a (x + 1))
+unfolding contents
+contents-some zero T h a x s p e = absurd (omega arith)
+contents-some (suc n) T h a x s p e = rw (e, sub-one)
+
+module _ (n : ℕ) (T : List ℤ) (h : Sections) (a x : ℕ) (some : 0 < n) where
+  pub contents-unread : statementAt T h x ≡ Unread → Refused (StatementRecord x) ≡ verdict (contents n T h a x)
+  unfolding verdict
+  contents-unread e = rw (contents-some n T h a x _ some e)
+
+  pub contents-plain : (s : Simple) → statementAt T h x ≡ Read (Plain s) → contents n T h a x ≡ contents (n - 1) T h a (x + 1)
+  contents-plain s e = contents-some n T h a x _ some e
+
+  pub contents-other : (s : Statement) (r : Layout) → ((p : Simple) → s ≡ Plain p → ⊥) → statementAt T h x ≡ Read s → r ≡ Refused (BlockLayout a)
+      → r ≡ verdict (contents n T h a x)
+  unfolding verdict
+  contents-other (Plain p) r q e w = absurd (q p refl)
+  contents-other (If c k m) r q e w = rw (contents-some n T h a x _ some e) w
+  contents-other (While c k) r q e w = rw (contents-some n T h a x _ some e) w
+  contents-other (Bundle k) r q e w = rw (contents-some n T h a x _ some e) w
+
+-- A bundle.
+
+or-first : (p q : Bool) → (p || q) ≡ false → p ≡ false
+or-first true q e = e
+or-first false q e = refl
+
+or-rest : (p q : Bool) → (p || q) ≡ false → q ≡ false
+or-rest true q e = cc
+or-rest false q e = e
+
+module _ (T : List ℤ) (h : Sections) (a n b : ℕ) where
+  pub bundle-zero : n ≡ 0 → Refused (BlockLayout a) ≡ verdict (bundleLayout T h a n b)
+  unfolding bundleLayout
+  bundle-zero p = refuse _ _ _ (rw p)
+
+  pub bundle-great : (n ≡ 0 → ⊥) → maxBundle < n → Refused (BlockLayout a) ≡ verdict (bundleLayout T h a n b)
+  unfolding bundleLayout
+  bundle-great p q = refuse _ _ _ (rw (ne-eqb n 0 p, lt-ltb maxBundle n q))
+
+  module _ (some : n ≡ 0 → ⊥) (few : n ≤ maxBundle) where
+    counted : (eqb n 0 || ltb maxBundle n) ≡ false
+    counted = rw (ne-eqb n 0 some, le-ltb maxBundle n few)
+
+    pub bundle-past : b < a + 1 + n → Refused (BlockLayout a) ≡ verdict (bundleLayout T h a n b)
+    unfolding bundleLayout
+    bundle-past q = refuse _ _ _ (lt-ltb _ _ q) ∙ ap verdict (sym (skip _ _ _ counted))
+
+    pub bundle-held : a + 1 + n ≤ b → contents n T h a (a + 1) ≡ bundleLayout T h a n b
+    unfolding bundleLayout
+    bundle-held q = sym (skip _ _ _ counted ∙ skip _ _ _ (le-ltb _ _ q))
+
+-- What a bundle that is laid out is.
+module _ (T : List ℤ) (h : Sections) (a n b : ℕ) (e : bundleLayout T h a n b ≡ []) where
+  pub bundle-within : a + 1 + n ≤ b
+  unfolding bundleLayout
+  bundle-within = ltb-false _ _ (passed _ _ (no-first _ _ (no-rest _ _ e)))
+
+  count-right : (eqb n 0 || ltb maxBundle n) ≡ false
+  unfolding bundleLayout
+  count-right = passed _ _ (no-first _ _ e)
+
+  pub bundle-counted : (0 < n) × (n ≤ maxBundle)
+  bundle-counted = (pos-of-ne-zero (eqb-false n 0 (or-first (eqb n 0) _ count-right)), ltb-false _ _ (or-rest (eqb n 0) (ltb maxBundle n) count-right))
+
+  pub bundle-contents : contents n T h a (a + 1) ≡ []
+  unfolding bundleLayout
+  bundle-contents = no-rest _ _ (no-rest _ _ e)
+
+-- A block.
+
+pub block-none : (l : ℕ) (T : List ℤ) (h : Sections) (d a b : ℕ) → l ≤ 0 → blockLayout l T h d a b ≡ []
+unfolding blockLayout
+block-none zero T h d a b p = refl
+block-none (suc l) T h d a b p = absurd (omega arith)
+
+pub block-end : (l : ℕ) (T : List ℤ) (h : Sections) (d a b : ℕ) → b ≤ a → blockLayout l T h d a b ≡ []
+unfolding blockLayout
+block-end zero T h d a b p = refl
+block-end (suc l) T h d a b p = rw (le-ltb _ _ p)
+
+pub block-some : (l : ℕ) (T : List ℤ) (h : Sections) (d a b : ℕ) (s : StatementRead) → 0 < l → a < b → statementAt T h a ≡ s
+    → blockLayout l T h d a b ≡ nodeLayout true s (λ e x y. blockLayout (l - 1) T h e x y) T h d a b
+unfolding blockLayout
+block-some zero T h d a b s p q e = absurd (omega arith)
+block-some (suc l) T h d a b s p q e = rw (lt-ltb _ _ q, e, sub-one)
+
+-- The loop's invariant: `xs`, the refusals of the whole block, are those of what is left of it.
+pub record Kept (T : List ℤ) (h : Sections) (d end allowed : ℕ) (xs : List Refusal) (at left : ℕ) : Type 0 where
+  pub same : xs ≡ blockLayout left T h d at end
+  pub less : left ≤ allowed
+
+module _ {T : List ℤ} {h : Sections} {d end allowed : ℕ} {xs : List Refusal} {at left : ℕ} (k : Kept T h d end allowed xs at left) where
+  pub turn-none : left ≤ 0 → LaidOut ≡ verdict xs
+  turn-none p = laid-out xs (k .same ∙ block-none left T h d at end p)
+
+  pub turn-end : end ≤ at → LaidOut ≡ verdict xs
+  turn-end p = laid-out xs (k .same ∙ block-end left T h d at end p)
+
+  module _ (some : 0 < left) (within : at < end) where
+    pub turn-unread : statementAt T h at ≡ Unread → Refused (StatementRecord at) ≡ verdict xs
+    unfolding verdict
+    turn-unread e = rw (k .same ∙ block-some left T h d at end _ some within e)
+
+    pub turn-deep : {s : Statement} → statementAt T h at ≡ Read s → maxDepth < d → Refused (BlockLayout at) ≡ verdict xs
+    turn-deep e p = refuse _ _ _ (lt-ltb _ _ p) ∙ ap verdict (sym (k .same ∙ block-some left T h d at end _ some within e))
+
+-- A turn of the loop, once its statement is read and not too deep.
+pub record Turn (T : List ℤ) (h : Sections) (d end allowed : ℕ) (xs : List Refusal) (at left : ℕ) (s : Statement) : Type 0 where
+  pub so-far : Kept T h d end allowed xs at left
+  pub some : 0 < left
+  pub within : at < end
+  pub read : statementAt T h at ≡ Read s
+  pub shallow : d ≤ maxDepth
+
+module _ {T : List ℤ} {h : Sections} {d end allowed : ℕ} {xs : List Refusal} {at left : ℕ} where
+  pub arm : {s r : Statement} → Turn T h d end allowed xs at left s → s ≡ r → Turn T h d end allowed xs at left r
+  arm u e = rw e at u
+
+  pub falls : {s : Statement} {t : ℕ} → Turn T h d end allowed xs at left s → allowed ≡ t → left - 1 < t
+  falls u e = omega (arith, u .some, u .so-far .less)
+
+  rest : (s : Statement) → Turn T h d end allowed xs at left s → xs ≡ kindLayout s (λ e x y. blockLayout (left - 1) T h e x y) T h d at end
+  rest s u =
+      u .so-far .same
+      ∙ (block-some left T h d at end _ (u .some) (u .within) (u .read) ∙ skip _ _ _ (le-ltb _ _ (u .shallow)))
+
+  fewer : {s : Statement} → Turn T h d end allowed xs at left s → left - 1 ≤ allowed
+  fewer u = omega (arith, u .so-far .less)
+
+  pub turn-plain : {p : Simple} → Turn T h d end allowed xs at left (Plain p) → Kept T h d end allowed xs (at + 1) (left - 1)
+  turn-plain {p} u = record { same = rest (Plain p) u; less = fewer u }
+
+  module _ {c : Condition} {n m : ℕ} (u : Turn T h d end allowed xs at left (If c n m)) where
+    pub if-past : end < at + 1 + n + m → Refused (BlockLayout at) ≡ verdict xs
+    if-past p = refuse _ _ _ (lt-ltb _ _ p) ∙ ap verdict (sym (rest (If c n m) u))
+
+    module _ (p : at + 1 + n + m ≤ end) {r : Layout} (w : r ≡ verdict (blockLayout (left - 1) T h (d + 1) (at + 1) (at + 1 + n))) where
+      pub then-refused : {v : Refusal} → r ≡ Refused v → r ≡ verdict xs
+      then-refused e = refuse-part _ _ r _ w e ∙ ap verdict (sym (rest (If c n m) u ∙ skip _ _ _ (le-ltb _ _ p)))
+
+      module _ (q : r ≡ LaidOut) {o : Layout} (z : o ≡ verdict (blockLayout (left - 1) T h (d + 1) (at + 1 + n) (at + 1 + n + m))) where
+        past-then : xs
+            ≡ also (blockLayout (left - 1) T h (d + 1) (at + 1 + n) (at + 1 + n + m)) (blockLayout (left - 1) T h d (at + 1 + n + m) end)
+        past-then = rest (If c n m) u ∙ (skip _ _ _ (le-ltb _ _ p) ∙ pass _ _ (none-refused _ r w q))
+
+        pub else-refused : {v : Refusal} → o ≡ Refused v → o ≡ verdict xs
+        else-refused e = refuse-part _ _ o _ z e ∙ ap verdict (sym past-then)
+
+        pub turn-if : o ≡ LaidOut → Kept T h d end allowed xs (at + 1 + n + m) (left - 1)
+        turn-if e = record { same = past-then ∙ pass _ _ (none-refused _ o z e); less = fewer u }
+
+  module _ {c : Condition} {n : ℕ} (u : Turn T h d end allowed xs at left (While c n)) where
+    pub while-past : end < at + 1 + n → Refused (BlockLayout at) ≡ verdict xs
+    while-past p = refuse _ _ _ (lt-ltb _ _ p) ∙ ap verdict (sym (rest (While c n) u))
+
+    module _ (p : at + 1 + n ≤ end) {r : Layout} (w : r ≡ verdict (blockLayout (left - 1) T h (d + 1) (at + 1) (at + 1 + n))) where
+      pub body-refused : {v : Refusal} → r ≡ Refused v → r ≡ verdict xs
+      body-refused e = refuse-part _ _ r _ w e ∙ ap verdict (sym (rest (While c n) u ∙ skip _ _ _ (le-ltb _ _ p)))
+
+      pub turn-while : r ≡ LaidOut → Kept T h d end allowed xs (at + 1 + n) (left - 1)
+      turn-while e = record { same = rest (While c n) u ∙ (skip _ _ _ (le-ltb _ _ p) ∙ pass _ _ (none-refused _ r w e)); less = fewer u }
+
+  module _ {n : ℕ} (u : Turn T h d end allowed xs at left (Bundle n)) {r : Layout} (w : r ≡ verdict (bundleLayout T h at n end)) where
+    pub bundle-refused : {v : Refusal} → r ≡ Refused v → r ≡ verdict xs
+    bundle-refused e = refuse-part _ _ r _ w e ∙ ap verdict (sym (rest (Bundle n) u))
+
+    pub turn-bundle : r ≡ LaidOut → Kept T h d end allowed xs (at + 1 + n) (left - 1)
+    turn-bundle e = record { same = rest (Bundle n) u ∙ pass _ _ (none-refused _ r w e); less = fewer u }

@@ -1,0 +1,26 @@
+use Prim.Native.Nat.{_<_}
+use native.Mathlib.Omega.{arith}
+use Rattle.table.specs.Statements.{statementAt}
+use Rattle.table.specs.SectionsLaws.{Limits, statement-limits}
+use Rattle.table.proofs.read_statement.Statement.{statement}
+use Rattle.table.proofs.read_statement.Tie as tie
+
+-- Past the test the sections are in their limits, and there is such a statement.
+sized : (c : tie.Then1) → Limits (c .before .before .before .args .sections) × (c .before .before .before .args .at < c .before .before .before .args .sections .statements)
+sized c = statement-limits _ _ (simp (c .before .before .in-limits .ensures) at (c .if1 .taken))
+
+pub read-statement-spec : {M : Type 1} → statement M
+unfolding statementAt
+read-statement-spec =
+    tie.close
+    (tie.spec
+    (λ c κs. tt)
+    (λ c. let l = sized (c .before) in omega arith)
+    (λ c. let l = sized (c .before .before) in omega arith)
+    (λ c. let l = sized (c .before .before) in omega arith)
+    (λ c. let l = sized (c .before .before) in omega arith)
+    (λ c. let l = sized (c .before .before) in omega arith)
+    (λ c κs. let l = sized (c .before .before) in omega arith)
+    (λ c κs. tt)
+    (λ c. simp (c .read-kind .ensures, c .before .fields-at .ensures, simp (c .before .before .before .before .before .before .in-limits .ensures) at (c .before .before .before .before .if1 .taken)))
+    (λ c. simp (simp (c .before .before .in-limits .ensures) at (c .if1 .left))))

@@ -1,0 +1,25 @@
+use native.Mathlib.Omega.{arith}
+use Prim.Native.Nat.{_<_}
+use mathlib.Core.Path.{_∙_, sym}
+use Rattle.table.specs.Variables.{variableAt}
+use Rattle.table.specs.SectionsLaws.{Limits, variable-limits}
+use Rattle.table.proofs.variables.read_variable.Statement.{statement}
+use Rattle.table.proofs.variables.read_variable.Tie as tie
+
+-- Past the test the sections are in their limits, and there is such a variable.
+sized : (c : tie.Then1) → Limits (c .before .before .args .sections) × (c .before .before .args .v < c .before .before .args .sections .variables)
+sized c = variable-limits _ _ (sym (c .before .is-variable .ensures) ∙ c .if1 .taken)
+
+pub read-variable-spec : {M : Type 1} → statement M
+unfolding variableAt
+read-variable-spec =
+    tie.close
+    (tie.spec
+    (λ c κs. tt)
+    (λ c. let l = sized (c .before) in omega arith)
+    (λ c. let l = sized (c .before) in omega arith)
+    (λ c. let l = sized (c .before) in omega arith)
+    (λ c κs. let l = sized (c .before) in omega arith)
+    (λ c κs. tt)
+    (λ c. simp (c .variable-of .ensures, c .before .variable-words-at .ensures, sym (c .before .before .before .before .is-variable .ensures) ∙ c .before .before .before .if1 .taken))
+    (λ c. simp (sym (c .before .is-variable .ensures) ∙ c .if1 .left)))

@@ -1,0 +1,88 @@
+-- Causes of refusal 1 to 5: "Causes 1 to 6 come in that order over the whole table, lowest place first."
+use Prim.Native.Nat.{ℕ, zero, suc, _+_, _*_, _/_}
+use mathlib.Core.Bool.{Bool, true, false, _&&_}
+use mathlib.Core.List.{List}
+use lib.IntN.{ℤ}
+use lib.ListN.{length}
+use lib.Dec.{leb, ltb, eqb}
+use Rattle.facts.specs.Numbers.{bias}
+use Rattle.table.specs.Words.{word, plain, pickNumber}
+use Rattle.table.specs.Sections.{inLimits}
+use Rattle.table.specs.Variables.{variableAt, objectAt}
+use Rattle.table.specs.Statements.{statementAt}
+use Rattle.table.specs.declared.Sections.{Sections}
+use Rattle.table.specs.declared.VariableRead.{VariableRead}
+use Rattle.table.specs.declared.VariableRead.the-variants as variable
+use Rattle.table.specs.declared.StatementRead.{StatementRead}
+use Rattle.table.specs.declared.StatementRead.the-variants as statement
+use Rattle.table.specs.declared.Refusal.the-variants.{Length, Directory, ObjectLength, VariableRecord, StatementRecord}
+use Rattle.table.specs.declared.Form.{Form}
+use Rattle.table.specs.declared.Form.the-variants.{WellFormed, Refused}
+
+abbrev pub pickForm : Bool → Form → Form → Form
+pickForm true a b = a
+pickForm false a b = b
+
+-- Cause 1: "below 6 or above 7,318 words".
+unfoldable pub lengthRight : List ℤ → Bool
+lengthRight table = leb 6 (length table) && leb (length table) 7318
+
+-- The word is the number n.
+unfoldable pub isNumber : ℕ → ℕ → Bool
+isNumber n w = leb bias w && eqb (plain w) n
+
+-- The sizes that the lengths of the directory give: "one word each", "8 words each", "7 words each".
+unfoldable pub sectionsOf : List ℤ → Sections
+sectionsOf table = record { objects = plain (word table 1); variables = plain (word table 3) / 8; statements = plain (word table 5) / 7 }
+
+-- Cause 2: "The first offset is 6, each next one is the previous offset plus its length, and the last section ends the table."
+unfoldable pub directoryRight : List ℤ → Sections → Bool
+directoryRight table h =
+    inLimits h && (
+    isNumber 6 (word table 0) && isNumber (h .objects) (word table 1) && isNumber (6 + h .objects) (word table 2) && isNumber (8 * h .variables) (word table 3) && isNumber (6 + h .objects + 8 * h .variables) (word table 4) && isNumber (7 * h .statements) (word table 5) && eqb (length table) (6 + h .objects + 8 * h .variables + 7 * h .statements)
+    )
+
+-- Cause 3: "its length in cells, 1 to 1,000,000".
+unfoldable pub objectRight : List ℤ → Sections → ℕ → Bool
+objectRight table h o = leb 1 (objectAt table h o) && leb (objectAt table h o) 1000000
+
+-- Cause 4: the record reads.
+abbrev pub isVariableRead : VariableRead → Bool
+isVariableRead (variable.Read v) = true
+isVariableRead variable.Unread = false
+
+unfoldable pub variableReads : List ℤ → Sections → ℕ → Bool
+variableReads table h v = isVariableRead (variableAt table h v)
+
+-- Cause 5: the record reads.
+abbrev pub isStatementRead : StatementRead → Bool
+isStatementRead (statement.Read s) = true
+isStatementRead statement.Unread = false
+
+unfoldable pub statementReads : List ℤ → Sections → ℕ → Bool
+statementReads table h a = isStatementRead (statementAt table h a)
+
+-- Of n numbers from i on, the lowest at which the test fails; where it holds at all of them, the number after them.
+unfoldable pub lowestFrom : (ℕ → Bool) → ℕ → ℕ → ℕ
+lowestFrom right i zero = i
+lowestFrom right i (suc n) = pickNumber (right i) (lowestFrom right (i + 1) n) i
+
+unfoldable pub lowestObject : List ℤ → Sections → ℕ
+lowestObject table h = lowestFrom (objectRight table h) 0 (h .objects)
+
+unfoldable pub lowestVariable : List ℤ → Sections → ℕ
+lowestVariable table h = lowestFrom (variableReads table h) 0 (h .variables)
+
+unfoldable pub lowestStatement : List ℤ → Sections → ℕ
+lowestStatement table h = lowestFrom (statementReads table h) 0 (h .statements)
+
+-- Causes 3 to 5, "lowest place first".
+unfoldable pub itemsForm : List ℤ → Sections → Form
+itemsForm table h =
+    pickForm (ltb (lowestObject table h) (h .objects)) (Refused (ObjectLength (lowestObject table h)))
+    (pickForm (ltb (lowestVariable table h) (h .variables)) (Refused (VariableRecord (lowestVariable table h)))
+    (pickForm (ltb (lowestStatement table h) (h .statements)) (Refused (StatementRecord (lowestStatement table h))) (WellFormed h)))
+
+-- The first of the causes 1 to 5; where there is none, the sections.
+unfoldable pub formOf : List ℤ → Form
+formOf table = pickForm (lengthRight table) (pickForm (directoryRight table (sectionsOf table)) (itemsForm table (sectionsOf table)) (Refused Directory)) (Refused Length)

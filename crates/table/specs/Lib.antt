@@ -1,0 +1,15 @@
+pub mod Words
+pub mod Sections
+pub mod SectionsLaws
+pub mod Statements
+pub mod Typed
+pub mod NameLaws
+pub mod StatementLaws
+pub mod Negation
+pub mod NegationLaws
+pub mod Variables
+pub mod VariableLaws
+pub mod Refusals
+pub mod Form
+pub mod Searches
+pub mod FormLaws
