@@ -13,3 +13,5 @@ pub mod Refusals
 pub mod Form
 pub mod Searches
 pub mod FormLaws
+pub mod Decode
+pub mod DecodeLaws

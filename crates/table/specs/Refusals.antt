@@ -4,7 +4,7 @@ use Rattle.table.specs.declared.Refusal.{Refusal}
 use Rattle.table.specs.declared.Refusal.the-variants.{Length, Directory, ObjectLength, VariableRecord, StatementRecord, BlockLayout, Contradiction, BoundsNotShown, BundleAccess, MemorySize, DirectoryPair, EntryLengths, EntryValue}
 
 -- "Causes of refusal", the column "No."
-unfoldable pub number : Refusal → ℕ
+abbrev pub number : Refusal → ℕ
 number Length = 1
 number Directory = 2
 number (ObjectLength o) = 3
@@ -20,7 +20,7 @@ number EntryLengths = 11
 number (EntryValue v) = 12
 
 -- The column "Returned": object, variable, statement, pair, or 0.
-unfoldable pub place : Refusal → ℕ
+abbrev pub place : Refusal → ℕ
 place Length = 0
 place Directory = 0
 place (ObjectLength o) = o
@@ -36,7 +36,7 @@ place EntryLengths = 0
 place (EntryValue v) = v
 
 -- Refusal 8 also returns "some pointer not shown"; the others return none, for which 0 stands.
-unfoldable pub pointer : Refusal → ℕ
+abbrev pub pointer : Refusal → ℕ
 pointer Length = 0
 pointer Directory = 0
 pointer (ObjectLength o) = 0

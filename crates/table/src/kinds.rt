@@ -256,7 +256,7 @@ fn offset_of(form: u64, w: u64) -> u64
     literal_value(w)
 }
 
-fn condition_of(f: Fields) -> Condition
+pub(crate) fn condition_of(f: Fields) -> Condition
     ensures { λ r. ⌜ r ≡ conditionOf f ⌝ }
 {
     Condition {

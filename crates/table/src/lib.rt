@@ -1,16 +1,22 @@
 // The routine table: words, records, and the causes of refusal 1 to 5.
 // Only `words::biased` sees a signed word; everything else works on natural numbers.
 mod causes; // causes.rt: causes 1 to 5 over a whole table
+mod decode; // decode.rt: statements of a table that has been checked
 mod kinds; // kinds.rt: the thirteen kinds of statements, a reader each
 mod names; // names.rt: what a word names
+mod refusals; // refusals.rt: number, place and pointer of a refusal
 mod variables; // variables.rt: records of variables, lengths of objects
 mod words; // words.rt: a word of the table, and the tests of one word
 
 pub use causes::read_form;
+pub use decode::decode_statement;
 use kinds::fields_at;
 use kinds::read_kind;
 use names::in_limits;
 pub use names::is_pointer;
+pub use refusals::refusal_number;
+pub use refusals::refusal_place;
+pub use refusals::refusal_pointer;
 pub use variables::read_object;
 pub use variables::read_variable;
 pub use words::word;

@@ -1,5 +1,7 @@
 // A word of the table as a natural number, 2^33 more than the signed word, and the tests of one word.
 ghost use mathlib.Core.Path.{_≡_};
+ghost use Prim.Native.Nat.{_<_};
+ghost use lib.ListN.{length};
 ghost use Rattle.table.specs.Words.{biased, word, plain, indexOf, literalValue, isZero, isBelow, isLiteral, isConstant};
 
 pub(crate) const BIAS: u64 = 8589934592;
@@ -13,12 +15,20 @@ fn biased(w: i32) -> u64
     ((w as i64) + 8589934592) as u64
 }
 
+// The word at an index of the table.
+pub(crate) fn word_within(table: &[i32], i: usize) -> u64
+    requires { ⌜ i < length (now table) ⌝ }
+    ensures { λ r. ⌜ r ≡ word (now (table .entry)) i ⌝ }
+{
+    biased(table[i])
+}
+
 // The word at an index; past the table's end the word 0.
 pub fn word(table: &[i32], i: usize) -> u64
     ensures { λ r. ⌜ r ≡ word (now (table .entry)) i ⌝ }
 {
     if i < table.len() {
-        return biased(table[i]);
+        return word_within(table, i);
     }
     BIAS
 }

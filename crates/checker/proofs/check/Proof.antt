@@ -1,0 +1,14 @@
+-- `checker::check` meets its contract.
+use borrow.Author.Needs.{needs}
+use Rattle.checker.specs.VerdictLaws.{form-refused, form-checked, form-formed}
+use Rattle.checker.proofs.check.Statement.{statement}
+use Rattle.checker.proofs.check.Tie as tie
+
+pub check-spec : {M : Type 1} → statement M
+check-spec =
+    tie.close
+    (tie.spec
+    (λ c κs. search needs) (λ c. search needs) (λ c. search needs)
+    (λ c κs. form-formed _ (c .before .before .before .read-form .ensures) (c .before .form2 .given .1))
+    (λ c. form-refused _ (c .before .before .before .read-form .ensures) (c .before .form .given .1))
+    (λ c. form-checked _ (c .before .before .before .before .read-form .ensures) (c .before .before .form2 .given .1) (c .check-sections .ensures)))

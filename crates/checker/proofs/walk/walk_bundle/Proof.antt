@@ -1,0 +1,40 @@
+-- The invariant: what is left of the bundle, from the facts and bounds now, is the whole.
+use borrow.Author.Needs.{needs}
+use mathlib.Core.Path.{refl, ap, sym, _∙_}
+use borrow.Author.Tests.{not-true, not-false}
+use native.Mathlib.Omega.{arith}
+use Rattle.table.specs.declared.StatementRead.the-variants.{Read}
+use Rattle.table.specs.StatementLaws.{read-within, read-limits}
+use Rattle.checker.specs.FactRulesLaws.{read-ranged}
+use Rattle.checker.specs.BundleLaws.{Held, held-none, held-done, held-unread, held-other, held-contrary, held-access, held-more, applied-facts, applied-effect, applied-short}
+use Rattle.checker.proofs.Variants.{not-plain}
+use Rattle.checker.proofs.walk.walk_bundle.Statement.{statement}
+use Rattle.checker.proofs.walk.walk_bundle.Tie as tie
+
+abbrev Inv-loop : tie.InvT-loop
+Inv-loop table sections environment head count lengths known₀ facts₀ at₀ left₀ known facts at left = Held table sections environment head count facts₀ (environment .declared) at left facts (known .each)
+
+abbrev μ-loop : tie.MeasureT-loop
+μ-loop table sections environment head count lengths known₀ facts₀ at₀ left₀ known facts at left = left
+
+pub walk-bundle-spec : {M : Type 1} → statement M
+walk-bundle-spec =
+    tie.close
+    (tie.spec
+    Inv-loop μ-loop (λ c. search needs)
+    (λ c. held-none _ _ _ _ _ _ _)
+    (λ c κs. search needs) (λ c. search needs) (λ c. search needs) (λ c κs. search needs)
+    (λ c. held-unread (c .before .before .before .before .before .loop .inv) (c .before .before .before .before .loop-test .taken) (sym (c .before .before .before .read-statement .ensures) ∙ c .before .enum-told .given .1) (c .end-bundle .ensures))
+    (λ c. search needs) (λ c κs. search needs)
+    (λ c. held-other (c .before .before .before .before .before .before .before .loop .inv) (c .before .before .before .before .before .before .loop-test .taken) (sym (c .before .before .before .before .before .read-statement .ensures) ∙ c .before .before .before .got .given .1) (not-plain _ (c .before .match2 .keys2)) (c .end-bundle2 .ensures))
+    (λ c κs. search needs)
+    (λ c. held-contrary (c .before .before .before .before .before .before .before .before .before .before .loop .inv) (c .before .before .before .before .before .before .before .before .before .loop-test .taken) (sym (c .before .before .before .before .before .before .before .before .read-statement .ensures) ∙ c .before .before .before .before .before .before .got .given .1) (c .before .before .before .statement .given .1) (sym (c .before .contradicts .ensures) ∙ c .if1 .taken) refl)
+    (λ c κs. search needs)
+    (λ c. held-access (c .before .before .before .before .before .before .before .before .before .before .before .before .loop .inv) (c .before .before .before .before .before .before .before .before .before .before .before .loop-test .taken) (sym (c .before .before .before .before .before .before .before .before .before .before .read-statement .ensures) ∙ c .before .before .before .before .before .before .before .before .got .given .1) (c .before .before .before .before .before .statement .given .1) (sym (c .before .before .before .contradicts .ensures) ∙ c .before .before .if1 .left) (c .before .access-shown .ensures) (not-true _ (c .if2 .taken)) refl)
+    (λ c κs. read-ranged _ _ _ _ (sym (c .before .before .before .before .before .before .before .before .before .before .read-statement .ensures) ∙ c .before .before .before .before .before .before .before .before .got .given .1 ∙ ap Read (c .before .before .before .before .before .statement .given .1)))
+    (λ c κs. applied-short (c .before .before .before .before .before .before .before .before .before .before .before .before .before .before .before .before .args .environment) _ _ (c .apply .ensures) (c .before .before .before .before .before .before .before .before .before .before .before .before .before .before .before .before .pre .0) (read-ranged _ _ _ _ (sym (c .before .before .before .before .before .before .before .before .before .before .before .read-statement .ensures) ∙ c .before .before .before .before .before .before .before .before .before .got .given .1 ∙ ap Read (c .before .before .before .before .before .before .statement .given .1))))
+    (λ c. omega (arith, read-within _ _ _ _ (sym (c .before .before .before .before .before .before .before .before .before .before .before .before .before .read-statement .ensures) ∙ c .before .before .before .before .before .before .before .before .before .before .before .got .given .1), read-limits _ _ _ _ (sym (c .before .before .before .before .before .before .before .before .before .before .before .before .before .read-statement .ensures) ∙ c .before .before .before .before .before .before .before .before .before .before .before .got .given .1)))
+    (λ c. search needs) (λ c. search needs)
+    (λ c. held-more (c .before .before .before .before .before .before .before .before .before .before .before .before .before .before .before .loop .inv) (c .before .before .before .before .before .before .before .before .before .before .before .before .before .before .loop-test .taken) (sym (c .before .before .before .before .before .before .before .before .before .before .before .before .before .read-statement .ensures) ∙ c .before .before .before .before .before .before .before .before .before .before .before .got .given .1) (c .before .before .before .before .before .before .before .before .statement .given .1) (sym (c .before .before .before .before .before .before .contradicts .ensures) ∙ c .before .before .before .before .before .if1 .left) (c .before .before .before .before .access-shown .ensures) (not-false _ (c .before .before .before .if2 .left)) (applied-facts (c .before .before .before .before .before .before .before .before .before .before .before .before .before .before .before .before .before .before .args .environment) _ _ (c .before .before .apply .ensures)) (applied-effect (c .before .before .before .before .before .before .before .before .before .before .before .before .before .before .before .before .before .before .args .environment) _ _ (c .before .before .apply .ensures)) (c .before .bounds-after .ensures))
+    (λ c κs. search needs)
+    (λ c. held-done (c .before .before .loop .inv) (c .before .loop-test .left) (c .end-bundle3 .ensures)))

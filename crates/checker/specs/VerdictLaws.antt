@@ -1,0 +1,129 @@
+-- Laws of the verdict on a table.
+use Prim.Native.Nat.{ℕ, _^_, _<_, _≤_}
+use mathlib.Core.Path.{_≡_, refl, sym, ap, ap₂, _∙_}
+use mathlib.Core.Bool.{Bool, true, false, _&&_}
+use mathlib.Core.List.{List, [], _∷_, List·Memᴰ·head}
+use native.Mathlib.Omega.{arith}
+use borrow.Author.Tests.{ltb-true, ltb-false}
+use lib.IntN.{ℤ}
+use lib.Dec.{ltb}
+use lib.ListN.{length, getD, List·getD-eq-default}
+use Rattle.facts.specs.Tabulate.{tabulate, length-tabulate, getD-tabulate}
+use Rattle.facts.specs.Store.{newSet}
+use Rattle.facts.specs.declared.FactSet.{FactSet}
+use Rattle.table.specs.Words.{word, plain, pickNumber}
+use Rattle.table.specs.Sections.{inLimits, objectStart}
+use Rattle.table.specs.SectionsLaws.{object-limits}
+use Rattle.table.specs.Variables.{objectAt}
+use Rattle.table.specs.Form.{formOf}
+use Rattle.table.specs.FormLaws.{Formed, well-formed}
+use Rattle.table.specs.declared.Sections.{Sections}
+use Rattle.table.specs.declared.Refusal.{Refusal}
+use Rattle.table.specs.declared.Refusal.the-variants.{BoundsNotShown}
+use Rattle.table.specs.declared.Form.{Form}
+use Rattle.table.specs.declared.Form.the-variants as form
+use Rattle.blocks.specs.Tree.{parse, tree}
+use Rattle.blocks.specs.Layout.{layout, verdict}
+use Rattle.blocks.specs.declared.Layout.{Layout}
+use Rattle.blocks.specs.declared.Layout.the-variants as layout-variant
+use Rattle.checker.specs.Rules.{Fault, refusal, notShown, also, blockFaults}
+use Rattle.checker.specs.Verdict.{environmentOf, refusals, sectionFaults, formFaults, faults, Answers, lowestVerdict}
+use Rattle.checker.specs.BundleLaws.{no-first, no-rest}
+use Rattle.checker.specs.Walk.{Measured, Walks}
+use Rattle.checker.specs.declared.Environment.{Environment}
+use Rattle.checker.specs.declared.Verdict.{Verdict}
+use Rattle.checker.specs.declared.Verdict.the-variants.{Accepted, Refused}
+use Rattle.checker.specs.declared.walk.Walked.{Walked}
+
+-- The lengths that a well-formed table declares are in range.
+module _ (T : List ℤ) (h : Sections) (w : Formed T h) where
+  object-short : (o : ℕ) → objectAt T h o < 2 ^ 40
+  unfolding objectAt
+  object-short o = go (inLimits h && ltb o (h .objects)) refl
+    where
+      go : (b : Bool) → (inLimits h && ltb o (h .objects)) ≡ b → pickNumber b (plain (word T (objectStart o))) 0 < 2 ^ 40
+      go true e = let q : objectAt T h o ≡ plain (word T (objectStart o)) = ap (λ (b : Bool). pickNumber b (plain (word T (objectStart o))) 0) e in
+          omega (arith, w .objects o (object-limits h o e .1))
+      go false e = omega arith
+
+  lengths-short : (o : ℕ) → getD (tabulate 16 (objectAt T h)) o 0 < 2 ^ 40
+  lengths-short o = go (ltb o 16) refl
+    where
+      go : (b : Bool) → ltb o 16 ≡ b → getD (tabulate 16 (objectAt T h)) o 0 < 2 ^ 40
+      go true e = rw (getD-tabulate 16 (objectAt T h) o 0 (ltb-true o 16 e)) (object-short o)
+      go false e =
+          let p : length (tabulate 16 (objectAt T h)) ≤ o = omega (arith, length-tabulate 16 (objectAt T h), ltb-false o 16 e) in
+          rw (List·getD-eq-default (tabulate 16 (objectAt T h)) 0 {n = o} p) (omega arith)
+
+  pub measured : {E : Environment} → E ≡ environmentOf T h → Measured E
+  unfolding environmentOf
+  measured {E} e o = let q : getD (E .lengths) o 0 ≡ getD (tabulate 16 (objectAt T h)) o 0 = ap (λ (F : Environment). getD (F .lengths) o 0) e in rw q (lengths-short o)
+
+-- Cause 6, then the walk.
+first-refused : (xs : List Refusal) (ys : List Fault) {r : Refusal} → verdict xs ≡ layout-variant.Refused r → Refused r ≡ lowestVerdict (also (refusals xs) ys)
+unfolding verdict also lowestVerdict
+first-refused [] ys e = cc
+first-refused (x ∷ xs) ys e = ap Refused (cc)
+
+none-laid : (xs : List Refusal) (ys : List Fault) → verdict xs ≡ layout-variant.LaidOut → also (refusals xs) ys ≡ ys
+unfolding verdict also
+none-laid [] ys e = refl
+none-laid (x ∷ xs) ys e = cc
+
+module _ (T : List ℤ) (h : Sections) {l : Layout} (e : l ≡ verdict (layout T h)) where
+  pub section-refused : {r : Refusal} → l ≡ layout-variant.Refused r → Refused r ≡ lowestVerdict (sectionFaults T h)
+  unfolding sectionFaults
+  section-refused p = first-refused (layout T h) _ (sym e ∙ p)
+
+  pub section-walked : {E : Environment} {f : FactSet} {w : Walked} → l ≡ layout-variant.LaidOut → E ≡ environmentOf T h → f ≡ newSet
+      → Walks T h E (parse (h .statements) T h 0 (h .statements)) f w → w .verdict ≡ lowestVerdict (sectionFaults T h)
+  unfolding sectionFaults tree
+  section-walked p q n w =
+      w .said ∙ ap lowestVerdict (ap₂ (λ (F : Environment) (g : FactSet). blockFaults T h F (parse (h .statements) T h 0 (h .statements)) g) q n
+      ∙ sym (none-laid (layout T h) _ (sym e ∙ p)))
+
+-- The lowest pointer is one of those that are not shown.
+pub lowest-answers : (xs : List Fault) {v : Verdict} → v ≡ lowestVerdict xs → Answers xs v
+unfolding lowestVerdict Answers
+lowest-answers [] e = e
+lowest-answers (refusal r ∷ xs) e = e
+lowest-answers (notShown a p ps ∷ xs) e = (p, List·Memᴰ·head refl, e)
+
+module _ (T : List ℤ) {f : Form} (e : f ≡ formOf T) where
+  pub form-refused : {r : Refusal} → f ≡ form.Refused r → Answers (faults T) (Refused r)
+  unfolding faults lowestVerdict
+  form-refused p = lowest-answers (faults T) (ap (λ (g : Form). lowestVerdict (formFaults T g)) (sym p ∙ e))
+
+  pub form-checked : {h : Sections} {v : Verdict} → f ≡ form.WellFormed h → v ≡ lowestVerdict (sectionFaults T h) → Answers (faults T) v
+  unfolding faults
+  form-checked p q = lowest-answers (faults T) (q ∙ ap (λ (g : Form). lowestVerdict (formFaults T g)) (sym p ∙ e))
+
+  pub form-formed : {h : Sections} → f ≡ form.WellFormed h → Formed T h
+  form-formed p = well-formed T _ (sym e ∙ p)
+
+-- ---- what an accepted table is
+
+-- An answer that accepts says that there is no fault.
+pub accepted-clear : (xs : List Fault) {v : Verdict} → Answers xs v → v ≡ Accepted → xs ≡ []
+unfolding Answers
+accepted-clear [] a e = refl
+accepted-clear (refusal r ∷ xs) a e = cc
+accepted-clear (notShown n p ps ∷ xs) {v} a e = let z : v ≡ Refused (BoundsNotShown n (a .0)) = a .2 in cc
+
+pub record Clear (T : List ℤ) (h : Sections) : Type 0 where
+  pub form : formOf T ≡ form.WellFormed h
+  pub laid : layout T h ≡ []
+  pub walked : blockFaults T h (environmentOf T h) (tree T h) newSet ≡ []
+
+no-refusals : (xs : List Refusal) → refusals xs ≡ [] → xs ≡ []
+no-refusals [] e = refl
+no-refusals (x ∷ xs) e = cc
+
+-- A table without a fault is well formed and laid out, and its walk has no fault.
+pub faults-clear : (T : List ℤ) → faults T ≡ [] → (h : Sections) × Clear T h
+unfolding faults sectionFaults
+faults-clear T e = go (formOf T) refl e
+  where
+    go : (f : Form) → formOf T ≡ f → formFaults T f ≡ [] → (h : Sections) × Clear T h
+    go (form.Refused r) q e = let o : _≡_ {A = ℕ} 0 1 = cc in absurd (omega arith)
+    go (form.WellFormed h) q e = (h, record { form = q; laid = no-refusals (layout T h) (no-first _ _ e); walked = no-rest _ _ e })

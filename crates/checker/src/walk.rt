@@ -1,0 +1,208 @@
+// The walk over the statements.
+use crate::Environment;
+use crate::Verdict;
+use crate::effects::apply;
+use crate::effects::assume;
+use crate::known::KnownBounds;
+use crate::known::access_shown;
+use crate::known::bounds_after;
+use crate::known::check_effect;
+use crate::known::check_known;
+use crate::loops::lose;
+use facts::FactSet;
+use table::Refusal;
+use table::Sections;
+use table::Statement;
+use table::StatementRead;
+use table::negated;
+use table::read_statement;
+ghost use Prim.Native.Nat.{ℕ, _+_, _^_, _<_};
+ghost use Rattle.blocks.specs.Tree.{simples, parse};
+ghost use Rattle.checker.specs.BoundsRules.{unshown};
+ghost use Rattle.checker.specs.Rules.{boundsAt};
+ghost use Rattle.checker.specs.Walk.{Measured, Walks, Passes, WalksBundle};
+
+// The verdict on a block, and the facts after it where nothing is refused.
+pub(crate) struct Walked {
+    pub verdict: Verdict,
+    pub facts: FactSet,
+}
+
+// The end of a bundle with its head at `head`: all declared bounds must be shown.
+fn end_bundle(environment: Environment, head: usize, facts: FactSet, known: KnownBounds) -> Walked
+    ensures { λ r. ⌜ Passes (boundsAt head (unshown environment facts (known .each))) facts r ⌝ }
+{
+    Walked {
+        verdict: check_known(environment, facts, known, head),
+        facts,
+    }
+}
+
+// The bundle of the `count` statements after its head; its statements are cut short at the first that is of another kind, which the layout refuses.
+fn walk_bundle(
+    table: &[i32],
+    sections: Sections,
+    environment: Environment,
+    head: usize,
+    count: usize,
+    given: FactSet,
+) -> Walked
+    requires { ⌜ Measured environment × (head < 2 ^ 40) ⌝ }
+    ensures { λ r. ⌜ WalksBundle environment head (simples count (now (table .entry)) sections (head + 1)) given (environment .declared) r ⌝ }
+{
+    let lengths = environment.lengths;
+    let declared = environment.declared;
+    let mut known = KnownBounds { each: declared };
+    let mut facts = given;
+    let mut at = head + 1;
+    let mut left = count;
+    while left > 0 {
+        let got = read_statement(table, sections, at);
+        let StatementRead::Read(statement) = got else {
+            return end_bundle(environment, head, facts, known);
+        };
+        let Statement::Plain(simple) = statement else {
+            return end_bundle(environment, head, facts, known);
+        };
+        if facts.contradicts() {
+            return Walked {
+                verdict: Verdict::Refused(Refusal::Contradiction(at)),
+                facts,
+            };
+        }
+        if !access_shown(environment, facts, known, simple) {
+            return Walked {
+                verdict: Verdict::Refused(Refusal::BundleAccess(at)),
+                facts,
+            };
+        }
+        let done = apply(facts, lengths, simple);
+        let effect = done.effect;
+        known = bounds_after(effect, known);
+        facts = done.facts;
+        at += 1;
+        left -= 1;
+    }
+    end_bundle(environment, head, facts, known)
+}
+
+// The block of `first` to `end` - 1 from the facts `given`. `allowed` is at least the number of its statements; it falls at each.
+pub(crate) fn walk(
+    table: &[i32],
+    sections: Sections,
+    environment: Environment,
+    first: usize,
+    end: usize,
+    allowed: usize,
+    given: FactSet,
+) -> Walked
+    requires { ⌜ Measured environment ⌝ }
+    ensures { λ r. ⌜ Walks (now (table .entry)) sections environment (parse allowed (now (table .entry)) sections first end) given r ⌝ }
+{
+    let lengths = environment.lengths;
+    let pointers = environment.pointers;
+    let mut at = first;
+    let mut left = allowed;
+    let mut facts = given;
+    while left > 0 {
+        if at >= end {
+            break;
+        }
+        left -= 1;
+        let got = read_statement(table, sections, at);
+        let StatementRead::Read(statement) = got else {
+            return Walked {
+                verdict: Verdict::Refused(Refusal::StatementRecord(at)),
+                facts,
+            };
+        };
+        if facts.contradicts() {
+            return Walked {
+                verdict: Verdict::Refused(Refusal::Contradiction(at)),
+                facts,
+            };
+        }
+        let inner = at + 1;
+        match statement {
+            Statement::Plain(simple) => {
+                let done = apply(facts, lengths, simple);
+                let effect = done.effect;
+                let verdict = check_effect(environment, done.facts, effect, at);
+                let Verdict::Accepted = verdict else {
+                    return Walked { verdict, facts };
+                };
+                facts = done.facts;
+                at = inner;
+            }
+            Statement::If {
+                condition,
+                then_count,
+                else_count,
+            } => {
+                let middle = inner + then_count;
+                let rest = middle + else_count;
+                let then = walk(
+                    table,
+                    sections,
+                    environment,
+                    inner,
+                    middle,
+                    left,
+                    assume(facts, condition),
+                );
+                let then_verdict = then.verdict;
+                let Verdict::Accepted = then_verdict else {
+                    return then;
+                };
+                let other = walk(
+                    table,
+                    sections,
+                    environment,
+                    middle,
+                    rest,
+                    left,
+                    assume(facts, negated(condition)),
+                );
+                let other_verdict = other.verdict;
+                let Verdict::Accepted = other_verdict else {
+                    return other;
+                };
+                let then_facts = then.facts;
+                facts = then_facts.join(other.facts, pointers);
+                at = rest;
+            }
+            Statement::While { condition, count } => {
+                let rest = inner + count;
+                let lost = lose(table, sections, inner, count, facts);
+                let body = walk(
+                    table,
+                    sections,
+                    environment,
+                    inner,
+                    rest,
+                    left,
+                    assume(lost, condition),
+                );
+                let body_verdict = body.verdict;
+                let Verdict::Accepted = body_verdict else {
+                    return body;
+                };
+                facts = assume(lost, negated(condition));
+                at = rest;
+            }
+            Statement::Bundle { count } => {
+                let held = walk_bundle(table, sections, environment, at, count, facts);
+                let held_verdict = held.verdict;
+                let Verdict::Accepted = held_verdict else {
+                    return held;
+                };
+                facts = held.facts;
+                at = inner + count;
+            }
+        }
+    }
+    Walked {
+        verdict: Verdict::Accepted,
+        facts,
+    }
+}

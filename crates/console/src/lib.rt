@@ -1,0 +1,19 @@
+// Text on standard output. What the system then writes no contract can say.
+use files::Text;
+use libc::STDOUT_FILENO;
+ghost use mathlib.Core.Path.{_≡_};
+ghost use Prim.Native.Nat.{min};
+
+// Hands the text to standard output and answers how many bytes that were.
+pub fn write_text(text: Text) -> usize
+    ensures { λ r. ⌜ r ≡ min (text .len) 80 ⌝ }
+{
+    let bytes = text.bytes;
+    let len = text.len;
+    if 80 < len {
+        io::write_all(STDOUT_FILENO, &bytes);
+        return 80;
+    }
+    io::write_all(STDOUT_FILENO, &bytes[..len]);
+    len
+}

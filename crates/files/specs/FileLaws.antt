@@ -1,0 +1,62 @@
+-- The parts of a line put together, and the verdict on a file.
+use Prim.Native.Nat.{ℕ, _+_, _*_, _/_, _%_, _≤_, _<_}
+use mathlib.Core.Path.{_≡_, refl, sym, ap, _∙_}
+use mathlib.Core.Bool.{Bool, true, false, _&&_}
+use mathlib.Core.Logic.{_≢_}
+use mathlib.Core.List.{List, [], _∷_, _++_, append-assoc}
+use borrow.Author.Tests.{eq-eqb, ne-eqb, lt-leb}
+use lib.Dec.{leb, eqb}
+use lib.IntN.{ℤ}
+use lib.ListN.{length, take}
+use Rattle.facts.specs.Tabulate.{tabulate, length-tabulate, Filled}
+use Rattle.table.specs.Form.{lengthRight, formOf}
+use Rattle.table.specs.Refusals.{number, place, pointer}
+use Rattle.table.specs.declared.Refusal.{Refusal}
+use Rattle.table.specs.declared.Refusal.the-variants.{Length}
+use Rattle.checker.specs.Rules.{refusal}
+use Rattle.checker.specs.Verdict.{faults, Answers}
+use Rattle.checker.specs.declared.Verdict.{Verdict}
+use Rattle.checker.specs.declared.Verdict.the-variants.{Refused}
+use Rattle.files.specs.Text.{textOf, pickText, decimal, Grown}
+use Rattle.files.specs.Words.{wordAt}
+use Rattle.files.specs.Files.{space, lineFeed, refusedWord, spaced, refusedLine, wordsOf, fileFaults}
+use Rattle.files.specs.declared.text.Text.{Text}
+
+-- "refused ", the number, a space, the place.
+abbrev pub started : ℕ → ℕ → List ℕ
+started n p = (((([] ++ (refusedWord ++ (space ∷ []))) ++ decimal 20 n) ++ (space ∷ [])) ++ decimal 20 p)
+
+pub line-of-eight : (r : Refusal) {n p q : ℕ} {t : Text} → n ≡ number r → p ≡ place r → q ≡ pointer r → n ≡ 8
+    → Grown [] (((started n p ++ (space ∷ [])) ++ decimal 20 q) ++ (lineFeed ∷ [])) 0 t → textOf t ≡ refusedLine r
+unfolding refusedLine spaced refusedWord
+line-of-eight r {n} {p} {q} en ep eq e g = g .text ∙ rw (← en, ← ep, ← eq, eq-eqb n 8 e) (simp append-assoc)
+
+pub line-of-other : (r : Refusal) {n p : ℕ} {t : Text} → n ≡ number r → p ≡ place r → (n ≡ 8 → ⊥) → Grown [] (started n p ++ (lineFeed ∷ [])) 0 t → textOf t ≡ refusedLine r
+unfolding refusedLine spaced refusedWord
+line-of-other r {n} {p} en ep e g = g .text ∙ rw (← en, ← ep, ne-eqb n 8 e) (simp append-assoc)
+
+-- ---- the verdict on a file
+
+and-false : (a : Bool) → (a && false) ≡ false
+and-false true = refl
+and-false false = refl
+
+-- "above 7,318 words"
+pub faults-long : (T : List ℤ) → 7318 < length T → faults T ≡ refusal Length ∷ []
+unfolding faults formOf lengthRight
+faults-long T h = rw (lt-leb (length T) 7318 h, and-false (leb 6 (length T)))
+
+pub odd-refused : (bytes : List ℕ) → (length bytes % 4 ≡ 0 → ⊥) → Answers (fileFaults bytes) (Refused Length)
+unfolding fileFaults Answers
+odd-refused bytes n = rw (ne-eqb (length bytes % 4) 0 n) refl
+
+pub long-refused : (bytes : List ℕ) → length bytes % 4 ≡ 0 → 7318 < length bytes / 4 → Answers (fileFaults bytes) (Refused Length)
+unfolding fileFaults Answers wordsOf
+long-refused bytes e h = rw (eq-eqb (length bytes % 4) 0 e, faults-long (tabulate (length bytes / 4) (λ i. wordAt bytes (4 * i))) (rw (length-tabulate (length bytes / 4) (λ i. wordAt bytes (4 * i))) h)) refl
+
+pub file-answered : (bytes : List ℕ) {table old : List ℤ} {n i : ℕ} (v : Verdict) → length bytes % 4 ≡ 0 → Filled table old n (λ j. wordAt bytes (4 * j)) i → i ≡ length bytes / 4
+    → Answers (faults (take (length bytes / 4) table)) v → Answers (fileFaults bytes) v
+unfolding fileFaults wordsOf
+file-answered bytes {table} {i = i} v e p q a =
+    let t : take (length bytes / 4) table ≡ tabulate (length bytes / 4) (λ j. wordAt bytes (4 * j)) = rw q at (p .front) in
+    rw (eq-eqb (length bytes % 4) 0 e, ← t) a

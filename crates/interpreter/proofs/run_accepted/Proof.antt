@@ -1,0 +1,15 @@
+-- `interpreter::run_accepted` meets its contract: an accepted table is well formed.
+use mathlib.Core.Path.{_≡_, sym, ap, _∙_}
+use borrow.Author.Needs.{needs}
+use Rattle.interpreter.specs.ClaimLaws.{no-form-refused}
+use Rattle.interpreter.proofs.run_accepted.Statement.{statement}
+use Rattle.interpreter.proofs.run_accepted.Tie as tie
+
+pub run-accepted-spec : {M : Type 1} → statement M
+run-accepted-spec =
+    tie.close
+    (tie.spec
+    (λ c κs. search needs) (λ c. search needs) (λ c. search needs)
+    (λ c κs. (sym (c .before .before .before .before .before .read-form .ensures) ∙ c .before .before .before .form2 .given .1, c .before .before .before .before .before .before .before .before .before .before .pre))
+    (λ c. absurd (no-form-refused _ _ (c .before .before .before .before .before .before .before .before .pre) (sym (c .before .before .before .read-form .ensures) ∙ c .before .form .given .1)))
+    (λ c. search needs) (λ c. search needs) (λ c. search needs))

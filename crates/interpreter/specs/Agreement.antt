@@ -1,0 +1,57 @@
+-- How the run without origins shows the points of the plain machine, and what it needs of them.
+use Prim.Native.Nat.{ℕ, _<_, _≤_}
+use mathlib.Core.Path.{_≡_}
+use mathlib.Core.Bool.{Bool, true, false}
+use mathlib.Core.List.{List}
+use lib.Dec.{ltb}
+use lib.IntN.{ℤ}
+use lib.ListN.{length, getD}
+use Rattle.table.specs.Statements.{statementAt}
+use Rattle.table.specs.declared.Sections.{Sections}
+use Rattle.table.specs.declared.Statement.{Statement}
+use Rattle.table.specs.declared.StatementRead.the-variants.{Read}
+use Rattle.blocks.specs.Shape.{entriesAt}
+use Rattle.checker.specs.declared.Environment.{Environment}
+use Rattle.interpreter.specs.Machine.{high, Status, going, stopped, stuck, Point, successorsOf, pointAfter}
+use Rattle.interpreter.specs.Checks.{checkOf}
+use Rattle.interpreter.specs.Bare.{Move, move, Result, result}
+use Rattle.interpreter.specs.Ends.{endsOf}
+use Rattle.interpreter.specs.declared.Step.{Step}
+use Rattle.interpreter.specs.declared.Step.the-variants.{Go, Stop}
+use Rattle.interpreter.specs.declared.Outcome.{Outcome}
+use Rattle.interpreter.specs.declared.Outcome.the-variants.{Done, Spent, Stopped}
+
+-- What the step to a point says, by the point's status and the statement due there. (No run that is begun is stuck.)
+abbrev pub stepShown : Status → ℕ → Step
+stepShown going a = Go a
+stepShown (stopped n) a = Stop (checkOf n a)
+stepShown stuck a = Go a
+
+abbrev pub moveShown : Point → Move
+moveShown Q = move (stepShown (Q .status) (Q .due)) (Q .values) (Q .cells)
+
+abbrev pub pickOutcome : Bool → Outcome → Outcome → Outcome
+pickOutcome true a b = a
+pickOutcome false a b = b
+
+-- How a run that is given up at a point ends: done where nothing is due, spent where a statement is due, or stopped.
+abbrev pub outcomeShown : Sections → Status → ℕ → ℕ → Outcome
+outcomeShown h going n a = pickOutcome (ltb a (h .statements)) (Spent n a) (Done n)
+outcomeShown h (stopped k) n a = Stopped n (checkOf k a)
+outcomeShown h stuck n a = Done n
+
+abbrev pub resultShown : Sections → Point → Result
+resultShown h Q = result (outcomeShown h (Q .status) (Q .steps) (Q .due)) (Q .values) (Q .cells)
+
+-- What the run without origins needs of the plain machine's run from the point P.
+pub record Runnable (T : List ℤ) (h : Sections) (E : Environment) (D W S : List ℕ) (P : Point) : Type 0 where
+  -- the slices that are laid out
+  pub ends : W ≡ endsOf E
+  pub successors : (a : ℕ) → a < h .statements → entriesAt S a ≡ successorsOf T h E D a
+  -- every statement reads
+  pub reads : (a : ℕ) → a < h .statements → (s : Statement) × (statementAt T h a ≡ Read s)
+  -- the objects lie in the memory, and origins are objects
+  pub objects : (o : ℕ) → o < h .objects → high D o ≤ length (P .cells)
+  pub origins : (p : ℕ) → getD (P .origins) p 0 ≤ h .objects
+  -- no point is stuck
+  pub unstuck : (t : ℕ) → pointAfter T h E D t P .status ≡ stuck → ⊥

@@ -1,0 +1,307 @@
+-- The run without origins agrees with the plain machine, step by step and as a whole.
+use Prim.Native.Nat.{ℕ, zero, suc, _+_, _<_, _≤_}
+use mathlib.Core.Path.{_≡_, refl, sym, ap, ap₂, subst, _∙_}
+use mathlib.Core.Bool.{Bool, true, false, false≢true}
+use mathlib.Core.List.{List, [], _∷_}
+use native.Mathlib.Omega.{arith}
+use borrow.Author.Tests.{ltb-true, leb-true, lt-ltb}
+use lib.Dec.{leb, ltb}
+use lib.IntN.{ℤ}
+use lib.ListN.{length, getD, set, length-set}
+use Rattle.facts.specs.Numbers.{bias}
+use Rattle.table.specs.SectionsLaws.{both, Limits}
+use Rattle.table.specs.Statements.{statementAt}
+use Rattle.table.specs.Typed.{SimpleTyped, WellTyped}
+use Rattle.table.specs.Words.{pickNumber}
+use Rattle.table.specs.StatementLaws.{read-typed, read-limits}
+use Rattle.table.specs.Decode.{decodedAt}
+use Rattle.table.specs.DecodeLaws.{read-decoded}
+use Rattle.table.specs.declared.Sections.{Sections}
+use Rattle.table.specs.declared.Simple.{Simple}
+use Rattle.table.specs.declared.Simple.the-variants.{Literal, AddConstant, Arithmetic, Null, Address, PointerOffset, PointerIndex, Load, Store, Check as Test}
+use Rattle.table.specs.declared.Statement.{Statement}
+use Rattle.table.specs.declared.Statement.the-variants.{Plain, If, While, Bundle}
+use Rattle.table.specs.declared.StatementRead.{StatementRead}
+use Rattle.table.specs.declared.StatementRead.the-variants.{Read}
+use Rattle.blocks.specs.Flow.{Successors}
+use Rattle.blocks.specs.Shape.{entriesAt}
+use Rattle.checker.specs.declared.Environment.{Environment}
+use Rattle.interpreter.specs.Machine.{low, high, address, inOrigin, conditionHolds, Failing, none, fails, failing, Status, going, stopped, stuck, Point, Memory, Performed, done, no-step, stepIf, performed, memoryOf, afterChecks, branched, statementStep, stepIfDue, nextPoint, pointAfter}
+use Rattle.interpreter.specs.Bare.{valuesAfter, cellsAfter, stepUnless, changedUnless, Move, move, simpleMove, statementMove, bareMove, Result, result, pickResult, follow, bareRun, InCells, InsideSimple, Inside, Ready, IfTrue, Onward, SafeRun}
+use Rattle.interpreter.specs.Checks.{checkOf}
+use Rattle.interpreter.specs.Agreement.{stepShown, moveShown, pickOutcome, outcomeShown, resultShown, Runnable}
+use Rattle.interpreter.specs.Ends.{endsOf}
+use Rattle.interpreter.specs.EndsLaws.{failing-same}
+use Rattle.interpreter.specs.declared.Step.{Step}
+use Rattle.interpreter.specs.declared.Step.the-variants.{Go}
+use Rattle.interpreter.specs.declared.Outcome.the-variants.{Done, Spent, Stopped}
+
+-- ---- what a statement of kinds 1 to 10 leaves
+
+-- What is left in values, cells and origins.
+abbrev Leaves : List ℕ → List ℕ → ℕ → Performed → Type 0
+Leaves vs cs k (done m) = (m .values ≡ vs) × (m .cells ≡ cs) × ((p : ℕ) → getD (m .origins) p 0 ≤ k)
+Leaves vs cs k no-step = Unit {0}
+
+leaves-if : (b : Bool) (vs cs : List ℕ) (k : ℕ) (p : Performed) → Leaves vs cs k p → Leaves vs cs k (stepIf b p)
+leaves-if true vs cs k p l = l
+leaves-if false vs cs k p l = tt
+
+-- A list of numbers up to k, with one of them set.
+set-at-most : (l : List ℕ) (x v k : ℕ) → v ≤ k → ((p : ℕ) → getD l p 0 ≤ k) → (p : ℕ) → getD (set l x v) p 0 ≤ k
+set-at-most [] x v k h f p = f p
+set-at-most (y ∷ l) zero v k h f zero = h
+set-at-most (y ∷ l) zero v k h f (suc p) = f (suc p)
+set-at-most (y ∷ l) (suc x) v k h f zero = f zero
+set-at-most (y ∷ l) (suc x) v k h f (suc p) = set-at-most l x v k h (λ q. f (suc q)) p
+
+leaves : (T : List ℤ) (h : Sections) (D : List ℕ) (s : Simple) (m : Memory) → SimpleTyped T h s → ((p : ℕ) → getD (m .origins) p 0 ≤ h .objects) →
+    Leaves (valuesAfter D s (m .values) (m .cells)) (cellsAfter s (m .values) (m .cells)) (h .objects) (performed D s m)
+unfolding performed valuesAfter cellsAfter
+leaves T h D (Literal x k) m t o = (refl, refl, o)
+leaves T h D (AddConstant x y k) m t o = (refl, refl, o)
+leaves T h D (Arithmetic x y z op) m t o = (refl, refl, o)
+leaves T h D (Null p) m t o = (refl, refl, set-at-most (m .origins) p 0 (h .objects) (omega arith) o)
+leaves T h D (Address p q) m t o = (refl, refl, set-at-most (m .origins) p (q + 1) (h .objects) (omega (arith, t .object)) o)
+leaves T h D (PointerOffset p q k) m t o = (refl, refl, set-at-most (m .origins) p (getD (m .origins) q 0) (h .objects) (o q) o)
+leaves T h D (PointerIndex p q i) m t o = (refl, refl, set-at-most (m .origins) p (getD (m .origins) q 0) (h .objects) (o q) o)
+leaves T h D (Load x p i k) m t o = leaves-if (inOrigin D (getD (m .origins) p 0) (address (m .values) p i k)) _ _ _ _ (refl, refl, o)
+leaves T h D (Store p i k x) m t o = leaves-if (inOrigin D (getD (m .origins) p 0) (address (m .values) p i k)) _ _ _ _ (refl, refl, o)
+leaves T h D (Test c) m t o = (refl, refl, o)
+
+cells-kept : (s : Simple) (vs cs : List ℕ) → length (cellsAfter s vs cs) ≡ length cs
+unfolding cellsAfter
+cells-kept (Literal x k) vs cs = refl
+cells-kept (AddConstant x y k) vs cs = refl
+cells-kept (Arithmetic x y z op) vs cs = refl
+cells-kept (Null p) vs cs = refl
+cells-kept (Address p o) vs cs = refl
+cells-kept (PointerOffset p q k) vs cs = refl
+cells-kept (PointerIndex p q i) vs cs = refl
+cells-kept (Load x p i k) vs cs = refl
+cells-kept (Store p i k x) vs cs = simp length-set
+cells-kept (Test c) vs cs = refl
+
+-- ---- one step
+
+-- What holds of the point Q after a step from P whose move is m.
+record Stepped (P Q : Point) (k : ℕ) (m : Move) : Type 0 where
+  pub same : m ≡ moveShown Q
+  pub counted : Q .steps ≡ P .steps + 1
+  pub long : length (Q .cells) ≡ length (P .cells)
+  pub origins : (p : ℕ) → getD (Q .origins) p 0 ≤ k
+
+move-same : (s : Step) (vs ws cs ds : List ℕ) → vs ≡ ws → cs ≡ ds → move s vs cs ≡ move s ws ds
+move-same s vs ws cs ds p q = rw (p, q)
+
+module _ (P : Point) (next k : ℕ) (o : (p : ℕ) → getD (P .origins) p 0 ≤ k) where
+  simple-stepped : (f : Failing) (p : Performed) (vs cs : List ℕ) → Leaves vs cs k p → length cs ≡ length (P .cells) → (afterChecks f P next p .status ≡ stuck → ⊥) →
+      Stepped P (afterChecks f P next p) k (move (stepUnless f (P .due) next) (changedUnless f (P .values) vs) (changedUnless f (P .cells) cs))
+  unfolding stepUnless changedUnless
+  simple-stepped (fails n) p vs cs l e u = record { same = refl; counted = refl; long = refl; origins = o }
+  simple-stepped none (done m) vs cs l e u =
+      record { same = move-same (Go next) vs (m .values) cs (m .cells) (sym (l .0)) (sym (l .1)); counted = refl; long = ap length (l .1) ∙ e; origins = l .2 }
+  simple-stepped none no-step vs cs l e u = absurd (u refl)
+
+  branch-stepped : (b : Bool) (n : Successors) → Stepped P (branched b P n) k (move (Go (pickNumber b (n .next) (n .other))) (P .values) (P .cells))
+  branch-stepped true n = record { same = refl; counted = refl; long = refl; origins = o }
+  branch-stepped false n = record { same = refl; counted = refl; long = refl; origins = o }
+
+module _ (T : List ℤ) (h : Sections) (E : Environment) (D W S : List ℕ) where
+  abbrev after : Point → Point
+  after P = nextPoint T h E D (P .status) P
+
+  stepped : (P : Point) (s : Statement) (n : Successors) → W ≡ endsOf E → Limits h → WellTyped T h s → ((p : ℕ) → getD (P .origins) p 0 ≤ h .objects) →
+      (statementStep E D (Read s) n P .status ≡ stuck → ⊥) → Stepped P (statementStep E D (Read s) n P) (h .objects) (statementMove W D s (P .due) n (P .values) (P .cells))
+  unfolding statementStep statementMove simpleMove
+  stepped P (Plain s) n w l t o u =
+      rw (w, failing-same T h E (P .values) s l t)
+      (simple-stepped P (n .next) (h .objects) o (failing E (P .values) s) (performed D s (memoryOf P)) _ _ (leaves T h D s (memoryOf P) t o) (cells-kept s (P .values) (P .cells)) u)
+  stepped P (If c x y) n w l t o u = branch-stepped P 0 (h .objects) o (conditionHolds (P .values) c) n
+  stepped P (While c x) n w l t o u = branch-stepped P 0 (h .objects) o (conditionHolds (P .values) c) n
+  stepped P (Bundle x) n w l t o u = record { same = refl; counted = refl; long = refl; origins = o }
+
+  -- ---- an access is inside where the plain machine is not stuck
+
+  not-lost : (P : Point) (f : Failing) (b : Bool) (n : ℕ) (q : Performed) → f ≡ none → (afterChecks f P n (stepIf b q) .status ≡ stuck → ⊥) → b ≡ true
+  not-lost P none true n q e u = refl
+  not-lost P none false n q e u = absurd (u refl)
+  not-lost P (fails k) b n q e u = let z : _≡_ {A = ℕ} 0 1 = cc in absurd (omega arith)
+
+  in-object : (o a : ℕ) (cs : List ℕ) → inOrigin D o a ≡ true → o ≤ h .objects → ((i : ℕ) → i < h .objects → high D i ≤ length cs) → InCells a cs
+  unfolding inOrigin
+  in-object zero a cs e l f = absurd (false≢true e)
+  in-object (suc o) a cs e l f =
+      let g = both (leb (low D o + bias) a) (ltb a (high D o + bias)) e in
+      let p : low D o + bias ≤ a = leb-true _ _ (g .0) in
+      let q : a < high D o + bias = ltb-true _ _ (g .1) in
+      let r = f o (omega arith) in
+      (omega arith, omega arith)
+
+  module _ (P : Point) (o : (p : ℕ) → getD (P .origins) p 0 ≤ h .objects) (f : (i : ℕ) → i < h .objects → high D i ≤ length (P .cells)) where
+    inside-simple : (s : Simple) (n : ℕ) → W ≡ endsOf E → Limits h → SimpleTyped T h s →
+        (afterChecks (failing E (P .values) s) P n (performed D s (memoryOf P)) .status ≡ stuck → ⊥) → InsideSimple W s (P .values) (P .cells)
+    unfolding performed
+    inside-simple (Literal x k) n w l t u = tt
+    inside-simple (AddConstant x y k) n w l t u = tt
+    inside-simple (Arithmetic x y z op) n w l t u = tt
+    inside-simple (Null p) n w l t u = tt
+    inside-simple (Address p q) n w l t u = tt
+    inside-simple (PointerOffset p q k) n w l t u = tt
+    inside-simple (PointerIndex p q i) n w l t u = tt
+    inside-simple (Load x p i k) n w l t u =
+        λ e. in-object (getD (P .origins) p 0) (address (P .values) p i k) (P .cells)
+        (not-lost P (failing E (P .values) (Load x p i k)) _ n _ (sym (failing-same T h E (P .values) (Load x p i k) l t) ∙ (rw w at e)) u) (o p) f
+    inside-simple (Store p i k x) n w l t u =
+        λ e. in-object (getD (P .origins) p 0) (address (P .values) p i k) (P .cells)
+        (not-lost P (failing E (P .values) (Store p i k x)) _ n _ (sym (failing-same T h E (P .values) (Store p i k x) l t) ∙ (rw w at e)) u) (o p) f
+    inside-simple (Test c) n w l t u = tt
+
+    inside : (s : Statement) (n : Successors) → W ≡ endsOf E → Limits h → WellTyped T h s → (statementStep E D (Read s) n P .status ≡ stuck → ⊥) → Inside W s (P .values) (P .cells)
+    unfolding statementStep
+    inside (Plain s) n w l t u = inside-simple s (n .next) w l t u
+    inside (If c x y) n w l t u = tt
+    inside (While c x) n w l t u = tt
+    inside (Bundle x) n w l t u = tt
+
+  -- ---- a point that is going, with a statement due
+
+  -- The points after the next one are the later points.
+  later : (t : ℕ) (P : Point) → pointAfter T h E D t (after P) ≡ after (pointAfter T h E D t P)
+  unfolding pointAfter
+  later zero P = refl
+  later (suc t) P = ap after (later t P)
+
+  stays : (P : Point) → after P ≡ P → (t : ℕ) → pointAfter T h E D t P ≡ P
+  unfolding pointAfter
+  stays P e zero = refl
+  stays P e (suc t) = ap after (stays P e t) ∙ e
+
+  after-ended : (P : Point) → P .status ≡ going → ltb (P .due) (h .statements) ≡ false → after P ≡ P
+  unfolding nextPoint
+  after-ended P g e = ap (λ (s : Status). nextPoint T h E D s P) g ∙ ap (λ (b : Bool). stepIfDue T h E D b P) e
+
+  after-stopped : (P : Point) (k : ℕ) → P .status ≡ stopped k → after P ≡ P
+  unfolding nextPoint
+  after-stopped P k g = ap (λ (s : Status). nextPoint T h E D s P) g
+
+  module _ (P : Point) (g : P .status ≡ going) (R : Runnable T h E D W S P) (due : P .due < h .statements) where
+    abbrev here : Statement
+    here = R .reads (P .due) due .0
+
+    abbrev reads : statementAt T h (P .due) ≡ Read here
+    reads = R .reads (P .due) due .1
+
+    after-is : after P ≡ statementStep E D (Read here) (entriesAt S (P .due)) P
+    unfolding nextPoint
+    after-is =
+        ap (λ (s : Status). nextPoint T h E D s P) g
+        ∙ (ap (λ (b : Bool). stepIfDue T h E D b P) (lt-ltb (P .due) (h .statements) due)
+        ∙ ap₂ (λ (r : StatementRead) (n : Successors). statementStep E D r n P) reads (sym (R .successors (P .due) due)))
+
+    free : after P .status ≡ stuck → ⊥
+    unfolding pointAfter
+    free e = R .unstuck 1 e
+
+    free-here : statementStep E D (Read here) (entriesAt S (P .due)) P .status ≡ stuck → ⊥
+    free-here e = free (ap (λ (Q : Point). Q .status) after-is ∙ e)
+
+    point-stepped : Stepped P (after P) (h .objects) (bareMove T h W D S (P .due) (P .values) (P .cells))
+    unfolding bareMove
+    point-stepped =
+        subst (λ (Q : Point). Stepped P Q (h .objects) (statementMove W D (decodedAt T h (P .due)) (P .due) (entriesAt S (P .due)) (P .values) (P .cells))) (sym after-is)
+        (rw (read-decoded T h (P .due) here reads)
+        (stepped P here (entriesAt S (P .due)) (R .ends) (read-limits T h (P .due) here reads .0) (read-typed T h (P .due) here reads) (R .origins) free-here))
+
+    -- The step without origins says and leaves what the plain machine's next point shows.
+    pub step-agrees : bareMove T h W D S (P .due) (P .values) (P .cells) ≡ moveShown (after P)
+    step-agrees = point-stepped .same
+
+    pub step-ready : Ready T h W (P .due) (P .values) (P .cells)
+    step-ready =
+        record {
+          statement = here;
+          reads = reads;
+          inside =
+              inside P (R .origins) (R .objects) here (entriesAt S (P .due)) (R .ends) (read-limits T h (P .due) here reads .0) (read-typed T h (P .due) here reads) free-here;
+        }
+
+    -- What the run needs holds of the next point too.
+    pub runnable-next : Runnable T h E D W S (after P)
+    unfolding pointAfter
+    runnable-next =
+        record {
+          ends = R .ends;
+          successors = R .successors;
+          reads = R .reads;
+          objects = λ i l. omega (arith, R .objects i l, point-stepped .long);
+          origins = point-stepped .origins;
+          unstuck = λ t e. R .unstuck (suc t) (ap (λ (Q : Point). Q .status) (sym (later t P)) ∙ e);
+        }
+
+  -- ---- the whole run
+
+  onward : (s : Status) (a : ℕ) (A : ℕ → Type 0) → (s ≡ going → A a) → (s ≡ stuck → ⊥) → Onward (stepShown s a) A
+  onward going a A f u = f refl
+  onward (stopped k) a A f u = tt
+  onward stuck a A f u = absurd (u refl)
+
+  if-true : (b : Bool) (A : Type 0) → (b ≡ true → A) → IfTrue b A
+  if-true true A f = f refl
+  if-true false A f = tt
+
+  -- Where no point of the plain machine is stuck, every access of the code is inside.
+  pub safe-run : (l : ℕ) (P : Point) → P .status ≡ going → Runnable T h E D W S P → SafeRun T h W D S l (P .due) (P .values) (P .cells)
+  unfolding SafeRun
+  safe-run zero P g R = tt
+  safe-run (suc l) P g R =
+      if-true (ltb (P .due) (h .statements)) _
+      (λ e.
+      let due = ltb-true (P .due) (h .statements) e in (
+        step-ready P g R due,
+        subst (λ (m : Move). Onward (m .said) (λ b. SafeRun T h W D S l b (m .values) (m .cells))) (sym (step-agrees P g R due))
+            (onward (after P .status) (after P .due) (λ b. SafeRun T h W D S l b (after P .values) (after P .cells)) (λ i. safe-run l (after P) i (runnable-next P g R due)) (free P g R due)),
+      ))
+
+  spent-or-done : (b : Bool) (n a : ℕ) (vs cs : List ℕ) → pickResult b (result (Spent n a) vs cs) (result (Done n) vs cs) ≡ result (pickOutcome b (Spent n a) (Done n)) vs cs
+  spent-or-done true n a vs cs = refl
+  spent-or-done false n a vs cs = refl
+
+  -- The result shown at a point that is going.
+  shown-going : (P : Point) (b : Bool) → P .status ≡ going → ltb (P .due) (h .statements) ≡ b → result (pickOutcome b (Spent (P .steps) (P .due)) (Done (P .steps))) (P .values) (P .cells) ≡ resultShown h P
+  shown-going P b g e =
+      ap (λ (x : Bool). result (pickOutcome x (Spent (P .steps) (P .due)) (Done (P .steps))) (P .values) (P .cells)) (sym e)
+      ∙ ap (λ (s : Status). result (outcomeShown h s (P .steps) (P .due)) (P .values) (P .cells)) (sym g)
+
+  shown-stopped : (P : Point) (k n : ℕ) → P .status ≡ stopped k → n ≡ P .steps → result (Stopped n (checkOf k (P .due))) (P .values) (P .cells) ≡ resultShown h P
+  shown-stopped P k n g e =
+      ap (λ (i : ℕ). result (Stopped i (checkOf k (P .due))) (P .values) (P .cells)) e
+      ∙ ap (λ (s : Status). result (outcomeShown h s (P .steps) (P .due)) (P .values) (P .cells)) (sym g)
+
+  followed : (s : Status) (a n : ℕ) (F : ℕ → Result) (vs cs : List ℕ) (X : Result) → (s ≡ going → F a ≡ X) → ((k : ℕ) → s ≡ stopped k → result (Stopped n (checkOf k a)) vs cs ≡ X) →
+      (s ≡ stuck → ⊥) → follow (stepShown s a) F n vs cs ≡ X
+  followed going a n F vs cs X f c u = f refl
+  followed (stopped k) a n F vs cs X f c u = c k refl
+  followed stuck a n F vs cs X f c u = absurd (u refl)
+
+  by-test : (b : Bool) (x y X : Result) → (b ≡ true → x ≡ X) → (b ≡ false → y ≡ X) → pickResult b x y ≡ X
+  by-test true x y X f c = f refl
+  by-test false x y X f c = c refl
+
+  -- The run without origins ends as the plain machine's point at that limit shows.
+  pub run-agrees : (l : ℕ) (P : Point) → P .status ≡ going → Runnable T h E D W S P → bareRun T h W D S l (P .steps) (P .due) (P .values) (P .cells) ≡ resultShown h (pointAfter T h E D l P)
+  unfolding bareRun pointAfter
+  run-agrees zero P g R = spent-or-done (ltb (P .due) (h .statements)) _ _ _ _ ∙ shown-going P _ g refl
+  run-agrees (suc l) P g R =
+      by-test (ltb (P .due) (h .statements)) _ _ _
+      (λ e.
+      let due = ltb-true (P .due) (h .statements) e in
+      let Q = after P in
+      let n = P .steps + 1 in
+      let counted = point-stepped P g R due .counted in
+      ap (λ (m : Move). follow (m .said) (λ b. bareRun T h W D S l n b (m .values) (m .cells)) n (m .values) (m .cells)) (step-agrees P g R due)
+      ∙ followed (Q .status) (Q .due) n (λ b. bareRun T h W D S l n b (Q .values) (Q .cells)) (Q .values) (Q .cells) _
+      (λ i. ap (λ (j : ℕ). bareRun T h W D S l j (Q .due) (Q .values) (Q .cells)) (sym counted) ∙ (run-agrees l Q i (runnable-next P g R due) ∙ ap (resultShown h) (later l P)))
+      (λ k i. shown-stopped Q k n i (sym counted) ∙ ap (resultShown h) (sym (stays Q (after-stopped Q k i) l) ∙ later l P))
+      (free P g R due))
+      (λ e. shown-going P false g e ∙ ap (resultShown h) (sym (stays P (after-ended P g e) (suc l))))

@@ -1,0 +1,262 @@
+-- The proof of the claim about a run: from the soundness theorem and from the agreement of the code's run with the plain machine.
+use Prim.Native.Nat.{ℕ, _+_, _*_, _≤_, _<_}
+use mathlib.Core.Path.{_≡_, refl, sym, ap, subst, _∙_}
+use mathlib.Core.Logic.{_≢_, _↔_}
+use mathlib.Core.Bool.{Bool, true, false}
+use mathlib.Core.List.{List, [], _∷_}
+use native.Mathlib.Omega.{arith}
+use borrow.Author.Tests.{lt-ltb, le-ltb, le-leb, ltb-true, ltb-false}
+use lib.Dec.{ltb}
+use lib.IntN.{ℤ}
+use lib.ListN.{length, getD}
+use Rattle.facts.specs.Numbers.{maxValue}
+use Rattle.table.specs.Form.{pickForm, lengthRight, directoryRight, sectionsOf, lowestObject, lowestVariable, lowestStatement, itemsForm, formOf}
+use Rattle.table.specs.FormLaws.{Formed, well-formed}
+use Rattle.table.specs.declared.Sections.{Sections}
+use Rattle.table.specs.declared.Form.{Form}
+use Rattle.table.specs.declared.Form.the-variants.{WellFormed, Refused}
+use Rattle.table.specs.declared.Refusal.{Refusal}
+use Rattle.table.specs.declared.Refusal.the-variants.{Length, Directory, ObjectLength, VariableRecord, StatementRecord, BoundsNotShown}
+use Rattle.blocks.specs.Flow.{tableFlow, written, Written}
+use Rattle.checker.specs.EnvironmentLaws.{environment-declares}
+use Rattle.checker.specs.FaultLaws.{accepted, faultless-sections}
+use Rattle.checker.specs.BoundsRules.{isPointer}
+use Rattle.checker.specs.Rules.{Fault, refusal, notShown, also}
+use Rattle.checker.specs.Verdict.{environmentOf, refusals, faults, Answers}
+use Rattle.checker.specs.declared.Verdict.{Verdict}
+use Rattle.checker.specs.declared.Verdict.the-variants as verdict
+use Rattle.checker.specs.declared.Environment.{Environment}
+use Rattle.interpreter.specs.Machine.{Status, going, stopped, stuck, Point, start, pointAfter}
+use Rattle.interpreter.specs.Points.{Access, no-access, access, accessFrom}
+use Rattle.interpreter.specs.Soundness.{Begun, Sound, AccessAllowed}
+use Rattle.interpreter.specs.RunSound.{sound}
+use Rattle.interpreter.specs.StepLaws.{StepFacts, point-step, stop-same, steps-counted}
+use Rattle.interpreter.specs.Entry.{entryRefusals}
+use Rattle.interpreter.specs.BegunLaws.{entry-begun}
+use Rattle.interpreter.specs.Ends.{endsOf}
+use Rattle.interpreter.specs.Bare.{Result, Ends, Prepared, SafeRun, bareRun}
+use Rattle.interpreter.specs.StartLaws.{admitted, start-prepared, start-safe, start-agrees}
+use Rattle.interpreter.specs.Agreement.{pickOutcome, outcomeShown, resultShown}
+use Rattle.interpreter.specs.Claim.{AccessInside, answerAt, AtPoint, Ran, entryFaults, runFaults, RunAnswer}
+use Rattle.interpreter.specs.Entered.{entered}
+use Rattle.interpreter.specs.declared.EntryVerdict.{EntryVerdict}
+use Rattle.interpreter.specs.declared.EntryVerdict.the-variants as entry
+use Rattle.interpreter.specs.declared.Outcome.the-variants as outcome
+use Rattle.interpreter.specs.declared.Outcome.{Outcome}
+use Rattle.interpreter.specs.declared.Outcome.the-variants.{Done, Spent, Stopped}
+
+allowed-inside : (D : List ℕ) (n : ℕ) (a : Access) → AccessAllowed D n a → AccessInside D a
+allowed-inside D n no-access h = tt
+allowed-inside D n (access a o) h = h .inside
+
+-- ---- the answers at a point
+
+done-exactly : (b : Bool) (due statements n : ℕ) → ltb due statements ≡ b → (pickOutcome b (Spent n due) (Done n) ≡ Done n) ↔ (statements ≤ due)
+done-exactly true due statements n q = ((λ e. let z : _≡_ {A = ℕ} 0 1 = cc in absurd (omega arith)), (λ l. absurd (omega (arith, ltb-true due statements q))))
+done-exactly false due statements n q = ((λ e. ltb-false due statements q), (λ l. refl))
+
+-- The steps of a point that answers spent.
+spent-steps : (h : Sections) (s : Status) (steps due n a : ℕ) → outcomeShown h s steps due ≡ Spent n a → (s ≡ going) × (due < h .statements) × (steps ≡ n)
+spent-steps h going steps due n a e = go (ltb due (h .statements)) refl e
+  where
+    go : (b : Bool) → ltb due (h .statements) ≡ b → pickOutcome b (Spent steps due) (Done steps) ≡ Spent n a → (going ≡ going) × (due < h .statements) × (steps ≡ n)
+    go true q e = (refl, ltb-true due (h .statements) q, cc)
+    go false q e = let z : _≡_ {A = ℕ} 0 1 = cc in absurd (omega arith)
+spent-steps h (stopped k) steps due n a e = let z : _≡_ {A = ℕ} 0 1 = cc in absurd (omega arith)
+spent-steps h stuck steps due n a e = let z : _≡_ {A = ℕ} 0 1 = cc in absurd (omega arith)
+
+going-spent : (h : Sections) (s : Status) (steps due : ℕ) → s ≡ going → due < h .statements → outcomeShown h s steps due ≡ Spent steps due
+going-spent h s steps due e l = rw (e, lt-ltb due (h .statements) l)
+
+-- ---- every point of a begun run
+
+module _ (T : List ℤ) (h : Sections) (formed : formOf T ≡ WellFormed h) (accepts : faults T ≡ []) (D cs vs os : List ℕ) (begun : Begun h (environmentOf T h) D cs vs os) where
+  abbrev E : Environment
+  E = environmentOf T h
+
+  abbrev first : Point
+  first = start T h E D cs vs os
+
+  abbrev point : ℕ → Point
+  point t = pointAfter T h E D t first
+
+  right : (t : ℕ) → Sound T h E D cs (point t)
+  right = sound T h formed accepts D cs vs os begun
+
+  unstuck : (t : ℕ) → point t .status ≢ stuck
+  unstuck t = right t .has-step
+
+  none-yet : first .steps ≡ 0
+  unfolding start
+  none-yet = refl
+
+  counted : (t : ℕ) → point t .status ≡ going → point t .due < h .statements → point t .steps ≡ t
+  counted = steps-counted T h E D first unstuck none-yet
+
+  finished : (t : ℕ) → point t .status ≡ going → (answerAt h (point t) ≡ Done (point t .steps)) ↔ (h .statements ≤ point t .due)
+  finished t g = rw g (done-exactly (ltb (point t .due) (h .statements)) (point t .due) (h .statements) (point t .steps) refl)
+
+  spent : (limit t : ℕ) → point t .status ≡ going → point t .due < h .statements → (answerAt h (point limit) ≡ Spent (point t .steps) (point t .due)) ↔ (t ≡ limit)
+  spent limit t g l = (
+    (λ e. let f = spent-steps h (point limit .status) (point limit .steps) (point limit .due) (point t .steps) (point t .due) e in omega (arith, f .2, counted limit (f .0) (f .1), counted t g l)),
+    (λ e. rw (← e) (going-spent h (point t .status) (point t .steps) (point t .due) g l)),
+  )
+
+  pub at-point : (limit t : ℕ) → AtPoint T h E D point limit t
+  at-point limit t = record {
+    bounds = right t .bounds;
+    accesses = λ s l. allowed-inside D (length (point s .cells)) (accessFrom T h E (point s .status) (point s)) (right s .access-allowed);
+    has-step = unstuck t;
+    counted = counted t;
+    finished = finished t;
+    spent = spent limit t;
+    stops = λ g l n. point-step T h E D first t g l (unstuck (t + 1)) .stops n;
+    stop-changes-nothing = stop-same T h E D first unstuck t;
+    goes-on = λ g l f. let p = point-step T h E D first t g l (unstuck (t + 1)) in (p .goes f, p .counts (p .goes f));
+  }
+
+-- ---- the contract of `run`
+
+kept-second : (b : Bool) (r : Refusal) (f : Form) (h : Sections) → pickForm b (Refused r) f ≡ WellFormed h → f ≡ WellFormed h
+kept-second true r f h e = let z : _≡_ {A = ℕ} 0 1 = cc in absurd (omega arith)
+kept-second false r f h e = e
+
+kept-first : (b : Bool) (r : Refusal) (f : Form) (h : Sections) → pickForm b f (Refused r) ≡ WellFormed h → f ≡ WellFormed h
+kept-first true r f h e = e
+kept-first false r f h e = let z : _≡_ {A = ℕ} 0 1 = cc in absurd (omega arith)
+
+-- The sections of a well-formed table are those that its directory gives.
+pub formed-sections : (T : List ℤ) (h : Sections) → formOf T ≡ WellFormed h → h ≡ sectionsOf T
+unfolding formOf itemsForm
+formed-sections T h e =
+    let g : Sections = sectionsOf T in
+    let a = kept-first (directoryRight T g) Directory (itemsForm T g) h (kept-first (lengthRight T) Length _ h e) in
+    let o = kept-second (ltb (lowestObject T g) (g .objects)) (ObjectLength (lowestObject T g)) _ h a in
+    let v = kept-second (ltb (lowestVariable T g) (g .variables)) (VariableRecord (lowestVariable T g)) _ h o in
+    let b : WellFormed g ≡ WellFormed h = kept-second (ltb (lowestStatement T g) (g .statements)) (StatementRecord (lowestStatement T g)) (WellFormed g) h v in
+    cc
+
+-- The words that are lent are of 32 bits.
+pub record Lent (cs vs : List ℕ) : Type 0 where
+  pub cells-small : (i : ℕ) → getD cs i 0 ≤ maxValue
+  pub values-small : (x : ℕ) → getD vs x 0 ≤ maxValue
+
+module _ (T : List ℤ) (h : Sections) (formed : formOf T ≡ WellFormed h) (accepts : faults T ≡ []) (D cs vs os : List ℕ) (lent : Lent cs vs)
+    (none : entryRefusals h (environmentOf T h) D cs vs os ≡ []) where
+  begun : Begun h (environmentOf T h) D cs vs os
+  begun = entry-begun h (environmentOf T h) D cs vs os none (lent .values-small) (lent .cells-small) (environment-declares T h (well-formed T h formed) .below)
+
+  -- What the loop asks.
+  pub run-prepared : (w : List ℕ) → 2 * h .statements ≤ length w → Prepared h (endsOf (environmentOf T h)) D (written (tableFlow T h) w) vs
+  run-prepared w room = start-prepared T h D cs vs os w (well-formed T h formed) (accepted T h formed accepts .laid) room (admitted h (environmentOf T h) D cs vs os none)
+
+  pub run-safe : (w : List ℕ) → 2 * h .statements ≤ length w → (limit : ℕ) → SafeRun T h (endsOf (environmentOf T h)) D (written (tableFlow T h) w) limit 0 vs cs
+  run-safe w room limit =
+      start-safe T h D cs vs os w (well-formed T h formed) (accepted T h formed accepts .laid) room (admitted h (environmentOf T h) D cs vs os none)
+      (unstuck T h formed accepts D cs vs os begun) limit
+
+  -- What the loop leaves is the claim.
+  pub run-claim : (w : List ℕ) → 2 * h .statements ≤ length w → (limit : ℕ) (r : Outcome) (vs′ cs′ : List ℕ)
+      → Ends (bareRun T h (endsOf (environmentOf T h)) D (written (tableFlow T h) w) limit 0 0 vs cs) r vs′ cs′ → Ran T (sectionsOf T) D cs vs os limit r vs′ cs′
+  run-claim w room limit r vs′ cs′ e =
+      let agrees : bareRun T h (endsOf (environmentOf T h)) D (written (tableFlow T h) w) limit 0 0 vs cs ≡ resultShown h (point T h formed accepts D cs vs os begun limit)
+      = start-agrees T h D cs vs os w (well-formed T h formed) (accepted T h formed accepts .laid) room (admitted h (environmentOf T h) D cs vs os none)
+      (unstuck T h formed accepts D cs vs os begun) limit in
+      subst (λ (g : Sections). Ran T g D cs vs os limit r vs′ cs′) (formed-sections T h formed) (record {
+        answer = e .outcome ∙ ap (λ (o : Result). o .outcome) agrees;
+        values = e .values ∙ ap (λ (o : Result). o .values) agrees;
+        cells = e .cells ∙ ap (λ (o : Result). o .cells) agrees;
+        every-point = λ t l. at-point T h formed accepts D cs vs os begun limit t;
+      })
+
+-- ---- refusals of a run
+
+answers-first : (f : Fault) (fs gs : List Fault) (v : Verdict) → Answers (f ∷ fs) v → Answers (f ∷ gs) v
+unfolding Answers
+answers-first (refusal r) fs gs v a = a
+answers-first (notShown s p ps) fs gs v a = a
+
+-- The verdict was accepted: there is no fault.
+pub accepted-none : (fs : List Fault) → Answers fs verdict.Accepted → fs ≡ []
+unfolding Answers
+accepted-none [] a = refl
+accepted-none (refusal r ∷ fs) a = let z : _≡_ {A = ℕ} 0 1 = cc in absurd (omega arith)
+accepted-none (notShown s p ps ∷ fs) a = let e : verdict.Accepted ≡ verdict.Refused (BoundsNotShown s (a .0)) = a .2 in let z : _≡_ {A = ℕ} 0 1 = cc in absurd (omega arith)
+
+-- The verdict was a refusal.
+pub check-refused : (T : List ℤ) (D cs vs os : List ℕ) (limit : ℕ) (r : Refusal) → Answers (faults T) (verdict.Refused r)
+    → RunAnswer (runFaults T D cs vs os) T D cs vs os limit (outcome.Refused r) vs cs
+unfolding runFaults RunAnswer also Answers
+check-refused T D cs vs os limit r a = go (faults T) a
+  where
+    go : (fs : List Fault) → Answers fs (verdict.Refused r) → RunAnswer (also fs (entryFaults (formOf T) T D cs vs os)) T D cs vs os limit (outcome.Refused r) vs cs
+    go [] a = let z : _≡_ {A = ℕ} 0 1 = cc in absurd (omega arith)
+    go (f ∷ fs) a = record { refusal = r; first = answers-first f fs (also fs (entryFaults (formOf T) T D cs vs os)) (verdict.Refused r) a; answer = refl; values = refl; cells = refl }
+
+-- A table with no fault is well formed.
+pub no-form-refused : (T : List ℤ) (r : Refusal) → faults T ≡ [] → formOf T ≡ Refused r → ⊥
+no-form-refused T r e f = let p = faultless-sections T e in let q = p .1 in let z : _≡_ {A = ℕ} 0 1 = cc in omega arith
+
+-- Of an accepted table the faults of a run are those of the entry.
+entry-only : (T : List ℤ) (h : Sections) (D cs vs os : List ℕ) → formOf T ≡ WellFormed h → faults T ≡ [] → runFaults T D cs vs os ≡ refusals (entryRefusals h (environmentOf T h) D cs vs os)
+unfolding runFaults also
+entry-only T h D cs vs os f e = rw (e, f)
+
+pub entered-none : (rs : List Refusal) → entered rs ≡ entry.Begun → rs ≡ []
+unfolding entered
+entered-none [] e = refl
+entered-none (r ∷ rs) e = cc
+
+pub entry-refused : (T : List ℤ) (h : Sections) (D cs vs os : List ℕ) (limit : ℕ) (r : Refusal) → formOf T ≡ WellFormed h → faults T ≡ []
+    → entered (entryRefusals h (environmentOf T h) D cs vs os) ≡ entry.Refused r → RunAnswer (runFaults T D cs vs os) T D cs vs os limit (outcome.Refused r) vs cs
+unfolding RunAnswer Answers entered
+entry-refused T h D cs vs os limit r f e q = rw (entry-only T h D cs vs os f e) (go (entryRefusals h (environmentOf T h) D cs vs os) q)
+  where
+    go : (rs : List Refusal) → entered rs ≡ entry.Refused r → RunAnswer (refusals rs) T D cs vs os limit (outcome.Refused r) vs cs
+    go [] q = let z : _≡_ {A = ℕ} 0 1 = cc in absurd (omega arith)
+    go (x ∷ rs) q = record { refusal = x; first = refl; answer = cc; values = refl; cells = refl }
+
+pub begun-ran : (T : List ℤ) (h : Sections) (D cs vs os : List ℕ) (limit : ℕ) (r : Outcome) (vs′ cs′ : List ℕ) → formOf T ≡ WellFormed h → faults T ≡ []
+    → entryRefusals h (environmentOf T h) D cs vs os ≡ [] → Ran T (sectionsOf T) D cs vs os limit r vs′ cs′ → RunAnswer (runFaults T D cs vs os) T D cs vs os limit r vs′ cs′
+unfolding RunAnswer
+begun-ran T h D cs vs os limit r vs′ cs′ f e n a = rw (entry-only T h D cs vs os f e, n) a
+
+-- ---- what the code has in hand where the loop begins
+
+pub record Launched (T : List ℤ) (h : Sections) (D cs vs os W S : List ℕ) : Type 0 where
+  pub formed : formOf T ≡ WellFormed h
+  pub accepts : faults T ≡ []
+  pub lent : Lent cs vs
+  pub none : entryRefusals h (environmentOf T h) D cs vs os ≡ []
+  pub ends : W ≡ endsOf (environmentOf T h)
+  pub slice : List ℕ
+  pub room : 2 * h .statements ≤ length slice
+  pub successors : S ≡ written (tableFlow T h) slice
+
+pub launched : {T : List ℤ} {h : Sections} {D cs vs os W S : List ℕ} {E′ : Environment} {v : EntryVerdict} {b : Bool} (w : List ℕ)
+    → formOf T ≡ WellFormed h → faults T ≡ [] → Lent cs vs → E′ ≡ environmentOf T h → v ≡ entered (entryRefusals h E′ D cs vs os) → v ≡ entry.Begun → W ≡ endsOf E′
+    → Written T h w b S → length w ≡ 2048 → Launched T h D cs vs os W S
+launched {T} {h} {D} {cs} {vs} {os} {W} {S} {E′} {v} w f a l e q g k s n =
+    let room : 2 * h .statements ≤ length w = omega (arith, well-formed T h f .limits .statements) in
+    record {
+      formed = f;
+      accepts = a;
+      lent = l;
+      none = rw e at (entered-none (entryRefusals h E′ D cs vs os) (sym q ∙ g));
+      ends = k ∙ ap endsOf e;
+      slice = w;
+      room = room;
+      successors = rw (le-leb (2 * h .statements) (length w) room) at (s .entries);
+    }
+
+module _ {T : List ℤ} {h : Sections} {D cs vs os W S : List ℕ} (L : Launched T h D cs vs os W S) (limit : ℕ) where
+  pub launched-ready : Prepared h W D S vs × SafeRun T h W D S limit 0 vs cs
+  launched-ready = rw (L .ends, L .successors) (
+    run-prepared T h (L .formed) (L .accepts) D cs vs os (L .lent) (L .none) (L .slice) (L .room),
+    run-safe T h (L .formed) (L .accepts) D cs vs os (L .lent) (L .none) (L .slice) (L .room) limit,
+  )
+
+  pub launched-ran : {r : Outcome} {vs′ cs′ : List ℕ} → Ends (bareRun T h W D S limit 0 0 vs cs) r vs′ cs′ → RunAnswer (runFaults T D cs vs os) T D cs vs os limit r vs′ cs′
+  launched-ran {r} {vs′} {cs′} e =
+      begun-ran T h D cs vs os limit r vs′ cs′ (L .formed) (L .accepts) (L .none)
+      (run-claim T h (L .formed) (L .accepts) D cs vs os (L .lent) (L .none) (L .slice) (L .room) limit r vs′ cs′ (rw (L .ends, L .successors) at e))

@@ -1,0 +1,238 @@
+-- The paper's section "The plain machine", sentence by sentence.
+use Prim.Native.Nat.{ℕ, zero, suc, _+_, _-_, _*_, _%_, _^_}
+use mathlib.Core.Bool.{Bool, true, false, not, _&&_, _||_}
+use mathlib.Core.List.{List, [], _∷_}
+use lib.Dec.{leb, ltb, eqb}
+use lib.IntN.{ℤ}
+use lib.ListN.{length, getD, set}
+use Rattle.facts.specs.Numbers.{bias, maxValue}
+use Rattle.table.specs.Statements.{statementAt}
+use Rattle.table.specs.declared.Sections.{Sections}
+use Rattle.table.specs.declared.End.{End}
+use Rattle.table.specs.declared.Condition.{Condition}
+use Rattle.table.specs.declared.Simple.{Simple}
+use Rattle.table.specs.declared.Simple.the-variants.{Literal, AddConstant, Arithmetic, Null, Address, PointerOffset, PointerIndex, Load, Store, Check}
+use Rattle.table.specs.declared.Statement.the-variants.{Plain, If, While, Bundle}
+use Rattle.table.specs.declared.StatementRead.{StatementRead}
+use Rattle.table.specs.declared.StatementRead.the-variants.{Read, Unread}
+use Rattle.blocks.specs.Flow.{Successors, successors, tableFlow, tableEntry}
+use Rattle.checker.specs.BoundsRules.{declared}
+use Rattle.checker.specs.declared.KnownEnd.{KnownEnd}
+use Rattle.checker.specs.declared.KnownEnd.the-variants.{Known, Unknown}
+use Rattle.checker.specs.declared.Environment.{Environment}
+
+-- ---- values, ends and objects
+
+-- The value of a variable; the number 16, which no variable has, stands for zero.
+abbrev pub value : List ℕ → ℕ → ℕ
+value vs x = getD vs x 0
+
+-- "An end's value is the whole number pointer + integer + k, never wrapped; null is 0, a missing integer is 0." With the bias.
+abbrev pub endValue : List ℕ → End → ℕ
+endValue vs e = value vs (e .pointer) + value vs (e .integer) + e .constant
+
+-- The end of a declared bound; an integer has none.
+abbrev pub endOf : KnownEnd → End
+endOf (Known e) = e
+endOf Unknown = record { pointer = 0; integer = 0; constant = 0 }
+
+abbrev pub lowerEnd : Environment → List ℕ → ℕ → ℕ
+lowerEnd E vs p = endValue vs (endOf (declared E p .lower))
+
+abbrev pub upperEnd : Environment → List ℕ → ℕ → ℕ
+upperEnd E vs p = endValue vs (endOf (declared E p .upper))
+
+-- "The memory directory is one pair of offset and length per object": object o is the cells low to high - 1.
+abbrev pub low : List ℕ → ℕ → ℕ
+low D o = getD D (2 * o) 0
+
+abbrev pub high : List ℕ → ℕ → ℕ
+high D o = getD D (2 * o) 0 + getD D (2 * o + 1) 0
+
+-- "Bounds of p are true when p is null or its origin object [low, high) has low <= lower end and upper end <= high." Origin 0 is no object.
+unfoldable pub originHolds : List ℕ → ℕ → ℕ → ℕ → Bool
+originHolds D zero l u = false
+originHolds D (suc o) l u = leb (low D o + bias) l && leb u (high D o + bias)
+
+unfoldable pub boundsTrue : Environment → List ℕ → List ℕ → List ℕ → ℕ → Bool
+boundsTrue E D vs os p = eqb (value vs p) 0 || originHolds D (getD os p 0) (lowerEnd E vs p) (upperEnd E vs p)
+
+-- The address, with the bias, lies in the object of the origin.
+unfoldable pub inOrigin : List ℕ → ℕ → ℕ → Bool
+inOrigin D zero a = false
+inOrigin D (suc o) a = leb (low D o + bias) a && ltb a (high D o + bias)
+
+-- ---- "Conditions compare values, pointers by address."
+
+unfoldable pub relates : ℕ → ℕ → ℕ → Bool
+relates zero a b = ltb a b
+relates (suc zero) a b = leb b a
+relates (suc (suc zero)) a b = ltb b a
+relates (suc (suc (suc zero))) a b = leb a b
+relates (suc (suc (suc (suc zero)))) a b = eqb a b
+relates (suc (suc (suc (suc (suc n))))) a b = not (eqb a b)
+
+unfoldable pub conditionHolds : List ℕ → Condition → Bool
+conditionHolds vs c = relates (c .relation) (value vs (c .left)) (value vs (c .right) + c .offset)
+
+-- ---- the five checks
+
+-- The first named check that fails, by its number.
+pub data Failing : Type 0 where
+  none : Failing
+  fails : ℕ → Failing
+
+abbrev pub firstOf : Bool → ℕ → Failing → Failing
+firstOf true n rest = fails n
+firstOf false n rest = rest
+
+abbrev pub firstUnless : Bool → Failing → Failing
+firstUnless true rest = none
+firstUnless false rest = rest
+
+-- The address p + i + k of an access, with the bias.
+abbrev pub address : List ℕ → ℕ → ℕ → ℕ → ℕ
+address vs p i k = value vs p + value vs i + k
+
+-- "2 access through null; 3 address p + i + k below the lower end or not below the upper"
+unfoldable pub accessFailing : Environment → List ℕ → ℕ → ℕ → Failing
+accessFailing E vs p a = firstOf (eqb (value vs p) 0) 2 (firstOf (ltb a (lowerEnd E vs p) || leb (upperEnd E vs p) a) 3 none)
+
+-- "4 arithmetic on null; 5 result outside 1 to 4,294,967,295": the result with the bias.
+unfoldable pub arithmeticFailing : ℕ → ℕ → Failing
+arithmeticFailing q a = firstOf (eqb q 0) 4 (firstOf (leb a bias || ltb (bias + maxValue) a) 5 none)
+
+unfoldable pub failing : Environment → List ℕ → Simple → Failing
+failing E vs (Literal x k) = none
+failing E vs (AddConstant x y k) = none
+failing E vs (Arithmetic x y z op) = none
+failing E vs (Null p) = none
+failing E vs (Address p o) = none
+-- "(kind 6 with k not 0, kind 7)"
+failing E vs (PointerOffset p q k) = firstUnless (eqb k bias) (arithmeticFailing (value vs q) (value vs q + k))
+failing E vs (PointerIndex p q i) = arithmeticFailing (value vs q) (value vs q + value vs i + bias)
+failing E vs (Load x p i k) = accessFailing E vs p (address vs p i k)
+failing E vs (Store p i k x) = accessFailing E vs p (address vs p i k)
+-- "1 dynamic check false"
+failing E vs (Check c) = firstOf (not (conditionHolds vs c)) 1 none
+
+-- ---- the state
+
+-- "Its state: cells, values, origins, the statement due, the steps"; and whether a check stopped it, or it has no step.
+pub data Status : Type 0 where
+  going : Status
+  stopped : ℕ → Status
+  stuck : Status
+
+pub record Point : Type 0 where
+  pub cells : List ℕ
+  pub values : List ℕ
+  pub origins : List ℕ
+  pub due : ℕ
+  pub steps : ℕ
+  pub status : Status
+
+-- What a statement of kinds 1 to 10 leaves, where no check fails.
+pub record Memory : Type 0 where
+  pub cells : List ℕ
+  pub values : List ℕ
+  pub origins : List ℕ
+
+pub data Performed : Type 0 where
+  done : Memory → Performed
+  no-step : Performed
+
+abbrev pub setInteger : Memory → ℕ → ℕ → Performed
+setInteger m x a = done (record { cells = m .cells; values = set (m .values) x a; origins = m .origins })
+
+abbrev pub setPointer : Memory → ℕ → ℕ → ℕ → Performed
+setPointer m p a o = done (record { cells = m .cells; values = set (m .values) p a; origins = set (m .origins) p o })
+
+-- "op (0 add, 1 subtract, 2 multiply)", "modulo 4,294,967,296"
+unfoldable pub combined : ℕ → ℕ → ℕ → ℕ
+combined zero a b = (a + b) % 2 ^ 32
+combined (suc zero) a b = (a + 2 ^ 32 - b) % 2 ^ 32
+combined (suc (suc n)) a b = a * b % 2 ^ 32
+
+abbrev pub stepIf : Bool → Performed → Performed
+stepIf true p = p
+stepIf false p = no-step
+
+-- "Kinds 1 to 3 set x, modulo 4,294,967,296. Kind 4 gives p 0 and origin 0; kind 5 the offset of o and origin o + 1; 6 and 7 the whole number q + k or
+-- q + i and q's origin. Kinds 8 and 9 read or write the cell at the whole number p + i + k; where no check fails, they have a step only if it lies in
+-- p's origin object. Kind 10 changes nothing."
+unfoldable pub performed : List ℕ → Simple → Memory → Performed
+performed D (Literal x k) m = setInteger m x k
+performed D (AddConstant x y k) m = setInteger m x ((value (m .values) y + k) % 2 ^ 32)
+performed D (Arithmetic x y z op) m = setInteger m x (combined op (value (m .values) y) (value (m .values) z))
+performed D (Null p) m = setPointer m p 0 0
+performed D (Address p o) m = setPointer m p (low D o) (o + 1)
+performed D (PointerOffset p q k) m = setPointer m p (value (m .values) q + k - bias) (getD (m .origins) q 0)
+performed D (PointerIndex p q i) m = setPointer m p (value (m .values) q + value (m .values) i) (getD (m .origins) q 0)
+performed D (Load x p i k) m =
+    stepIf (inOrigin D (getD (m .origins) p 0) (address (m .values) p i k)) (setInteger m x (getD (m .cells) (address (m .values) p i k - bias) 0))
+performed D (Store p i k x) m =
+    stepIf (inOrigin D (getD (m .origins) p 0) (address (m .values) p i k))
+    (done (record { cells = set (m .cells) (address (m .values) p i k - bias) (value (m .values) x); values = m .values; origins = m .origins }))
+performed D (Check c) m = done m
+
+-- ---- steps. The machine is fed the routine (T, with its sections h and what it declares, E), the directory D, and a point.
+
+abbrev pub memoryOf : Point → Memory
+memoryOf P = record { cells = P .cells; values = P .values; origins = P .origins }
+
+-- "Each statement begun is one step": the point after a step to the statement n.
+abbrev pub moved : Point → Memory → ℕ → Point
+moved P m n = record { cells = m .cells; values = m .values; origins = m .origins; due = n; steps = P .steps + 1; status = going }
+
+-- "The stopping statement is counted and changes nothing"; "a stopped run's statement stays due".
+abbrev pub halted : Point → ℕ → Point
+halted P n = record { cells = P .cells; values = P .values; origins = P .origins; due = P .due; steps = P .steps + 1; status = stopped n }
+
+abbrev pub lost : Point → Point
+lost P = record { cells = P .cells; values = P .values; origins = P .origins; due = P .due; steps = P .steps; status = stuck }
+
+abbrev pub afterPerformed : Point → ℕ → Performed → Point
+afterPerformed P n (done m) = moved P m n
+afterPerformed P n no-step = lost P
+
+abbrev pub afterChecks : Failing → Point → ℕ → Performed → Point
+afterChecks (fails n) P next p = halted P n
+afterChecks none P next p = afterPerformed P next p
+
+abbrev pub branched : Bool → Point → Successors → Point
+branched true P s = moved P (memoryOf P) (s .next)
+branched false P s = moved P (memoryOf P) (s .other)
+
+-- "An if, a bundle, or a while whose condition holds makes its block (of an if the chosen one) due from its first statement. After any other statement, and
+-- after a while whose condition fails, the next in the same block is due." The successors are those of the flow.
+unfoldable pub statementStep : Environment → List ℕ → StatementRead → Successors → Point → Point
+statementStep E D (Read (Plain s)) n P = afterChecks (failing E (P .values) s) P (n .next) (performed D s (memoryOf P))
+statementStep E D (Read (If c x y)) n P = branched (conditionHolds (P .values) c) P n
+statementStep E D (Read (While c x)) n P = branched (conditionHolds (P .values) c) P n
+statementStep E D (Read (Bundle x)) n P = moved P (memoryOf P) (n .next)
+statementStep E D Unread n P = lost P
+
+module _ (T : List ℤ) (h : Sections) (E : Environment) (D : List ℕ) where
+  abbrev pub successorsOf : ℕ → Successors
+  successorsOf a = getD (tableFlow T h) a (successors 0 0 0)
+
+  -- A step from a point where a statement is due; the number past the last one is "nothing".
+  abbrev pub stepIfDue : Bool → Point → Point
+  stepIfDue true P = statementStep E D (statementAt T h (P .due)) (successorsOf (P .due)) P
+  stepIfDue false P = P
+
+  -- The next point; a run that has ended stays where it is.
+  unfoldable pub nextPoint : Status → Point → Point
+  nextPoint going P = stepIfDue (ltb (P .due) (h .statements)) P
+  nextPoint (stopped n) P = P
+  nextPoint stuck P = P
+
+  -- "at the start what was lent, the first statement (in an empty table nothing), 0"
+  unfoldable pub start : List ℕ → List ℕ → List ℕ → Point
+  start cs vs os = record { cells = cs; values = vs; origins = os; due = tableEntry T h; steps = 0; status = going }
+
+  -- "Its points are the start and what each step leaves": the point after t steps, or where the run ended before.
+  unfoldable pub pointAfter : ℕ → Point → Point
+  pointAfter zero P = P
+  pointAfter (suc t) P = let Q = pointAfter t P in nextPoint (Q .status) Q

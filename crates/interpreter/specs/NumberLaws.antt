@@ -1,0 +1,118 @@
+-- A run stops with a check of number 1 to 5, which the enum of checks holds with its statement.
+use Prim.Native.Nat.{ℕ, zero, suc, _≤_}
+use mathlib.Core.Path.{_≡_, refl, sym, subst}
+use mathlib.Core.Bool.{Bool, true, false, not, _||_}
+use mathlib.Core.List.{List}
+use native.Mathlib.Omega.{arith}
+use lib.Dec.{leb, ltb, eqb}
+use lib.IntN.{ℤ}
+use Rattle.facts.specs.Numbers.{bias}
+use Rattle.table.specs.Statements.{statementAt}
+use Rattle.table.specs.declared.Sections.{Sections}
+use Rattle.table.specs.declared.Simple.{Simple}
+use Rattle.table.specs.declared.Simple.the-variants.{Literal, AddConstant, Arithmetic, Null, Address, PointerOffset, PointerIndex, Load, Store, Check}
+use Rattle.table.specs.declared.Statement.the-variants.{Plain, If, While, Bundle}
+use Rattle.table.specs.declared.StatementRead.{StatementRead}
+use Rattle.table.specs.declared.StatementRead.the-variants.{Read, Unread}
+use Rattle.blocks.specs.Flow.{Successors}
+use Rattle.checker.specs.declared.Environment.{Environment}
+use Rattle.interpreter.specs.Machine.{value, address, lowerEnd, upperEnd, conditionHolds, Failing, none, fails, firstOf, firstUnless, accessFailing, arithmeticFailing, failing, Status, going, stopped, stuck, Point, Performed, done, no-step, performed, memoryOf, afterPerformed, afterChecks, branched, statementStep, successorsOf, stepIfDue, nextPoint, pointAfter}
+use Rattle.interpreter.specs.Checks.{checkNumber, checkStatement, checkOf}
+
+pub number-of : (n a : ℕ) → 1 ≤ n → n ≤ 5 → checkNumber (checkOf n a) ≡ n
+number-of zero a p q = absurd (omega arith)
+number-of (suc zero) a p q = refl
+number-of (suc (suc zero)) a p q = refl
+number-of (suc (suc (suc zero))) a p q = refl
+number-of (suc (suc (suc (suc zero)))) a p q = refl
+number-of (suc (suc (suc (suc (suc zero))))) a p q = refl
+number-of (suc (suc (suc (suc (suc (suc n)))))) a p q = absurd (omega arith)
+
+pub statement-of : (n a : ℕ) → checkStatement (checkOf n a) ≡ a
+statement-of zero a = refl
+statement-of (suc zero) a = refl
+statement-of (suc (suc zero)) a = refl
+statement-of (suc (suc (suc zero))) a = refl
+statement-of (suc (suc (suc (suc zero)))) a = refl
+statement-of (suc (suc (suc (suc (suc n))))) a = refl
+
+abbrev Numbered : Failing → Type 0
+Numbered none = Unit {0}
+Numbered (fails n) = (1 ≤ n) × (n ≤ 5)
+
+first-numbered : (b : Bool) (n : ℕ) (f : Failing) → 1 ≤ n → n ≤ 5 → Numbered f → Numbered (firstOf b n f)
+first-numbered true n f p q r = (p, q)
+first-numbered false n f p q r = r
+
+access-numbered : (E : Environment) (vs : List ℕ) (p a : ℕ) → Numbered (accessFailing E vs p a)
+unfolding accessFailing
+access-numbered E vs p a =
+    first-numbered (eqb (value vs p) 0) 2 _ (omega arith) (omega arith)
+    (first-numbered (ltb a (lowerEnd E vs p) || leb (upperEnd E vs p) a) 3 none (omega arith) (omega arith) tt)
+
+arithmetic-numbered : (q a : ℕ) → Numbered (arithmeticFailing q a)
+unfolding arithmeticFailing
+arithmetic-numbered q a =
+    first-numbered (eqb q 0) 4 _ (omega arith) (omega arith) (first-numbered (leb a bias || ltb _ a) 5 none (omega arith) (omega arith) tt)
+
+unless-numbered : (b : Bool) (f : Failing) → Numbered f → Numbered (firstUnless b f)
+unless-numbered true f n = tt
+unless-numbered false f n = n
+
+failing-numbered : (E : Environment) (vs : List ℕ) (s : Simple) → Numbered (failing E vs s)
+unfolding failing
+failing-numbered E vs (Literal x k) = tt
+failing-numbered E vs (AddConstant x y k) = tt
+failing-numbered E vs (Arithmetic x y z op) = tt
+failing-numbered E vs (Null p) = tt
+failing-numbered E vs (Address p o) = tt
+failing-numbered E vs (PointerOffset p q k) = unless-numbered (eqb k bias) _ (arithmetic-numbered _ _)
+failing-numbered E vs (PointerIndex p q i) = arithmetic-numbered _ _
+failing-numbered E vs (Load x p i k) = access-numbered E vs p (address vs p i k)
+failing-numbered E vs (Store p i k x) = access-numbered E vs p (address vs p i k)
+failing-numbered E vs (Check c) = first-numbered (not (conditionHolds vs c)) 1 none (omega arith) (omega arith) tt
+
+abbrev Held : Status → Type 0
+Held going = Unit {0}
+Held (stopped n) = (1 ≤ n) × (n ≤ 5)
+Held stuck = Unit {0}
+
+performed-held : (P : Point) (n : ℕ) (p : Performed) → Held (afterPerformed P n p .status)
+performed-held P n (done m) = tt
+performed-held P n no-step = tt
+
+checks-held : (f : Failing) (P : Point) (n : ℕ) (p : Performed) → Numbered f → Held (afterChecks f P n p .status)
+checks-held (fails k) P n p h = h
+checks-held none P n p h = performed-held P n p
+
+branched-held : (b : Bool) (P : Point) (n : Successors) → Held (branched b P n .status)
+branched-held true P n = tt
+branched-held false P n = tt
+
+statement-held : (E : Environment) (D : List ℕ) (s : StatementRead) (n : Successors) (P : Point) → Held (statementStep E D s n P .status)
+unfolding statementStep
+statement-held E D (Read (Plain s)) n P = checks-held (failing E (P .values) s) P (n .next) (performed D s (memoryOf P)) (failing-numbered E (P .values) s)
+statement-held E D (Read (If c x y)) n P = branched-held (conditionHolds (P .values) c) P n
+statement-held E D (Read (While c x)) n P = branched-held (conditionHolds (P .values) c) P n
+statement-held E D (Read (Bundle x)) n P = tt
+statement-held E D Unread n P = tt
+
+module _ (T : List ℤ) (h : Sections) (E : Environment) (D : List ℕ) where
+  due-held : (b : Bool) (P : Point) → Held (P .status) → Held (stepIfDue T h E D b P .status)
+  due-held true P k = statement-held E D (statementAt T h (P .due)) (successorsOf T h E D (P .due)) P
+  due-held false P k = k
+
+  next-held : (s : Status) (P : Point) → Held (P .status) → Held (nextPoint T h E D s P .status)
+  unfolding nextPoint
+  next-held going P k = due-held (ltb (P .due) (h .statements)) P k
+  next-held (stopped n) P k = k
+  next-held stuck P k = k
+
+  point-held : (t : ℕ) (P : Point) → Held (P .status) → Held (pointAfter T h E D t P .status)
+  unfolding pointAfter
+  point-held zero P k = k
+  point-held (suc t) P k = next-held (pointAfter T h E D t P .status) (pointAfter T h E D t P) (point-held t P k)
+
+  -- A point of a run that stopped has one of the five numbers.
+  pub stopped-number : (t n : ℕ) (P : Point) → P .status ≡ going → pointAfter T h E D t P .status ≡ stopped n → (1 ≤ n) × (n ≤ 5)
+  stopped-number t n P g e = subst Held e (point-held t P (subst Held (sym g) tt))

@@ -1,0 +1,155 @@
+-- What a run that is begun has at its start, and the whole run from there.
+use Prim.Native.Nat.{ℕ, zero, suc, _+_, _*_, _<_, _≤_}
+use mathlib.Core.Path.{_≡_, refl, sym, ap, subst, _∙_}
+use mathlib.Core.Bool.{Bool, true, false, not, _&&_}
+use mathlib.Core.List.{List, [], _∷_, _++_}
+use mathlib.Core.Logic.{⊎-elim}
+use native.Mathlib.Nat.{eq-or-lt-of-le}
+use native.Mathlib.Omega.{arith}
+use borrow.Author.Tests.{ltb-true, ltb-false, leb-true, eqb-true}
+use lib.Dec.{leb, ltb, eqb}
+use lib.IntN.{ℤ}
+use lib.ListN.{length, getD, List·getD-eq-default}
+use Rattle.table.specs.SectionsLaws.{both}
+use Rattle.table.specs.FormLaws.{Formed}
+use Rattle.table.specs.declared.Sections.{Sections}
+use Rattle.table.specs.declared.Refusal.{Refusal}
+use Rattle.table.specs.declared.Refusal.the-variants.{MemorySize, DirectoryPair, EntryLengths, EntryValue}
+use Rattle.blocks.specs.Tree.{tree}
+use Rattle.blocks.specs.Layout.{layout}
+use Rattle.blocks.specs.Flow.{successors, tableFlow, tableEntry, written}
+use Rattle.blocks.specs.FlowLaws.{begins, length-written}
+use Rattle.blocks.specs.SuccessorLaws.{written-at}
+use Rattle.checker.specs.BoundsRules.{isPointer, objectLength}
+use Rattle.checker.specs.Verdict.{environmentOf}
+use Rattle.checker.specs.declared.Environment.{Environment}
+use Rattle.interpreter.specs.Machine.{value, high, boundsTrue, stuck, start, pointAfter}
+use Rattle.interpreter.specs.Entry.{memoryRight, endBefore, pairRight, lengthsRight, pickBool, entryRight, consUnless, failures, entryRefusals}
+use Rattle.interpreter.specs.Bare.{Prepared, bareRun, SafeRun}
+use Rattle.interpreter.specs.Ends.{endsOf}
+use Rattle.interpreter.specs.EndsLaws.{ends-long, ends-small}
+use Rattle.interpreter.specs.Agreement.{resultShown, Runnable}
+use Rattle.interpreter.specs.AgreementLaws.{safe-run, run-agrees}
+
+-- "the first statement (in an empty table nothing)": the number 0 in both cases.
+pub first-due : (T : List ℤ) (h : Sections) → 0 ≡ tableEntry T h
+unfolding tableEntry tree
+first-due T h =
+    begins (h .statements) T h 0 (h .statements) (record { none = λ l. omega arith; end = λ l. omega arith; some = λ l m. refl })
+
+-- ---- an entry with no refusal
+
+no-cons : (b : Bool) (r : Refusal) (rs : List Refusal) → consUnless b r rs ≡ [] → (b ≡ true) × (rs ≡ [])
+no-cons true r rs e = (refl, e)
+no-cons false r rs e = let z : _≡_ {A = ℕ} 0 1 = cc in absurd (omega arith)
+
+no-append : (xs ys : List Refusal) → xs ++ ys ≡ [] → (xs ≡ []) × (ys ≡ [])
+no-append [] ys e = (refl, e)
+no-append (x ∷ xs) ys e = let z : _≡_ {A = ℕ} 0 1 = cc in absurd (omega arith)
+
+none-fails : (right : ℕ → Bool) (r : ℕ → Refusal) (n i j : ℕ) → failures right r n i ≡ [] → i ≤ j → j < i + n → right j ≡ true
+unfolding failures
+none-fails right r zero i j e p q = absurd (omega arith)
+none-fails right r (suc n) i j e p q =
+    let c = no-cons (right i) (r i) (failures right r n (i + 1)) e in
+    ⊎-elim (λ (g : i ≡ j). rw g at (c .0)) (λ (l : i < j). none-fails right r n (i + 1) j (c .1) (omega arith) (omega arith)) (eq-or-lt-of-le p)
+
+-- What causes 10 to 12 leave.
+pub record Admitted (h : Sections) (E : Environment) (D cs vs os : List ℕ) : Type 0 where
+  pub memory : length cs ≤ 16777216
+  pub pairs : length D ≡ 2 * h .objects
+  pub objects : (o : ℕ) → o < h .objects → pairRight E D cs o ≡ true
+  pub values : length vs ≡ h .variables
+  pub origins : length os ≡ h .variables
+  pub entries : (v : ℕ) → v < h .variables → entryRight h E D vs os v ≡ true
+
+pub admitted : (h : Sections) (E : Environment) (D cs vs os : List ℕ) → entryRefusals h E D cs vs os ≡ [] → Admitted h E D cs vs os
+unfolding entryRefusals memoryRight lengthsRight
+admitted h E D cs vs os e =
+    let m = no-cons (memoryRight h D cs) MemorySize _ e in
+    let p = no-append (failures (pairRight E D cs) DirectoryPair (h .objects) 0) _ (m .1) in
+    let l = no-cons (lengthsRight h vs os) EntryLengths _ (p .1) in
+    let a = both (leb (length cs) 16777216) (eqb (length D) (2 * h .objects)) (m .0) in
+    let b = both (eqb (length vs) (h .variables)) (eqb (length os) (h .variables)) (l .0) in
+    record {
+      memory = leb-true _ _ (a .0);
+      pairs = eqb-true _ _ (a .1);
+      objects = λ o q. none-fails (pairRight E D cs) DirectoryPair (h .objects) 0 o (p .0) (omega arith) (omega arith);
+      values = eqb-true _ _ (b .0);
+      origins = eqb-true _ _ (b .1);
+      entries = λ v q. none-fails (entryRight h E D vs os) EntryValue (h .variables) 0 v (l .1) (omega arith) (omega arith);
+    }
+
+module _ (h : Sections) (E : Environment) (D cs vs os : List ℕ) (A : Admitted h E D cs vs os) where
+  -- Each object lies in the memory.
+  pub object-inside : (o : ℕ) → o < h .objects → high D o ≤ length cs
+  unfolding pairRight
+  object-inside o l =
+      let e = both (leb (endBefore D o) (getD D (2 * o) 0) && leb (high D o) (length cs)) (eqb (getD D (2 * o + 1) 0) (objectLength E o)) (A .objects o l) in
+      leb-true _ _ (both (leb (endBefore D o) (getD D (2 * o) 0)) (leb (high D o) (length cs)) (e .0) .1)
+
+  entry-origin : (v : ℕ) → entryRight h E D vs os v ≡ true → getD os v 0 ≤ h .objects
+  unfolding entryRight
+  entry-origin v e = go (isPointer E v && not (eqb (value vs v) 0)) e
+    where
+      go : (b : Bool) → pickBool b (leb 1 (getD os v 0) && leb (getD os v 0) (h .objects) && boundsTrue E D vs os v) (eqb (getD os v 0) 0) ≡ true → getD os v 0 ≤ h .objects
+      go true e =
+          leb-true _ _ (both (leb 1 (getD os v 0)) (leb (getD os v 0) (h .objects)) (both (leb 1 (getD os v 0) && leb (getD os v 0) (h .objects)) (boundsTrue E D vs os v) e .0) .1)
+      go false e = let z : getD os v 0 ≡ 0 = eqb-true _ _ e in omega arith
+
+  -- Each origin is an object's number plus 1, or 0.
+  pub origin-inside : (v : ℕ) → getD os v 0 ≤ h .objects
+  origin-inside v = go (ltb v (h .variables)) (ltb-true v (h .variables)) (ltb-false v (h .variables))
+    where
+      go : (b : Bool) → (b ≡ true → v < h .variables) → (b ≡ false → h .variables ≤ v) → getD os v 0 ≤ h .objects
+      go true p q = entry-origin v (A .entries v (p refl))
+      go false p q =
+          let l = q refl in
+          let g : length os ≤ v = omega (arith, A .origins) in
+          omega (arith, List·getD-eq-default os 0 g)
+
+-- ---- the run
+
+module _ (T : List ℤ) (h : Sections) (D cs vs os w : List ℕ)
+    (formed : Formed T h) (laid : layout T h ≡ []) (room : 2 * h .statements ≤ length w) (A : Admitted h (environmentOf T h) D cs vs os) where
+  abbrev E : Environment
+  E = environmentOf T h
+
+  abbrev W : List ℕ
+  W = endsOf E
+
+  abbrev S : List ℕ
+  S = written (tableFlow T h) w
+
+  -- What the code's run asks of its slices.
+  pub start-prepared : Prepared h W D S vs
+  start-prepared =
+      record {
+        ends = ends-long E;
+        small = ends-small T h;
+        directory = omega (arith, A .pairs);
+        successors = omega (arith, length-written (tableFlow T h) w);
+        values = omega (arith, A .values);
+      }
+
+  module _ (unstuck : (t : ℕ) → pointAfter T h E D t (start T h E D cs vs os) .status ≡ stuck → ⊥) where
+    start-runnable : Runnable T h E D W S (start T h E D cs vs os)
+    unfolding start
+    start-runnable =
+        record {
+          ends = refl;
+          successors = λ a l. written-at T h laid w (omega (arith, formed .limits .statements)) room a (successors 0 0 0) l;
+          reads = formed .statements;
+          objects = object-inside h E D cs vs os A;
+          origins = origin-inside h E D cs vs os A;
+          unstuck = unstuck;
+        }
+
+    -- Where the plain machine is never stuck, the code's run is safe, and ends as the plain machine's point at the limit shows.
+    pub start-safe : (l : ℕ) → SafeRun T h W D S l 0 vs cs
+    unfolding start
+    start-safe l = subst (λ (a : ℕ). SafeRun T h W D S l a vs cs) (sym (first-due T h)) (safe-run T h E D W S l (start T h E D cs vs os) refl start-runnable)
+
+    pub start-agrees : (l : ℕ) → bareRun T h W D S l 0 0 vs cs ≡ resultShown h (pointAfter T h E D l (start T h E D cs vs os))
+    unfolding start
+    start-agrees l = ap (λ (a : ℕ). bareRun T h W D S l 0 a vs cs) (first-due T h) ∙ run-agrees T h E D W S l (start T h E D cs vs os) refl start-runnable

@@ -1,0 +1,129 @@
+// The interpreter: causes 10 to 12, the run of an accepted routine, and its outcome.
+mod advance; // advance.rt: one step
+mod bounds; // bounds.rt: whether declared bounds are true at entry
+mod checks; // checks.rt: the five checks
+mod ends; // ends.rt: declared bounds laid out for the loop
+mod entry; // entry.rt: causes 10 to 12
+mod numbers; // numbers.rt: values, sums and conditions
+mod resume; // resume.rt: the run up to a limit
+
+use blocks::write_successors;
+use checker::Verdict;
+use checker::check;
+use checker::read_environment;
+use ends::lay_ends;
+use entry::enter;
+use resume::resume;
+use table::Form;
+use table::Refusal;
+use table::Sections;
+use table::read_form;
+ghost use mathlib.Core.Path.{_≡_};
+ghost use mathlib.Core.List.{[]};
+ghost use Rattle.table.specs.Form.{formOf};
+ghost use Rattle.table.specs.declared.Form.the-variants.{WellFormed};
+ghost use Rattle.checker.specs.Verdict.{faults};
+ghost use Rattle.interpreter.specs.Claim.{runFaults, RunAnswer};
+
+// The named checks, each with the statement at which it fails.
+pub enum Check {
+    ConditionFalse(usize),
+    NullAccess(usize),
+    OutOfBounds(usize),
+    NullArithmetic(usize),
+    AddressRange(usize),
+}
+
+// What a step says: the statement due after it, or the check that fails.
+pub enum Step {
+    Go(usize),
+    Stop(Check),
+}
+
+// What causes 10 to 12 say of what is lent.
+pub enum EntryVerdict {
+    Begun,
+    Refused(Refusal),
+}
+
+pub enum Outcome {
+    Refused(Refusal),
+    Done { steps: u32 },
+    Spent { steps: u32, statement: usize },
+    Stopped { steps: u32, check: Check },
+}
+
+// A run of an accepted table of these sections: causes 10 to 12, then the steps.
+fn run_sections(
+    table: &[i32],
+    sections: Sections,
+    directory: &[u32],
+    cells: &mut [u32],
+    values: &mut [u32],
+    origins: &[u32],
+    limit: u32,
+) -> Outcome
+    requires { ⌜ (formOf (now table) ≡ WellFormed sections) × (faults (now table) ≡ []) ⌝ }
+    ensures { λ r. ⌜ RunAnswer (runFaults (now (table .entry)) (now (directory .entry)) (now (cells .entry)) (now (values .entry)) (now (origins .entry))) (now (table .entry)) (now (directory .entry)) (now (cells .entry)) (now (values .entry)) (now (origins .entry)) limit r (now (values .exit)) (now (cells .exit)) ⌝ }
+{
+    let environment = read_environment(table, sections);
+    let entry = enter(sections, environment, directory, cells, values, origins);
+    match entry {
+        EntryVerdict::Refused(refusal) => Outcome::Refused(refusal),
+        EntryVerdict::Begun => {
+            let ends = lay_ends(environment);
+            let mut successors = [0u32; 2048];
+            write_successors(table, sections, &mut successors);
+            resume(
+                table,
+                sections,
+                &ends,
+                directory,
+                &successors,
+                0,
+                values,
+                cells,
+                limit,
+            )
+        }
+    }
+}
+
+// A run of an accepted table. (Its form is right, so the first arm is never taken; it answers what it would mean.)
+fn run_accepted(
+    table: &[i32],
+    directory: &[u32],
+    cells: &mut [u32],
+    values: &mut [u32],
+    origins: &[u32],
+    limit: u32,
+) -> Outcome
+    requires { ⌜ faults (now table) ≡ [] ⌝ }
+    ensures { λ r. ⌜ RunAnswer (runFaults (now (table .entry)) (now (directory .entry)) (now (cells .entry)) (now (values .entry)) (now (origins .entry))) (now (table .entry)) (now (directory .entry)) (now (cells .entry)) (now (values .entry)) (now (origins .entry)) limit r (now (values .exit)) (now (cells .exit)) ⌝ }
+{
+    let form = read_form(table);
+    match form {
+        Form::Refused(refusal) => Outcome::Refused(refusal),
+        Form::WellFormed(sections) => {
+            run_sections(table, sections, directory, cells, values, origins, limit)
+        }
+    }
+}
+
+// Checks the routine and what is lent, then runs it, `limit` steps at most. Cells and values are changed in place; a refusal changes nothing.
+pub fn run(
+    table: &[i32],
+    directory: &[u32],
+    cells: &mut [u32],
+    values: &mut [u32],
+    origins: &[u32],
+    limit: u32,
+) -> Outcome
+    ensures { λ r. ⌜ RunAnswer (runFaults (now (table .entry)) (now (directory .entry)) (now (cells .entry)) (now (values .entry)) (now (origins .entry))) (now (table .entry)) (now (directory .entry)) (now (cells .entry)) (now (values .entry)) (now (origins .entry)) limit r (now (values .exit)) (now (cells .exit)) ⌝ }
+{
+    let verdict = check(table);
+    match verdict {
+        Verdict::Refused(refusal) => Outcome::Refused(refusal),
+        Verdict::Accepted => run_accepted(table, directory, cells, values, origins, limit),
+    }
+}

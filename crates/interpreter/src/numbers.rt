@@ -1,0 +1,70 @@
+// Values as whole numbers, sums and products modulo 2^32, and conditions.
+use table::Condition;
+ghost use mathlib.Core.Path.{_≡_};
+ghost use Prim.Native.Nat.{_+_, _^_, _%_, _<_};
+ghost use lib.ListN.{getD};
+ghost use Rattle.interpreter.specs.Machine.{relates, conditionHolds, combined};
+
+// Constants and addresses carry this bias, so that none is below 0.
+pub(crate) const BIAS: u64 = 8589934592;
+
+pub(crate) fn wide(x: u32) -> u64
+    ensures { λ r. ⌜ r ≡ x ⌝ }
+    ensures small { λ r. ⌜ r < 2 ^ 32 ⌝ }
+{
+    x as u64
+}
+
+// The value of a variable; 0 for the number that stands for zero.
+pub(crate) fn value_at(values: &[u32], x: usize) -> u64
+    ensures { λ r. ⌜ r ≡ getD (now (values .entry)) x 0 ⌝ }
+    ensures small { λ r. ⌜ r < 2 ^ 32 ⌝ }
+{
+    if x < values.len() {
+        return wide(values[x]);
+    }
+    0
+}
+
+// y + k, where k has the bias.
+pub(crate) fn add_constant(y: u32, k: u64) -> u32
+    requires { ⌜ k < 2 ^ 34 ⌝ }
+    ensures { λ r. ⌜ r ≡ (y + k) % 2 ^ 32 ⌝ }
+{
+    ((wide(y) + k) % 4294967296) as u32
+}
+
+// y op z.
+pub(crate) fn combine(operation: usize, y: u32, z: u32) -> u32
+    ensures { λ r. ⌜ r ≡ combined operation y z ⌝ }
+{
+    match operation {
+        0 => ((wide(y) + wide(z)) % 4294967296) as u32,
+        1 => ((wide(y) + 4294967296 - wide(z)) % 4294967296) as u32,
+        _ => (wide(y) * wide(z) % 4294967296) as u32,
+    }
+}
+
+fn relates(relation: usize, a: u64, b: u64) -> bool
+    ensures { λ r. ⌜ r ≡ relates relation a b ⌝ }
+{
+    match relation {
+        0 => a < b,
+        1 => a >= b,
+        2 => a > b,
+        3 => a <= b,
+        4 => a == b,
+        _ => a != b,
+    }
+}
+
+pub(crate) fn condition_holds(values: &[u32], c: Condition) -> bool
+    requires { ⌜ c .offset < 2 ^ 32 ⌝ }
+    ensures { λ r. ⌜ r ≡ conditionHolds (now (values .entry)) c ⌝ }
+{
+    relates(
+        c.relation,
+        value_at(values, c.left),
+        value_at(values, c.right) + c.offset,
+    )
+}
