@@ -32,8 +32,9 @@ use Rattle.interpreter.specs.Checks.{checkOf}
 use Rattle.interpreter.specs.Agreement.{stepShown, moveShown, pickOutcome, outcomeShown, resultShown, Runnable}
 use Rattle.interpreter.specs.Ends.{endsOf}
 use Rattle.interpreter.specs.EndsLaws.{failing-same}
+use Rattle.interpreter.specs.declared.Check.{Check}
 use Rattle.interpreter.specs.declared.Step.{Step}
-use Rattle.interpreter.specs.declared.Step.the-variants.{Go}
+use Rattle.interpreter.specs.declared.Step.the-variants.{Go, Stop}
 use Rattle.interpreter.specs.declared.Outcome.the-variants.{Done, Spent, Stopped}
 
 -- ---- what a statement of kinds 1 to 10 leaves
@@ -85,11 +86,22 @@ cells-kept (Test c) vs cs = refl
 -- ---- one step
 
 -- What holds of the point Q after a step from P whose move is m.
-record Stepped (P Q : Point) (k : ℕ) (m : Move) : Type 0 where
+pub record Stepped (P Q : Point) (k : ℕ) (m : Move) : Type 0 where
   pub same : m ≡ moveShown Q
   pub counted : Q .steps ≡ P .steps + 1
   pub long : length (Q .cells) ≡ length (P .cells)
   pub origins : (p : ℕ) → getD (Q .origins) p 0 ≤ k
+
+-- The step says `Go b` exactly where the point after it is going and b is due, and `Stop c` exactly where it is stopped by the check c.
+pub shown-go : (s : Status) (a b : ℕ) → (s ≡ stuck → ⊥) → stepShown s a ≡ Go b → (s ≡ going) × (a ≡ b)
+shown-go going a b u e = (refl, cc)
+shown-go (stopped k) a b u e = let z : _≡_ {A = ℕ} 0 1 = cc in absurd (omega arith)
+shown-go stuck a b u e = absurd (u refl)
+
+pub shown-stop : (s : Status) (a : ℕ) (c : Check) → (s ≡ stuck → ⊥) → stepShown s a ≡ Stop c → (n : ℕ) × (s ≡ stopped n) × (c ≡ checkOf n a)
+shown-stop going a c u e = let z : _≡_ {A = ℕ} 0 1 = cc in absurd (omega arith)
+shown-stop (stopped k) a c u e = (k, refl, cc)
+shown-stop stuck a c u e = absurd (u refl)
 
 move-same : (s : Step) (vs ws cs ds : List ℕ) → vs ≡ ws → cs ≡ ds → move s vs cs ≡ move s ws ds
 move-same s vs ws cs ds p q = rw (p, q)
@@ -111,7 +123,8 @@ module _ (T : List ℤ) (h : Sections) (E : Environment) (D W S : List ℕ) wher
   abbrev after : Point → Point
   after P = nextPoint T h E D (P .status) P
 
-  stepped : (P : Point) (s : Statement) (n : Successors) → W ≡ endsOf E → Limits h → WellTyped T h s → ((p : ℕ) → getD (P .origins) p 0 ≤ h .objects) →
+  -- A step from P whose statement is s, where the plain machine is not stuck after it.
+  pub stepped : (P : Point) (s : Statement) (n : Successors) → W ≡ endsOf E → Limits h → WellTyped T h s → ((p : ℕ) → getD (P .origins) p 0 ≤ h .objects) →
       (statementStep E D (Read s) n P .status ≡ stuck → ⊥) → Stepped P (statementStep E D (Read s) n P) (h .objects) (statementMove W D s (P .due) n (P .values) (P .cells))
   unfolding statementStep statementMove simpleMove
   stepped P (Plain s) n w l t o u =

@@ -1,0 +1,167 @@
+use crate::answer::show_check;
+use crate::generate::draft::*;
+use crate::{checker, fast_check};
+
+const P: i32 = 0;
+const N: i32 = 1;
+const X: i32 = 2;
+const Q: i32 = 3;
+
+/// Variables: p (0, count(n)), n (1), x (2), q (3) with p's bounds; object 0 has 10 cells.
+fn answer(statements: &[Vec<Record>]) -> String {
+    answer_with([1, 0, P, -1, 0, P, N, 0], statements)
+}
+
+fn answer_with(q: [i32; 8], statements: &[Vec<Record>]) -> String {
+    let draft = Draft {
+        objects: vec![10],
+        variables: vec![[1, 0, P, -1, 0, P, N, 0], [0; 8], [0; 8], q],
+        statements: statements.concat(),
+    };
+    let plain = checker::check(&draft.words());
+    assert_eq!(plain, fast_check::check(&draft.words()));
+    show_check(&plain)
+}
+
+/// q with bounds of its own: count(x).
+const OWN: [i32; 8] = [1, 0, Q, -1, 0, Q, X, 0];
+
+fn positive() -> Vec<Record> {
+    vec![dynamic_check(with_literal(N, GREATER, 0))]
+}
+
+fn impossible() -> Record {
+    dynamic_check(with_variable(X, LESS, X))
+}
+
+#[test]
+fn the_routines_of_the_paper() {
+    let lower = add_constant(N, N, -1);
+    let raise = move_pointer(P, P, 1);
+    let below_10 = vec![dynamic_check(with_literal(N, LESS, 10))];
+    let read = load(X, P, -1, 0);
+    let loop_k = while_loop(with_literal(N, GREATER, 0), vec![lower]);
+    let check_l = vec![dynamic_check(with_variable(N, LESS, N)), set(X, 1)];
+    for (name, routine, right) in [
+        ("a", vec![vec![lower]], "refused 8 0 {0}"),
+        ("b", vec![positive(), vec![lower]], "accepted"),
+        ("c", vec![below_10, vec![add_constant(N, N, 1)]], "refused 8 1 {0}"),
+        ("d", vec![vec![raise]], "refused 8 0 {0}"),
+        ("e", vec![positive(), bundle(vec![raise, lower])], "accepted"),
+        ("f", vec![positive(), bundle(vec![raise, read, lower])], "refused 9 3"),
+        ("g", vec![positive(), bundle(vec![lower, read, raise])], "accepted"),
+        ("h", vec![bundle(vec![address(P, 0), set(N, 10)])], "accepted"),
+        ("i", vec![bundle(vec![address(P, 0), set(N, 11)])], "refused 8 0 {0}"),
+        ("j", vec![vec![null(P), set(N, 5)]], "accepted"),
+        ("k", vec![loop_k], "accepted"),
+        ("l", vec![check_l], "refused 7 1"),
+    ] {
+        assert_eq!(answer_with([0; 8], &routine), right, "{name}");
+    }
+}
+
+#[test]
+fn a_pointer_is_moved_within_the_bounds_of_another() {
+    assert_eq!(answer(&[vec![move_pointer(Q, Q, 5), index_pointer(Q, P, X), null(Q)]]), "accepted");
+    // Moving the anchor takes both pointers' bounds.
+    assert_eq!(answer(&[vec![move_pointer(P, P, 1)]]), "refused 8 0 {0 3}");
+    assert_eq!(answer(&[vec![null(P), null(Q), set(N, 5)]]), "refused 8 0 {3}");
+}
+
+#[test]
+fn kind_4_makes_its_own_ends_unknown() {
+    let back = vec![null(P), move_pointer(P, P, 1), add_constant(N, N, -1)];
+    assert_eq!(answer_with([0; 8], &[positive(), bundle(back)]), "refused 8 1 {0}");
+}
+
+#[test]
+fn a_copy_takes_the_bounds_and_then_loses_ends_that_name_the_target() {
+    // q's bounds hang on p: copied to p they name p, which is assigned.
+    assert_eq!(answer(&[vec![move_pointer(P, Q, 0)]]), "refused 8 0 {0 3}");
+    // q with bounds of its own gives them to p, with its count.
+    let both = bundle(vec![move_pointer(P, Q, 0), add_constant(N, X, 0)]);
+    assert_eq!(answer_with(OWN, &[both]), "accepted");
+    let too_many = bundle(vec![move_pointer(P, Q, 0), add_constant(N, X, 1)]);
+    assert_eq!(answer_with(OWN, &[too_many]), "refused 8 0 {0}");
+}
+
+#[test]
+fn the_inverse_exists_only_where_facts_are_shifted() {
+    let around = |k| bundle(vec![add_constant(N, N, k), add_constant(N, N, -k)]);
+    assert_eq!(answer_with([0; 8], &[around(1)]), "refused 8 0 {0}");
+    let room = vec![dynamic_check(with_variable(N, LESS, X))];
+    assert_eq!(answer_with([0; 8], &[room.clone(), around(1)]), "accepted");
+    assert_eq!(answer_with([0; 8], &[room, around(2)]), "refused 8 1 {0}");
+    // The same value by another kind has no inverse.
+    let five = vec![dynamic_check(with_literal(N, EQUAL, 5)), set(N, 5)];
+    assert_eq!(answer_with([0; 8], &[five]), "refused 8 1 {0}");
+    assert_eq!(answer_with([0; 8], &[vec![add_constant(N, N, 0), move_pointer(P, P, 0)]]), "accepted");
+}
+
+#[test]
+fn known_ends_may_have_any_constant() {
+    let far = [65_536, 65_536, -65_536, -65_536].map(|k| move_pointer(P, P, k)).to_vec();
+    assert_eq!(answer_with([0; 8], &[bundle(far)]), "accepted");
+}
+
+#[test]
+fn kind_6_contradicts_where_no_run_could_go_on() {
+    let up = vec![null(P), move_pointer(P, P, -1), set(X, 1)];
+    assert_eq!(answer_with([0; 8], &[up]), "refused 7 2");
+    // p >= 1 also where p = q: then p <= 0 contradicts.
+    let down = bundle(vec![move_pointer(P, P, -1), dynamic_check(with_literal(P, LESS_EQUAL, 0)), set(X, 1)]);
+    assert_eq!(answer_with([0; 8], &[down]), "refused 7 3");
+}
+
+#[test]
+fn accesses_and_arithmetic_say_nothing_of_their_source() {
+    let null_after = |statement| vec![statement, dynamic_check(with_literal(P, EQUAL, 0)), set(X, 1)];
+    assert_eq!(answer(&[null_after(load(X, P, -1, 0))]), "accepted");
+    // q = p + 1 and q >= 1 leave p = 0 possible.
+    assert_eq!(answer(&[null_after(move_pointer(Q, P, 1))]), "accepted");
+}
+
+#[test]
+fn cause_7_is_asked_before_statements_only() {
+    assert_eq!(answer(&[vec![impossible()]]), "accepted");
+    assert_eq!(answer(&[bundle(vec![impossible()])]), "accepted");
+    assert_eq!(answer(&[bundle(vec![impossible(), set(X, 1)])]), "refused 7 2");
+    let empty = if_else(with_variable(X, LESS, X), vec![], vec![]);
+    assert_eq!(answer(&[empty, vec![set(X, 1)]]), "accepted");
+    let dead = if_else(with_literal(X, GREATER_EQUAL, 0), vec![], vec![set(X, 1)]);
+    assert_eq!(answer(&[dead]), "refused 7 1");
+    let endless = while_loop(with_literal(X, GREATER_EQUAL, 0), vec![]);
+    assert_eq!(answer(&[endless, vec![set(X, 1)]]), "refused 7 1");
+}
+
+#[test]
+fn a_contradictory_side_adds_nothing_to_a_join() {
+    let split = if_else(with_literal(N, GREATER_EQUAL, 1), vec![], vec![impossible()]);
+    assert_eq!(answer_with([0; 8], &[split, vec![add_constant(N, N, -1)]]), "accepted");
+    let either = if_else(with_literal(N, GREATER_EQUAL, 1), vec![], vec![]);
+    assert_eq!(answer_with([0; 8], &[either, vec![add_constant(N, N, -1)]]), "refused 8 1 {0}");
+}
+
+#[test]
+fn a_while_drops_before_its_body_and_keeps_nothing_of_it() {
+    let lower = add_constant(N, N, -1);
+    // Known before the loop, but the body changes n.
+    let once = while_loop(with_literal(X, GREATER, 0), vec![lower]);
+    assert_eq!(answer_with([0; 8], &[positive(), once]), "refused 8 2 {0}");
+    // x := x + 0 in the body counts as assigned.
+    let same = while_loop(with_literal(X, EQUAL, 7), vec![add_constant(N, N, 0)]);
+    assert_eq!(answer_with([0; 8], &[positive(), same, vec![lower]]), "refused 8 3 {0}");
+    // The body's check does not hold after the loop.
+    let inside = while_loop(with_literal(X, EQUAL, 7), positive());
+    assert_eq!(answer_with([0; 8], &[inside, vec![lower]]), "refused 8 2 {0}");
+    // The negated condition does.
+    let until = while_loop(with_literal(N, EQUAL, 0), vec![]);
+    assert_eq!(answer_with([0; 8], &[until, vec![lower]]), "accepted");
+}
+
+#[test]
+fn null_passes_an_access_in_a_bundle() {
+    let read = load(X, P, -1, 0);
+    assert_eq!(answer_with([0; 8], &[bundle(vec![null(P), read])]), "accepted");
+    assert_eq!(answer_with([0; 8], &[bundle(vec![set(N, 1), read])]), "refused 9 2");
+}

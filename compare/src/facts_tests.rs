@@ -1,0 +1,220 @@
+use super::*;
+use crate::fast_facts::FastFacts;
+use crate::rng::Rng;
+use Kind::{Integer, Pointer};
+
+/// The definition itself: a list of facts, and all chains by relaxation.
+#[derive(Clone)]
+struct Definition {
+    kinds: Vec<Kind>,
+    facts: Vec<(Node, Node, i64)>,
+}
+
+impl Definition {
+    fn new(kinds: &[Kind]) -> Definition {
+        let always = (0..kinds.len()).flat_map(|v| [(v, ZERO, GREATEST), (ZERO, v, 0)]);
+        Definition { kinds: kinds.to_vec(), facts: always.collect() }
+    }
+
+    fn nodes(&self) -> Vec<Node> {
+        (0..self.kinds.len()).chain([ZERO]).collect()
+    }
+
+    fn related(&self, a: Node, b: Node) -> bool {
+        a == ZERO || b == ZERO || self.kinds[a] == self.kinds[b]
+    }
+
+    /// Least sums; `None` where facts contradict.
+    fn sums(&self) -> Option<[[i64; NODES]; NODES]> {
+        let mut sums = [[i64::MAX / 4; NODES]; NODES];
+        for v in self.nodes() {
+            sums[v][v] = 0;
+        }
+        for &(x, y, k) in &self.facts {
+            sums[x][y] = sums[x][y].min(k);
+        }
+        for m in self.nodes() {
+            for a in self.nodes() {
+                for b in self.nodes() {
+                    sums[a][b] = sums[a][b].min(sums[a][m] + sums[m][b]);
+                }
+            }
+        }
+        self.nodes().iter().all(|&v| sums[v][v] >= 0).then_some(sums)
+    }
+
+    /// Every fact shown, as a list; facts relate no pointer to an integer.
+    fn shown(&self) -> Definition {
+        let sums = self.sums().expect("no contradiction");
+        let mut all = Definition::new(&self.kinds);
+        for &a in &self.nodes() {
+            for &b in &self.nodes() {
+                if a != b && self.related(a, b) {
+                    all.facts.push((a, b, sums[a][b]));
+                }
+            }
+        }
+        all
+    }
+
+    fn drop(&self, x: Node) -> Definition {
+        let mut kept = self.shown();
+        kept.facts.retain(|&(a, b, _)| a != x && b != x);
+        kept.facts.extend([(x, ZERO, GREATEST), (ZERO, x, 0)]);
+        kept
+    }
+
+    fn shift(&self, x: Node, k: i64) -> Definition {
+        let mut moved = self.shown();
+        for (a, b, c) in &mut moved.facts {
+            *c += if *a == x {
+                k
+            } else if *b == x {
+                -k
+            } else {
+                0
+            };
+        }
+        moved.facts.extend([(x, ZERO, GREATEST), (ZERO, x, 0)]);
+        moved
+    }
+
+    fn join(&self, other: &Definition) -> Definition {
+        let (Some(a), Some(b)) = (self.sums(), other.sums()) else {
+            return if self.sums().is_some() { self.clone() } else { other.clone() };
+        };
+        let mut both = self.shown();
+        for (x, y, k) in &mut both.facts {
+            *k = a[*x][*y].max(b[*x][*y]);
+        }
+        both
+    }
+}
+
+fn same(plain: &Facts, definition: &Definition) {
+    let sums = definition.sums();
+    assert_eq!(plain.contradictory(), sums.is_none());
+    if let Some(sums) = sums {
+        for a in definition.nodes() {
+            for b in definition.nodes() {
+                assert_eq!(plain.sum(a, b), sums[a][b], "from {a} to {b}");
+            }
+        }
+    }
+}
+
+/// Rows of the fast form: pointers, zero, integers.
+fn fast_rows(kinds: &[Kind]) -> Vec<usize> {
+    let pointers = kinds.iter().filter(|&&k| k == Pointer).count();
+    let (mut p, mut i) = (0, pointers + 1);
+    let mut rows = vec![pointers; NODES];
+    for (v, kind) in kinds.iter().enumerate() {
+        let next = if *kind == Pointer { &mut p } else { &mut i };
+        rows[v] = *next;
+        *next += 1;
+    }
+    rows
+}
+
+#[test]
+fn all_forms_agree_with_the_definition() {
+    for seed in 0..300 {
+        let mut rng = Rng::of_case(seed, 0);
+        let kinds: Vec<Kind> = (0..rng.range(1, 6)).map(|_| rng.pick(&[Integer, Pointer])).collect();
+        let rows = fast_rows(&kinds);
+        let pointers = rows[ZERO];
+        let mut plain = Facts::new(&kinds);
+        let mut definition = Definition::new(&kinds);
+        let mut fast = FastFacts::new(pointers, kinds.len() - pointers);
+        let mut saved = (plain.clone(), definition.clone(), fast);
+        for _ in 0..25 {
+            if plain.contradictory() {
+                (plain, definition, fast) = saved.clone();
+            }
+            let x = rng.below(kinds.len());
+            let mates: Vec<Node> = (0..kinds.len()).filter(|&y| y != x && kinds[y] == kinds[x]).collect();
+            let y = if rng.chance(50) { ZERO } else { rng.pick_any(&mates).unwrap_or(ZERO) };
+            let k = rng.pick(&[0, 1, -1, 2, 5, -5, 65_536, GREATEST, -GREATEST, 2_147_483_647]);
+            match rng.below(7) {
+                0 => {
+                    plain = plain.drop(x);
+                    definition = definition.drop(x);
+                    fast.drop(rows[x]);
+                }
+                1 => {
+                    plain = plain.shift(x, k % 65_537);
+                    definition = definition.shift(x, k % 65_537);
+                    fast.shift(rows[x], k % 65_537);
+                }
+                2 if y != ZERO => {
+                    plain = plain.equate(x, y, k % 65_537);
+                    definition = definition.drop(x);
+                    definition.facts.extend([(x, y, k % 65_537), (y, x, -(k % 65_537))]);
+                    fast.copy(rows[x], rows[y], k % 65_537);
+                }
+                3 => {
+                    plain = plain.join(&saved.0);
+                    definition = definition.join(&saved.1);
+                    fast.join(&saved.2);
+                }
+                4 => saved = (plain.clone(), definition.clone(), fast),
+                5 => {
+                    plain = plain.add(y, x, -k);
+                    definition.facts.push((y, x, -k));
+                    fast.add(rows[y], rows[x], -k);
+                }
+                _ => {
+                    plain = plain.add(x, y, k);
+                    definition.facts.push((x, y, k));
+                    fast.add(rows[x], rows[y], k);
+                }
+            }
+            same(&plain, &definition);
+            assert_eq!(fast.contradictory, plain.contradictory());
+            for a in definition.nodes() {
+                for b in definition.nodes() {
+                    if !plain.contradictory() && definition.related(a, b) {
+                        assert_eq!(fast.sum(rows[a], rows[b]), plain.sum(a, b));
+                    }
+                }
+            }
+        }
+    }
+}
+
+#[test]
+fn a_join_keeps_no_mixed_sum() {
+    // Null on one side, an integer at 0 on the other: neither side's p <= i is a fact.
+    let facts = Facts::new(&[Pointer, Integer]);
+    let null = facts.clone().add(0, ZERO, 0);
+    let full = facts.add(ZERO, 1, -GREATEST);
+    assert_eq!((null.sum(0, 1), full.sum(0, 1)), (0, 0));
+    assert_eq!(null.join(&full).sum(0, 1), GREATEST);
+}
+
+#[test]
+fn a_shift_moves_the_range_too() {
+    let facts = Facts::new(&[Integer]).add(0, ZERO, 10).shift(0, 5);
+    assert!(facts.shows(0, ZERO, 15) && facts.shows(ZERO, 0, -5) && !facts.shows(ZERO, 0, -6));
+    assert!(Facts::new(&[Pointer]).add(0, ZERO, 0).shift(0, -1).contradictory());
+}
+
+#[test]
+fn contradictory_facts_show_everything_and_stay_so() {
+    let facts = Facts::new(&[Integer, Integer]).add(0, 0, -1);
+    assert!(facts.contradictory() && facts.shows(0, 1, -9) && facts.shows(1, ZERO, -9));
+    assert!(facts.clone().drop(0).contradictory() && facts.clone().shift(0, 1).contradictory());
+    let other = Facts::new(&[Integer, Integer]).add(1, ZERO, 3);
+    assert!(facts.clone().join(&other).shows(1, ZERO, 3));
+    assert!(other.join(&facts).shows(1, ZERO, 3));
+    assert!(facts.clone().join(&facts).contradictory());
+}
+
+#[test]
+fn not_equal_gives_a_fact_only_against_literal_0() {
+    let facts = Facts::new(&[Integer, Integer]).add(1, ZERO, 0);
+    let condition = |right| Condition { left: 0, relation: Relation::NotEqual, right };
+    assert!(facts.clone().assume(condition(Right::Literal(0))).shows(ZERO, 0, -1));
+    assert!(!facts.clone().assume(condition(Right::Variable(1))).shows(ZERO, 0, -1));
+    assert!(!facts.assume(condition(Right::Literal(1))).contradictory());
+}

@@ -1,0 +1,243 @@
+//! The translation for the fast interpreter: instructions that know where the
+//! run goes on, over slots of values.
+
+use crate::table::{Bounds, Condition, End, Operator, Right, Routine, Statement, Var};
+
+/// A value slot: 0 to 15 the variables, `NOTHING` always 0. There is one for
+/// every number a slot can have, so that no index needs a check.
+pub type Slot = u8;
+pub const SLOTS: usize = 256;
+const NOTHING: Slot = 16;
+
+/// Which of less, equal, greater satisfy each relation, as bits 0, 1, 2.
+const SATISFIED: [u8; 6] = [0b001, 0b110, 0b100, 0b011, 0b010, 0b101];
+
+#[derive(Clone, Copy)]
+pub enum Op {
+    /// Kinds 1, 4 and 5.
+    Set {
+        x: Slot,
+        value: u32,
+    },
+    /// Kind 2, and kind 6 with k = 0.
+    AddConstant {
+        x: Slot,
+        y: Slot,
+        k: u32,
+    },
+    Add {
+        x: Slot,
+        y: Slot,
+        z: Slot,
+    },
+    Subtract {
+        x: Slot,
+        y: Slot,
+        z: Slot,
+    },
+    Multiply {
+        x: Slot,
+        y: Slot,
+        z: Slot,
+    },
+    /// Kind 6 with k not 0.
+    MovePointer {
+        p: Slot,
+        q: Slot,
+        k: i32,
+    },
+    IndexPointer {
+        p: Slot,
+        q: Slot,
+        i: Slot,
+    },
+    /// An access through a pointer with both ends at itself: the index alone decides.
+    LoadNear {
+        x: Slot,
+        p: Slot,
+        i: Slot,
+        k: i32,
+        near: Near,
+    },
+    StoreNear {
+        x: Slot,
+        p: Slot,
+        i: Slot,
+        k: i32,
+        near: Near,
+    },
+    /// An access through any other pointer; its ends stand in the table of ends.
+    Load {
+        x: Slot,
+        p: Slot,
+        i: Slot,
+        k: i32,
+    },
+    Store {
+        x: Slot,
+        p: Slot,
+        i: Slot,
+        k: i32,
+    },
+    /// A dynamic check: goes on at `next`, or stops.
+    CheckVariable {
+        x: Slot,
+        y: Slot,
+        satisfied: u8,
+    },
+    CheckLiteral {
+        x: Slot,
+        satisfied: u8,
+        literal: u32,
+    },
+    /// If and while: goes on at `next` where the condition holds, else at `other`.
+    BranchVariable {
+        x: Slot,
+        y: Slot,
+        satisfied: u8,
+        other: u16,
+    },
+    BranchLiteral {
+        x: Slot,
+        satisfied: u8,
+        other: u16,
+        literal: u32,
+    },
+    /// The head of a bundle.
+    Enter,
+    /// Nothing is due.
+    Done,
+}
+
+/// Index bounds from `low` to the value of slot `count` plus `high`, exclusive.
+#[derive(Clone, Copy)]
+pub struct Near {
+    pub count: Slot,
+    pub low: i32,
+    pub high: i32,
+}
+
+/// Aligned so that its place is a shift of its number and no line of the cache splits it.
+#[derive(Clone, Copy)]
+#[repr(align(32))]
+pub struct Instruction {
+    pub op: Op,
+    pub next: u16,
+}
+
+#[derive(Clone, Copy, Default)]
+pub struct FlatEnd {
+    pub pointer: Slot,
+    pub integer: Slot,
+    pub constant: i64,
+}
+
+pub struct Code {
+    pub instructions: Vec<Instruction>,
+    pub ends: [(FlatEnd, FlatEnd); 16],
+}
+
+fn slot(variable: Option<Var>) -> Slot {
+    variable.unwrap_or(NOTHING)
+}
+
+fn flat(end: End) -> FlatEnd {
+    FlatEnd { pointer: end.pointer, integer: slot(end.integer), constant: i64::from(end.constant) }
+}
+
+/// Both ends at p itself, the lower one without an integer: as in count(n).
+fn near(p: Var, bounds: Bounds) -> Option<Near> {
+    let Bounds { lower, upper } = bounds;
+    let at_itself = lower.pointer == p && upper.pointer == p && lower.integer.is_none();
+    at_itself.then_some(Near { count: slot(upper.integer), low: lower.constant, high: upper.constant })
+}
+
+pub fn translate(routine: &Routine, directory: &[u32]) -> Code {
+    let end = routine.statements.len();
+    let mut code =
+        Code { instructions: vec![Instruction { op: Op::Done, next: 0 }; end + 1], ends: Default::default() };
+    for (p, bounds) in routine.bounds.iter().enumerate() {
+        if let Some(bounds) = bounds {
+            code.ends[p] = (flat(bounds.lower), flat(bounds.upper));
+        }
+    }
+    translate_block(routine, directory, &mut code, 0, end, end);
+    code
+}
+
+/// Translates a block; its last statement goes on at `after`.
+fn translate_block(
+    routine: &Routine,
+    directory: &[u32],
+    code: &mut Code,
+    start: usize,
+    end: usize,
+    after: usize,
+) {
+    let mut s = start;
+    while s < end {
+        let statement = routine.statements[s];
+        let next = s + statement.size();
+        let follow = if next < end { next } else { after };
+        let first = |from: usize, to: usize, otherwise: usize| if from < to { from } else { otherwise };
+        let (op, next_due) = match statement {
+            Statement::If { condition, then_count, .. } => {
+                let middle = s + 1 + then_count as usize;
+                translate_block(routine, directory, code, s + 1, middle, follow);
+                translate_block(routine, directory, code, middle, next, follow);
+                (branch(condition, first(middle, next, follow)), first(s + 1, middle, follow))
+            }
+            Statement::While { condition, .. } => {
+                translate_block(routine, directory, code, s + 1, next, s);
+                (branch(condition, follow), first(s + 1, next, s))
+            }
+            Statement::Bundle { .. } => {
+                translate_block(routine, directory, code, s + 1, next, follow);
+                (Op::Enter, s + 1)
+            }
+            simple => (translate_simple(routine, directory, simple), follow),
+        };
+        code.instructions[s] = Instruction { op, next: next_due as u16 };
+        s = next;
+    }
+}
+
+fn branch(condition: Condition, other: usize) -> Op {
+    let (x, satisfied, other) = (condition.left, SATISFIED[condition.relation as usize], other as u16);
+    match condition.right {
+        Right::Variable(y) => Op::BranchVariable { x, y, satisfied, other },
+        Right::Literal(literal) => Op::BranchLiteral { x, satisfied, other, literal },
+    }
+}
+
+fn translate_simple(routine: &Routine, directory: &[u32], statement: Statement) -> Op {
+    let near_of = |p: Var| routine.bounds[usize::from(p)].and_then(|bounds| near(p, bounds));
+    match statement {
+        Statement::Literal { x, literal } => Op::Set { x, value: literal },
+        Statement::AddConstant { x, y, k } => Op::AddConstant { x, y, k: k as u32 },
+        Statement::Operate { x, y, z, operator: Operator::Add } => Op::Add { x, y, z },
+        Statement::Operate { x, y, z, operator: Operator::Subtract } => Op::Subtract { x, y, z },
+        Statement::Operate { x, y, z, operator: Operator::Multiply } => Op::Multiply { x, y, z },
+        Statement::Null { p } => Op::Set { x: p, value: 0 },
+        Statement::Address { p, object } => Op::Set { x: p, value: directory[2 * usize::from(object)] },
+        Statement::MovePointer { p, q, k: 0 } => Op::AddConstant { x: p, y: q, k: 0 },
+        Statement::MovePointer { p, q, k } => Op::MovePointer { p, q, k },
+        Statement::IndexPointer { p, q, i } => Op::IndexPointer { p, q, i },
+        Statement::Load { x, p, i, k } => match near_of(p) {
+            Some(near) => Op::LoadNear { x, p, i: slot(i), k, near },
+            None => Op::Load { x, p, i: slot(i), k },
+        },
+        Statement::Store { p, i, k, x } => match near_of(p) {
+            Some(near) => Op::StoreNear { x, p, i: slot(i), k, near },
+            None => Op::Store { x, p, i: slot(i), k },
+        },
+        Statement::Check { condition } => {
+            let (x, satisfied) = (condition.left, SATISFIED[condition.relation as usize]);
+            match condition.right {
+                Right::Variable(y) => Op::CheckVariable { x, y, satisfied },
+                Right::Literal(literal) => Op::CheckLiteral { x, satisfied, literal },
+            }
+        }
+        Statement::If { .. } | Statement::While { .. } | Statement::Bundle { .. } => Op::Enter,
+    }
+}

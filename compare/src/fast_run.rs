@@ -1,0 +1,201 @@
+//! The interpreter in its fast form: the routine is translated once into
+//! instructions that know where the run goes on, and runs without origins.
+//! That is allowed because an accepted routine never leaves an origin object.
+
+use crate::answer::{Check, RunAnswer, RunInput};
+use crate::fast_check::check_routine;
+use crate::fast_code::{translate, Code, FlatEnd, Near, Op, Slot, SLOTS};
+use crate::machine::check_entry;
+use crate::table::{decode, Routine};
+
+/// Checks the routine and the entry, then runs it in the lent buffers.
+pub fn run(words: &[i32], input: &mut RunInput) -> RunAnswer {
+    match decode(words).and_then(|r| check_routine(&r).map(|_| r)) {
+        Err(refusal) => RunAnswer::Refused(refusal),
+        Ok(routine) => run_routine(&routine, input),
+    }
+}
+
+/// The run of an accepted routine.
+pub fn run_routine(routine: &Routine, input: &mut RunInput) -> RunAnswer {
+    if let Err(refusal) = check_entry(routine, input) {
+        return RunAnswer::Refused(refusal);
+    }
+    let code = translate(routine, &input.directory);
+    execute(&code, &mut input.cells, &mut input.values, input.allowance)
+}
+
+/// The values of all slots.
+struct Values([u32; SLOTS]);
+
+impl Values {
+    #[inline(always)]
+    fn get(&self, slot: Slot) -> u32 {
+        self.0[usize::from(slot)]
+    }
+
+    #[inline(always)]
+    fn wide(&self, slot: Slot) -> i64 {
+        i64::from(self.get(slot))
+    }
+
+    #[inline(always)]
+    fn set(&mut self, slot: Slot, value: u32) {
+        self.0[usize::from(slot)] = value;
+    }
+
+    /// Whether the order of x and the right side is one of those wanted.
+    #[inline(always)]
+    fn holds(&self, x: Slot, right: u32, satisfied: u8) -> bool {
+        let left = self.get(x);
+        let order = u8::from(left >= right) + u8::from(left > right);
+        satisfied >> order & 1 != 0
+    }
+
+    #[inline(always)]
+    fn end(&self, end: &FlatEnd) -> i64 {
+        self.wide(end.pointer) + self.wide(end.integer) + end.constant
+    }
+
+    /// Checks 2 and 3 where the index alone decides; the address.
+    #[inline(always)]
+    fn near_access(&self, p: Slot, i: Slot, k: i32, near: Near) -> Result<i64, Check> {
+        let pointer = self.wide(p);
+        let index = self.wide(i) + i64::from(k);
+        if pointer == 0 {
+            return Err(Check::NullAccess);
+        }
+        if index < i64::from(near.low) || index >= self.wide(near.count) + i64::from(near.high) {
+            return Err(Check::OutOfBounds);
+        }
+        Ok(pointer + index)
+    }
+
+    /// Checks 2 and 3 by the declared ends; the address.
+    #[inline(always)]
+    fn access(&self, p: Slot, i: Slot, k: i32, ends: &[(FlatEnd, FlatEnd); 16]) -> Result<i64, Check> {
+        let pointer = self.wide(p);
+        if pointer == 0 {
+            return Err(Check::NullAccess);
+        }
+        let address = pointer + self.wide(i) + i64::from(k);
+        let (lower, upper) = &ends[usize::from(p) % 16];
+        if address < self.end(lower) || address >= self.end(upper) {
+            return Err(Check::OutOfBounds);
+        }
+        Ok(address)
+    }
+
+    /// Checks 4 and 5; the new address.
+    #[inline(always)]
+    fn advance(&self, q: Slot, offset: i64) -> Result<u32, Check> {
+        let pointer = self.wide(q);
+        if pointer == 0 {
+            return Err(Check::NullArithmetic);
+        }
+        match u32::try_from(pointer + offset) {
+            Ok(result) if result != 0 => Ok(result),
+            _ => Err(Check::Result),
+        }
+    }
+}
+
+fn execute(code: &Code, cells: &mut [u32], lent: &mut [u32], allowance: u32) -> RunAnswer {
+    let mut values = Values([0; SLOTS]);
+    values.0[..lent.len()].copy_from_slice(lent);
+    let answer = run_loop(code, cells, &mut values, allowance);
+    lent.copy_from_slice(&values.0[..lent.len()]);
+    answer
+}
+
+fn run_loop(code: &Code, cells: &mut [u32], values: &mut Values, allowance: u32) -> RunAnswer {
+    let instructions = code.instructions.as_slice();
+    let last = instructions.len() - 1;
+    let mut due = 0usize;
+    let mut left = allowance;
+    // Leaves the loop with the check that stopped the statement due, or as stuck.
+    let halted = loop {
+        let steps = u64::from(allowance - left);
+        if left == 0 {
+            // Done comes before spent.
+            return match due == last {
+                true => RunAnswer::Done { steps },
+                false => RunAnswer::Spent { steps, statement: due as u32 },
+            };
+        }
+        left -= 1;
+        let instruction = &instructions[due];
+        let mut next = instruction.next;
+        match instruction.op {
+            Op::Set { x, value } => values.set(x, value),
+            Op::AddConstant { x, y, k } => values.set(x, values.get(y).wrapping_add(k)),
+            Op::Add { x, y, z } => values.set(x, values.get(y).wrapping_add(values.get(z))),
+            Op::Subtract { x, y, z } => values.set(x, values.get(y).wrapping_sub(values.get(z))),
+            Op::Multiply { x, y, z } => values.set(x, values.get(y).wrapping_mul(values.get(z))),
+            Op::MovePointer { p, q, k } => match values.advance(q, i64::from(k)) {
+                Ok(address) => values.set(p, address),
+                Err(check) => break Some(check),
+            },
+            Op::IndexPointer { p, q, i } => match values.advance(q, values.wide(i)) {
+                Ok(address) => values.set(p, address),
+                Err(check) => break Some(check),
+            },
+            Op::LoadNear { x, p, i, k, near } => match values.near_access(p, i, k, near) {
+                Ok(address) => match cells.get(address as usize) {
+                    Some(&cell) => values.set(x, cell),
+                    None => break None,
+                },
+                Err(check) => break Some(check),
+            },
+            Op::StoreNear { x, p, i, k, near } => match values.near_access(p, i, k, near) {
+                Ok(address) => match cells.get_mut(address as usize) {
+                    Some(cell) => *cell = values.get(x),
+                    None => break None,
+                },
+                Err(check) => break Some(check),
+            },
+            Op::Load { x, p, i, k } => match values.access(p, i, k, &code.ends) {
+                Ok(address) => match cells.get(address as usize) {
+                    Some(&cell) => values.set(x, cell),
+                    None => break None,
+                },
+                Err(check) => break Some(check),
+            },
+            Op::Store { x, p, i, k } => match values.access(p, i, k, &code.ends) {
+                Ok(address) => match cells.get_mut(address as usize) {
+                    Some(cell) => *cell = values.get(x),
+                    None => break None,
+                },
+                Err(check) => break Some(check),
+            },
+            Op::CheckVariable { x, y, satisfied } => {
+                if !values.holds(x, values.get(y), satisfied) {
+                    break Some(Check::Dynamic);
+                }
+            }
+            Op::CheckLiteral { x, satisfied, literal } => {
+                if !values.holds(x, literal, satisfied) {
+                    break Some(Check::Dynamic);
+                }
+            }
+            Op::BranchVariable { x, y, satisfied, other } => {
+                if !values.holds(x, values.get(y), satisfied) {
+                    next = other;
+                }
+            }
+            Op::BranchLiteral { x, satisfied, other, literal } => {
+                if !values.holds(x, literal, satisfied) {
+                    next = other;
+                }
+            }
+            Op::Enter => {}
+            Op::Done => return RunAnswer::Done { steps },
+        }
+        due = usize::from(next);
+    };
+    let (steps, statement) = (u64::from(allowance - left), due as u32);
+    match halted {
+        Some(check) => RunAnswer::Stopped { steps, statement, check },
+        None => RunAnswer::Stuck { steps, statement },
+    }
+}

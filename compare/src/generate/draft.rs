@@ -1,0 +1,158 @@
+//! A table in the making: records that can be added, taken out and written as words.
+
+use crate::table::{STATEMENT_WORDS, VARIABLE_WORDS};
+
+pub type Record = [i32; STATEMENT_WORDS];
+/// Left, relation, form, right.
+pub type Cond = [i32; 4];
+
+pub const LESS: i32 = 0;
+pub const GREATER_EQUAL: i32 = 1;
+pub const GREATER: i32 = 2;
+pub const LESS_EQUAL: i32 = 3;
+pub const EQUAL: i32 = 4;
+pub const NOT_EQUAL: i32 = 5;
+
+pub fn set(x: i32, literal: i32) -> Record {
+    [1, x, literal, 0, 0, 0, 0]
+}
+
+pub fn add_constant(x: i32, y: i32, k: i32) -> Record {
+    [2, x, y, k, 0, 0, 0]
+}
+
+pub fn operate(x: i32, y: i32, z: i32, operator: i32) -> Record {
+    [3, x, y, z, operator, 0, 0]
+}
+
+pub fn null(p: i32) -> Record {
+    [4, p, 0, 0, 0, 0, 0]
+}
+
+pub fn address(p: i32, object: i32) -> Record {
+    [5, p, object, 0, 0, 0, 0]
+}
+
+pub fn move_pointer(p: i32, q: i32, k: i32) -> Record {
+    [6, p, q, k, 0, 0, 0]
+}
+
+pub fn index_pointer(p: i32, q: i32, i: i32) -> Record {
+    [7, p, q, i, 0, 0, 0]
+}
+
+pub fn load(x: i32, p: i32, i: i32, k: i32) -> Record {
+    [8, x, p, i, k, 0, 0]
+}
+
+pub fn store(p: i32, i: i32, k: i32, x: i32) -> Record {
+    [9, p, i, k, x, 0, 0]
+}
+
+pub fn with_variable(left: i32, relation: i32, right: i32) -> Cond {
+    [left, relation, 0, right]
+}
+
+pub fn with_literal(left: i32, relation: i32, literal: i32) -> Cond {
+    [left, relation, 1, literal]
+}
+
+pub fn dynamic_check([a, b, c, d]: Cond) -> Record {
+    [10, a, b, c, d, 0, 0]
+}
+
+pub fn if_else([a, b, c, d]: Cond, then: Vec<Record>, other: Vec<Record>) -> Vec<Record> {
+    let head = [11, a, b, c, d, then.len() as i32, other.len() as i32];
+    [vec![head], then, other].concat()
+}
+
+pub fn while_loop([a, b, c, d]: Cond, body: Vec<Record>) -> Vec<Record> {
+    [vec![[12, a, b, c, d, body.len() as i32, 0]], body].concat()
+}
+
+pub fn bundle(inner: Vec<Record>) -> Vec<Record> {
+    [vec![[13, inner.len() as i32, 0, 0, 0, 0, 0]], inner].concat()
+}
+
+/// The three sections, not yet words. Records may break any rule.
+#[derive(Clone, Debug, Default)]
+pub struct Draft {
+    pub objects: Vec<i32>,
+    pub variables: Vec<[i32; VARIABLE_WORDS]>,
+    pub statements: Vec<Record>,
+}
+
+impl Draft {
+    pub fn words(&self) -> Vec<i32> {
+        let lengths = [
+            self.objects.len(),
+            self.variables.len() * VARIABLE_WORDS,
+            self.statements.len() * STATEMENT_WORDS,
+        ];
+        let mut words = Vec::with_capacity(6 + lengths.iter().sum::<usize>());
+        let mut offset = 6;
+        for length in lengths {
+            words.extend([offset as i32, length as i32]);
+            offset += length;
+        }
+        words.extend(&self.objects);
+        words.extend(self.variables.iter().flatten());
+        words.extend(self.statements.iter().flatten());
+        words
+    }
+
+    /// The sections of a table whose directory is right.
+    pub fn from_words(words: &[i32]) -> Option<Draft> {
+        if words.len() < 6 {
+            return None;
+        }
+        let length = |section: usize| usize::try_from(words[2 * section + 1]).ok();
+        let (objects, variables) = (6 + length(0)?, length(1)?);
+        let middle = objects.checked_add(variables)?;
+        let draft = Draft {
+            objects: words.get(6..objects)?.to_vec(),
+            variables: words.get(objects..middle)?.chunks_exact(VARIABLE_WORDS).map(to_record).collect(),
+            statements: words.get(middle..)?.chunks_exact(STATEMENT_WORDS).map(to_record).collect(),
+        };
+        (draft.words() == words).then_some(draft)
+    }
+
+    /// The blocks of the head at s, as places of their count and ranges.
+    fn blocks(&self, s: usize) -> Vec<(usize, usize, usize)> {
+        let record = &self.statements[s];
+        let count = |field: usize| record[field].clamp(0, self.statements.len() as i32) as usize;
+        match record[0] {
+            11 => {
+                let middle = s + 1 + count(5);
+                vec![(5, s + 1, middle), (6, middle, middle + count(6))]
+            }
+            12 => vec![(5, s + 1, s + 1 + count(5))],
+            13 => vec![(1, s + 1, s + 1 + count(1))],
+            _ => Vec::new(),
+        }
+    }
+
+    /// Takes out statement s, with its blocks or, `keep_blocks`, without them.
+    pub fn remove(&mut self, s: usize, keep_blocks: bool) {
+        let all = self.statements.len();
+        let end = match self.blocks(s).last() {
+            Some(&(_, _, end)) if !keep_blocks => end.min(all),
+            _ => s + 1,
+        };
+        let removed = (end - s) as i32;
+        for head in 0..s {
+            for (field, from, to) in self.blocks(head) {
+                if (from..to).contains(&s) {
+                    let count = &mut self.statements[head][field];
+                    *count = (*count - removed).max(0);
+                    break;
+                }
+            }
+        }
+        self.statements.drain(s..end);
+    }
+}
+
+fn to_record<const N: usize>(words: &[i32]) -> [i32; N] {
+    words.try_into().expect("an exact chunk")
+}

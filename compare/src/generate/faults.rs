@@ -1,0 +1,115 @@
+//! Tables made wrong: one rule of causes 1 to 6 broken, words changed, cut or added.
+
+use super::draft::Draft;
+use crate::rng::Rng;
+use crate::table::VARIABLE_WORDS;
+
+const WORDS: [i32; 22] = [
+    -1,
+    0,
+    1,
+    2,
+    3,
+    4,
+    5,
+    6,
+    7,
+    11,
+    12,
+    13,
+    14,
+    15,
+    16,
+    17,
+    65_536,
+    65_537,
+    -65_536,
+    -65_537,
+    i32::MAX,
+    i32::MIN,
+];
+
+/// Another word in a place: near the old one, or one of those that matter.
+fn other_word(rng: &mut Rng, old: i32) -> i32 {
+    match rng.below(3) {
+        0 => old.wrapping_add(rng.pick(&[1, -1])),
+        1 => rng.pick(&[-1, 0, 1, 2, 3]),
+        _ => rng.pick(&WORDS),
+    }
+}
+
+/// Changes up to three words, most often in the statements.
+pub fn mutate(rng: &mut Rng, words: &mut [i32]) {
+    for _ in 0..rng.pick(&[1, 1, 1, 2, 3]) {
+        if words.is_empty() {
+            return;
+        }
+        let place = match rng.below(12) {
+            0 => rng.below(words.len().min(6)),
+            1..=3 => rng.below(words.len()),
+            _ => words.len() - 1 - rng.below(words.len().saturating_sub(6).max(1)) * 3 / 4,
+        };
+        words[place] = other_word(rng, words[place]);
+    }
+}
+
+/// Cuts words off or adds some.
+pub fn resize(rng: &mut Rng, words: &mut Vec<i32>) {
+    match rng.below(5) {
+        0 => words.truncate(rng.below(8)),
+        1 => words.truncate(words.len().saturating_sub(7)),
+        2 => words.truncate(rng.below(words.len() + 1)),
+        3 => words.resize(rng.pick(&[7_318, 7_319, 8_000]), 0),
+        _ => words.extend([0; 7]),
+    }
+}
+
+/// Breaks one rule of causes 2 to 6 in the records; a later one may break it again.
+pub fn break_record(rng: &mut Rng, draft: &mut Draft) {
+    match rng.below(10) {
+        0 => draft.objects.resize(17, 1),
+        1 => draft.variables.resize(rng.pick(&[0, 17]), [0; VARIABLE_WORDS]),
+        2 => draft.statements.resize(rng.pick(&[1_024, 1_025]), [4, 0, 0, 0, 0, 0, 0]),
+        3 => {
+            let o = rng.below(draft.objects.len());
+            if let Some(length) = draft.objects.get_mut(o) {
+                *length = rng.pick(&[0, -1, 1_000_000, 1_000_001, i32::MAX, i32::MIN]);
+            }
+        }
+        4 | 5 => {
+            let v = rng.below(draft.variables.len());
+            if let Some(record) = draft.variables.get_mut(v) {
+                let field = rng.below(VARIABLE_WORDS);
+                record[field] = other_word(rng, record[field]);
+            }
+        }
+        6 => {
+            let s = rng.below(draft.statements.len());
+            if let Some(record) = draft.statements.get_mut(s) {
+                let field = rng.below(7);
+                record[field] = other_word(rng, record[field]);
+            }
+        }
+        _ => break_head(rng, draft),
+    }
+}
+
+/// Changes a count of some head, so that blocks overlap or run out.
+fn break_head(rng: &mut Rng, draft: &mut Draft) {
+    let heads: Vec<usize> = (0..draft.statements.len()).filter(|&s| draft.statements[s][0] >= 11).collect();
+    let Some(s) = rng.pick_any(&heads) else {
+        draft.statements.push([13, rng.pick(&[-1, 0, 1, 17]), 0, 0, 0, 0, 0]);
+        return;
+    };
+    let record = &mut draft.statements[s];
+    let field = match record[0] {
+        11 => rng.pick(&[5, 6]),
+        12 => 5,
+        _ => 1,
+    };
+    record[field] = match rng.below(5) {
+        0 => rng.pick(&[-1, 0, 17, i32::MAX, i32::MIN]),
+        1 => record[field] - 1,
+        _ => record[field] + rng.range(1, 3),
+    };
+}

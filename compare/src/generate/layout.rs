@@ -1,0 +1,162 @@
+//! Objects and variables of a generated routine: what the bounds hang on.
+
+use super::draft::Draft;
+use crate::rng::Rng;
+use crate::table::VARIABLE_WORDS;
+
+/// The names a routine can use, by what they are good for.
+#[derive(Clone, Debug, Default)]
+pub struct Layout {
+    pub objects: Vec<i32>,
+    pub integers: Vec<i32>,
+    pub pointers: Vec<i32>,
+    /// Integers that some end names, and those that none does.
+    pub counts: Vec<i32>,
+    pub free: Vec<i32>,
+    /// Pointers with ends (p, -1, 0) and (p, n, 0) on one count n.
+    pub groups: Vec<Group>,
+    /// Pointers whose ends do not name themselves: they can move freely.
+    pub movers: Vec<i32>,
+}
+
+#[derive(Clone, Debug)]
+pub struct Group {
+    pub count: i32,
+    pub pointers: Vec<i32>,
+}
+
+pub fn record(lower: [i32; 3], upper: [i32; 3]) -> [i32; VARIABLE_WORDS] {
+    [1, 0, lower[0], lower[1], lower[2], upper[0], upper[1], upper[2]]
+}
+
+/// A constant: small ones mostly, and those at the limits.
+pub fn constant(rng: &mut Rng) -> i32 {
+    match rng.below(20) {
+        0 => rng.pick(&[65_536, 65_535, -65_536, -65_535, 65_000]),
+        1 => rng.range(-12, 12),
+        2..=5 => 0,
+        _ => rng.range(-3, 3),
+    }
+}
+
+fn object_length(rng: &mut Rng) -> i32 {
+    match rng.below(400) {
+        0 => 1_000_000,
+        1 => rng.pick(&[65_535, 65_536, 65_537]),
+        2..=9 => rng.range(20, 300),
+        _ => rng.range(1, 12),
+    }
+}
+
+/// Chooses objects and variables. Names are shuffled, so that pointers and
+/// integers come in any order.
+pub fn choose(rng: &mut Rng, draft: &mut Draft) -> Layout {
+    let object_count = rng.pick(&[0, 1, 1, 1, 2, 2, 3, 4, 16]);
+    draft.objects = (0..object_count).map(|_| object_length(rng)).collect();
+    let variables = match rng.below(10) {
+        0 => rng.pick(&[15, 16]),
+        1 => rng.pick(&[1, 2]),
+        _ => rng.range(3, 9),
+    };
+    with_size(rng, draft, variables as usize)
+}
+
+/// The variables alone, so many of them.
+pub fn with_size(rng: &mut Rng, draft: &mut Draft, variables: usize) -> Layout {
+    let mut names: Vec<i32> = (0..variables as i32).collect();
+    rng.shuffle(&mut names);
+    let pointer_count = (variables * rng.range(25, 65) as usize).div_ceil(100).min(variables);
+    let mut layout = Layout {
+        objects: draft.objects.clone(),
+        pointers: names[..pointer_count].to_vec(),
+        integers: names[pointer_count..].to_vec(),
+        ..Layout::default()
+    };
+    draft.variables = vec![[0; VARIABLE_WORDS]; variables];
+    let mut left = layout.pointers.clone();
+    if rng.chance(4) {
+        distant_ends(draft, &layout, &mut left);
+    }
+    while !left.is_empty() {
+        choose_group(rng, draft, &mut layout, &mut left);
+    }
+    classify(draft, &mut layout);
+    layout
+}
+
+/// Takes some of the pointers left and gives them bounds of one shape.
+fn choose_group(rng: &mut Rng, draft: &mut Draft, layout: &mut Layout, left: &mut Vec<i32>) {
+    let shape = rng.below(11);
+    let anchored = (5..=7).contains(&shape);
+    let take = rng.pick(if anchored { &[2, 2, 3, 4] } else { &[1, 1, 1, 2, 2, 3] }).min(left.len());
+    let members: Vec<i32> = left.drain(..take).collect();
+    let integer = |rng: &mut Rng, layout: &Layout| rng.pick_any(&layout.integers).unwrap_or(-1);
+    let count = integer(rng, layout);
+    match shape {
+        // count(n), several pointers on one count.
+        0..=4 => {
+            for &p in &members {
+                draft.variables[p as usize] = record([p, -1, 0], [p, count, 0]);
+            }
+            if count >= 0 {
+                layout.groups.push(Group { count, pointers: members });
+            }
+        }
+        // The first is the anchor that all have their bounds at.
+        5..=7 => {
+            for &p in &members {
+                draft.variables[p as usize] = record([members[0], -1, 0], [members[0], count, 0]);
+            }
+            if count >= 0 {
+                layout.groups.push(Group { count, pointers: vec![members[0]] });
+            }
+        }
+        // Constant bounds around a pointer, some at the limits of k.
+        8 => {
+            let (low, high) = (-constant(rng).abs(), constant(rng).abs());
+            for &p in &members {
+                draft.variables[p as usize] = record([p, -1, low], [p, -1, high]);
+            }
+        }
+        // From one integer to another.
+        9 => {
+            let low = integer(rng, layout);
+            for &p in &members {
+                draft.variables[p as usize] = record([p, low, 0], [p, count, constant(rng)]);
+            }
+        }
+        // Anything.
+        _ => {
+            for &p in &members {
+                let end = |rng: &mut Rng| {
+                    let named = if rng.chance(40) { p } else { rng.pick(&layout.pointers) };
+                    let integer = if rng.chance(50) { -1 } else { integer(rng, layout) };
+                    [named, integer, constant(rng)]
+                };
+                draft.variables[p as usize] = record(end(rng), end(rng));
+            }
+        }
+    }
+}
+
+/// Two pointers with a common lower end whose upper ends lie far apart in what
+/// they name: a copy between them rests on sums of pointers and of integers.
+fn distant_ends(draft: &mut Draft, layout: &Layout, left: &mut Vec<i32>) {
+    let (&[to, from, high, low, ..], &[i, j, ..]) = (&left[..], &layout.integers[..]) else { return };
+    draft.variables[to as usize] = record([low, -1, 0], [high, i, 0]);
+    draft.variables[from as usize] = record([low, -1, 0], [low, j, 0]);
+    draft.variables[high as usize] = record([high, -1, 0], [high, -1, 4]);
+    draft.variables[low as usize] = record([low, -1, 0], [low, -1, 4]);
+    left.drain(..4);
+}
+
+fn classify(draft: &Draft, layout: &mut Layout) {
+    let named: Vec<i32> = draft.variables.iter().filter(|v| v[0] == 1).flat_map(|v| [v[3], v[6]]).collect();
+    let (counts, free) = layout.integers.iter().partition(|i| named.contains(i));
+    (layout.counts, layout.free) = (counts, free);
+    let moves = |p: &&i32| {
+        let bounds = draft.variables[**p as usize];
+        bounds[2] != **p && bounds[5] != **p
+    };
+    layout.movers = layout.pointers.iter().filter(moves).copied().collect();
+}

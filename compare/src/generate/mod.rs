@@ -1,0 +1,134 @@
+//! Generated cases: case `number` of a seed is always the same case, so a
+//! difference is reported as (seed, number).
+
+pub mod draft;
+mod faults;
+mod inputs;
+mod layout;
+mod routine;
+
+use crate::answer::RunInput;
+use crate::fast_check;
+use crate::rng::Rng;
+use crate::table::MAX_STATEMENTS;
+use draft::Draft;
+use routine::Writer;
+
+/// A table and what a run of it is lent.
+#[derive(Clone, Debug, PartialEq, Eq)]
+pub struct Case {
+    pub table: Vec<i32>,
+    pub input: RunInput,
+}
+
+pub fn case(seed: u64, number: u64) -> Case {
+    let mut rng = Rng::of_case(seed, number);
+    let table = table(&mut rng);
+    let input = inputs::choose(&mut rng, &table);
+    Case { table, input }
+}
+
+fn table(rng: &mut Rng) -> Vec<i32> {
+    let mut draft = Draft::default();
+    let layout = layout::choose(rng, &mut draft);
+    let size = match rng.below(400) {
+        0 => rng.range(150, 1_000),
+        1..=40 => rng.range(20, 60),
+        _ => rng.range(0, 14),
+    };
+    draft.statements = Writer { rng, layout: &layout }.body(size as usize, 0);
+    draft.statements.truncate(MAX_STATEMENTS);
+    if rng.chance(64) {
+        repair(rng, &mut draft);
+    }
+    let fault = rng.below(100);
+    if fault < 8 {
+        faults::break_record(rng, &mut draft);
+    }
+    let mut words = draft.words();
+    match fault {
+        8..=17 => faults::mutate(rng, &mut words),
+        18..=19 => faults::resize(rng, &mut words),
+        _ => {}
+    }
+    words
+}
+
+/// Takes out statements that are refused by 6 to 9 until none is; now and then
+/// leaves the rest as it is.
+fn repair(rng: &mut Rng, draft: &mut Draft) {
+    while let Err(refusal) = fast_check::check(&draft.words()) {
+        if refusal.cause < 6 || draft.statements.is_empty() || rng.chance(4) {
+            return;
+        }
+        // A contradiction goes away with the statement before, most often.
+        let back = usize::from(refusal.cause == 7 && rng.chance(60));
+        draft.remove((refusal.place as usize).saturating_sub(back), false);
+    }
+}
+
+/// An accepted table of exactly so many statements over so many variables, all
+/// kinds mixed, for measuring.
+pub fn accepted(seed: u64, statements: usize, variables: usize) -> Vec<i32> {
+    let mut rng = Rng::of_case(seed, variables as u64);
+    let mut draft = Draft { objects: vec![10, 4, 7], ..Draft::default() };
+    let layout = layout::with_size(&mut rng, &mut draft, variables);
+    while draft.statements.len() < statements {
+        // A part that is accepted after what is there, and leaves no
+        // contradiction behind: a last statement after it is accepted too.
+        let mut longer = draft.clone();
+        let room = statements - draft.statements.len();
+        longer.statements.extend(Writer { rng: &mut rng, layout: &layout }.body(room.min(4), 0));
+        repair(&mut rng, &mut longer);
+        let length = longer.statements.len();
+        if length > statements || length <= draft.statements.len() {
+            continue;
+        }
+        let mut probe = longer.clone();
+        probe.statements.push(draft::dynamic_check(draft::with_variable(0, 4, 0)));
+        let ends_well = length == statements || fast_check::check(&probe.words()).is_ok();
+        if ends_well && fast_check::check(&longer.words()).is_ok() {
+            draft = longer;
+        }
+    }
+    draft.words()
+}
+
+#[cfg(test)]
+mod tests {
+    use super::*;
+    use crate::table::decode;
+
+    #[test]
+    fn a_case_is_always_the_same() {
+        for number in 0..50 {
+            assert_eq!(case(7, number), case(7, number));
+        }
+        assert_ne!(case(7, 1), case(8, 1));
+    }
+
+    #[test]
+    fn removal_keeps_the_blocks_right() {
+        let mut draft = Draft { variables: vec![[0; 8]], ..Draft::default() };
+        let check = draft::dynamic_check(draft::with_literal(0, 1, 0));
+        let inner = draft::if_else([0, 4, 1, 0], vec![check, check], vec![check]);
+        draft.statements = draft::while_loop([0, 4, 1, 0], [vec![check], inner, vec![check]].concat());
+        for s in 0..draft.statements.len() {
+            for keep_blocks in [false, true] {
+                let mut smaller = draft.clone();
+                smaller.remove(s, keep_blocks);
+                assert!(decode(&smaller.words()).is_ok(), "statement {s}");
+            }
+        }
+    }
+
+    #[test]
+    fn tables_for_measuring_are_accepted() {
+        for variables in [11, 16] {
+            let table = accepted(3, 1_024, variables);
+            let routine = decode(&table).unwrap();
+            assert_eq!((routine.statements.len(), routine.kinds.len()), (1_024, variables));
+            assert_eq!(fast_check::check(&table), Ok(()));
+        }
+    }
+}

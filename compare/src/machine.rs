@@ -1,0 +1,296 @@
+//! The plain machine with origins: entry causes 10 to 12 and the run by the
+//! paper's words, one statement due at a time.
+
+use crate::answer::{Check, Refusal, RunAnswer, RunInput};
+use crate::checker::check_routine;
+use crate::table::{decode, Condition, End, Kind, Operator, Relation, Right, Routine, Statement, Var};
+
+pub const MAX_CELLS: usize = 16_777_216;
+pub const MODULUS: i64 = 1 << 32;
+
+/// Checks the routine and the entry, then runs it in the lent buffers.
+pub fn run(words: &[i32], input: &mut RunInput) -> RunAnswer {
+    match decode(words).and_then(|r| check_routine(&r).map(|_| r)) {
+        Err(refusal) => RunAnswer::Refused(refusal),
+        Ok(routine) => run_routine(&routine, input),
+    }
+}
+
+/// The run of an accepted routine.
+pub fn run_routine(routine: &Routine, input: &mut RunInput) -> RunAnswer {
+    match check_entry(routine, input) {
+        Err(refusal) => RunAnswer::Refused(refusal),
+        Ok(()) => Machine::new(routine, input).go(),
+    }
+}
+
+/// The object as the half-open range of its cells.
+fn object_range(directory: &[u32], origin: u32) -> (i64, i64) {
+    let pair = 2 * (origin as usize - 1);
+    let low = i64::from(directory[pair]);
+    (low, low + i64::from(directory[pair + 1]))
+}
+
+/// An end's value: a whole number, never wrapped.
+fn end_value(end: End, values: &[u32]) -> i64 {
+    let integer = end.integer.map_or(0, |i| i64::from(values[usize::from(i)]));
+    i64::from(values[usize::from(end.pointer)]) + integer + i64::from(end.constant)
+}
+
+/// Causes 10 to 12, in the paper's row order.
+pub fn check_entry(routine: &Routine, input: &RunInput) -> Result<(), Refusal> {
+    if input.cells.len() > MAX_CELLS || input.directory.len() != 2 * routine.objects.len() {
+        return Err(Refusal::at(10, 0));
+    }
+    // The first free cell after the pair before; cell 0 is in no object.
+    let mut free = 1i64;
+    for (o, pair) in input.directory.chunks_exact(2).enumerate() {
+        let (offset, length) = (i64::from(pair[0]), i64::from(pair[1]));
+        let outside = offset + length > input.cells.len() as i64;
+        if offset < free || outside || pair[1] != routine.objects[o] {
+            return Err(Refusal::at(10, o));
+        }
+        free = offset + length;
+    }
+    let variables = routine.kinds.len();
+    if input.values.len() != variables || input.origins.len() != variables {
+        return Err(Refusal::at(11, 0));
+    }
+    match (0..variables).find(|&v| !entry_true(routine, input, v)) {
+        Some(v) => Err(Refusal::at(12, v)),
+        None => Ok(()),
+    }
+}
+
+/// Cause 12 of one variable: a right origin, and true bounds.
+fn entry_true(routine: &Routine, input: &RunInput, v: usize) -> bool {
+    let origin = input.origins[v];
+    if routine.kinds[v] == Kind::Integer || input.values[v] == 0 {
+        return origin == 0;
+    }
+    if origin == 0 || origin as usize > routine.objects.len() {
+        return false;
+    }
+    let (low, high) = object_range(&input.directory, origin);
+    let bounds = routine.bounds[v].expect("a pointer has bounds");
+    low <= end_value(bounds.lower, &input.values) && end_value(bounds.upper, &input.values) <= high
+}
+
+/// The block a statement stands in: where it ends, and its head.
+#[derive(Clone, Copy)]
+struct Block {
+    end: usize,
+    head: Option<usize>,
+}
+
+struct Machine<'a> {
+    routine: &'a Routine,
+    blocks: Vec<Block>,
+    directory: &'a [u32],
+    cells: &'a mut [u32],
+    values: &'a mut [u32],
+    origins: Vec<u32>,
+    allowance: u64,
+    due: Option<usize>,
+    steps: u64,
+}
+
+enum Halt {
+    Stopped(Check),
+    Stuck,
+}
+
+impl<'a> Machine<'a> {
+    fn new(routine: &'a Routine, input: &'a mut RunInput) -> Machine<'a> {
+        let count = routine.statements.len();
+        let mut blocks = vec![Block { end: count, head: None }; count];
+        for (s, statement) in routine.statements.iter().enumerate() {
+            // Heads come in table order, so an inner block overwrites an outer one.
+            let end = s + statement.size();
+            let middle = match *statement {
+                Statement::If { then_count, .. } => s + 1 + then_count as usize,
+                _ => end,
+            };
+            blocks[s + 1..middle].fill(Block { end: middle, head: Some(s) });
+            blocks[middle..end].fill(Block { end, head: Some(s) });
+        }
+        Machine {
+            routine,
+            blocks,
+            directory: &input.directory,
+            cells: &mut input.cells,
+            values: &mut input.values,
+            origins: input.origins.clone(),
+            allowance: u64::from(input.allowance),
+            due: (count > 0).then_some(0),
+            steps: 0,
+        }
+    }
+
+    /// Done before spent, spent before stopped.
+    fn go(mut self) -> RunAnswer {
+        while let Some(s) = self.due {
+            let statement = s as u32;
+            if self.steps == self.allowance {
+                return RunAnswer::Spent { steps: self.steps, statement };
+            }
+            self.steps += 1;
+            match self.step(s) {
+                Ok(due) => self.due = due,
+                Err(Halt::Stopped(check)) => {
+                    return RunAnswer::Stopped { steps: self.steps, statement, check }
+                }
+                Err(Halt::Stuck) => return RunAnswer::Stuck { steps: self.steps, statement },
+            }
+        }
+        RunAnswer::Done { steps: self.steps }
+    }
+
+    /// The statement due once s, with its blocks, is through.
+    fn after(&self, s: usize) -> Option<usize> {
+        let next = s + self.routine.statements[s].size();
+        let block = self.blocks[s];
+        if next < block.end {
+            return Some(next);
+        }
+        let head = block.head?;
+        match self.routine.statements[head] {
+            Statement::While { .. } => Some(head),
+            _ => self.after(head),
+        }
+    }
+
+    /// The first statement of the block from start to end of head, or what follows an empty one.
+    fn enter(&self, head: usize, start: usize, end: usize) -> Option<usize> {
+        if start < end {
+            return Some(start);
+        }
+        match self.routine.statements[head] {
+            Statement::While { .. } => Some(head),
+            _ => self.after(head),
+        }
+    }
+
+    fn value(&self, v: Var) -> i64 {
+        i64::from(self.values[usize::from(v)])
+    }
+
+    fn set(&mut self, x: Var, value: i64) {
+        self.values[usize::from(x)] = value.rem_euclid(MODULUS) as u32;
+    }
+
+    fn set_pointer(&mut self, p: Var, value: u32, origin: u32) {
+        self.values[usize::from(p)] = value;
+        self.origins[usize::from(p)] = origin;
+    }
+
+    /// Conditions compare values, pointers by address.
+    fn holds(&self, condition: Condition) -> bool {
+        let left = self.value(condition.left);
+        let right = match condition.right {
+            Right::Variable(v) => self.value(v),
+            Right::Literal(literal) => i64::from(literal),
+        };
+        match condition.relation {
+            Relation::Less => left < right,
+            Relation::GreaterEqual => left >= right,
+            Relation::Greater => left > right,
+            Relation::LessEqual => left <= right,
+            Relation::Equal => left == right,
+            Relation::NotEqual => left != right,
+        }
+    }
+
+    /// Checks 2 and 3 by p's declared ends and the values then; the cell's number.
+    fn access(&self, p: Var, i: Option<Var>, k: i32) -> Result<usize, Halt> {
+        if self.value(p) == 0 {
+            return Err(Halt::Stopped(Check::NullAccess));
+        }
+        let address = self.value(p) + i.map_or(0, |i| self.value(i)) + i64::from(k);
+        let bounds = self.routine.bounds[usize::from(p)].expect("a pointer has bounds");
+        if address < end_value(bounds.lower, self.values) || address >= end_value(bounds.upper, self.values) {
+            return Err(Halt::Stopped(Check::OutOfBounds));
+        }
+        let origin = self.origins[usize::from(p)];
+        if origin == 0 {
+            return Err(Halt::Stuck);
+        }
+        let (low, high) = object_range(self.directory, origin);
+        if address < low || address >= high {
+            return Err(Halt::Stuck);
+        }
+        Ok(address as usize)
+    }
+
+    /// Checks 4 and 5 of p := q + offset.
+    fn advance(&mut self, p: Var, q: Var, offset: i64) -> Result<(), Halt> {
+        if self.value(q) == 0 {
+            return Err(Halt::Stopped(Check::NullArithmetic));
+        }
+        match u32::try_from(self.value(q) + offset) {
+            Ok(result) if result > 0 => {
+                self.set_pointer(p, result, self.origins[usize::from(q)]);
+                Ok(())
+            }
+            _ => Err(Halt::Stopped(Check::Result)),
+        }
+    }
+
+    /// One step; gives the statement due after it.
+    fn step(&mut self, s: usize) -> Result<Option<usize>, Halt> {
+        let statement = self.routine.statements[s];
+        let next = s + statement.size();
+        match statement {
+            Statement::Literal { x, literal } => self.set(x, i64::from(literal)),
+            Statement::AddConstant { x, y, k } => self.set(x, self.value(y) + i64::from(k)),
+            Statement::Operate { x, y, z, operator } => {
+                let (y, z) = (self.value(y), self.value(z));
+                match operator {
+                    Operator::Add => self.set(x, y + z),
+                    Operator::Subtract => self.set(x, y - z),
+                    Operator::Multiply => self.set(x, ((y as u64 * z as u64) % MODULUS as u64) as i64),
+                }
+            }
+            Statement::Null { p } => self.set_pointer(p, 0, 0),
+            Statement::Address { p, object } => {
+                let offset = self.directory[2 * usize::from(object)];
+                self.set_pointer(p, offset, u32::from(object) + 1);
+            }
+            Statement::MovePointer { p, q, k: 0 } => {
+                let (value, origin) = (self.values[usize::from(q)], self.origins[usize::from(q)]);
+                self.set_pointer(p, value, origin);
+            }
+            Statement::MovePointer { p, q, k } => self.advance(p, q, i64::from(k))?,
+            Statement::IndexPointer { p, q, i } => self.advance(p, q, self.value(i))?,
+            Statement::Load { x, p, i, k } => {
+                let cell = self.cells[self.access(p, i, k)?];
+                self.set(x, i64::from(cell));
+            }
+            Statement::Store { p, i, k, x } => {
+                let address = self.access(p, i, k)?;
+                self.cells[address] = self.values[usize::from(x)];
+            }
+            Statement::Check { condition } => {
+                if !self.holds(condition) {
+                    return Err(Halt::Stopped(Check::Dynamic));
+                }
+            }
+            Statement::If { condition, then_count, .. } => {
+                let middle = s + 1 + then_count as usize;
+                let (start, end) = if self.holds(condition) { (s + 1, middle) } else { (middle, next) };
+                return Ok(self.enter(s, start, end));
+            }
+            Statement::While { condition, .. } => {
+                if self.holds(condition) {
+                    return Ok(self.enter(s, s + 1, next));
+                }
+            }
+            Statement::Bundle { .. } => return Ok(self.enter(s, s + 1, next)),
+        }
+        Ok(self.after(s))
+    }
+}
+
+#[cfg(test)]
+#[path = "machine_tests.rs"]
+mod tests;

@@ -1,0 +1,154 @@
+use crate::answer::RunInput;
+use crate::generate::draft::*;
+use crate::{bench, fast_run, machine};
+
+const P: i32 = 0;
+const N: i32 = 1;
+const X: i32 = 2;
+const Q: i32 = 3;
+
+/// p (0, count(n)), n, x, q with p's bounds; objects of 3 and 4 cells that touch.
+fn draft(statements: Vec<Record>) -> Draft {
+    Draft {
+        objects: vec![3, 4],
+        variables: vec![[1, 0, P, -1, 0, P, N, 0], [0; 8], [0; 8], [1, 0, P, -1, 0, P, N, 0]],
+        statements,
+    }
+}
+
+fn lent() -> RunInput {
+    RunInput {
+        directory: vec![2, 3, 5, 4],
+        cells: (100..110).collect(),
+        values: vec![2, 3, 0, 2],
+        origins: vec![1, 0, 0, 1],
+        allowance: 100,
+    }
+}
+
+/// The answer of both forms, which must be the same, and the values after.
+fn run_with(statements: Vec<Record>, change: impl Fn(&mut RunInput)) -> (String, RunInput) {
+    let table = draft(statements).words();
+    let mut plain = lent();
+    change(&mut plain);
+    let mut fast = plain.clone();
+    let answer = machine::run(&table, &mut plain);
+    assert_eq!(answer, fast_run::run(&table, &mut fast));
+    assert_eq!(plain, fast);
+    (answer.to_string(), plain)
+}
+
+fn run(statements: Vec<Record>) -> String {
+    run_with(statements, |_| {}).0
+}
+
+fn entry(change: impl Fn(&mut RunInput)) -> String {
+    run_with(vec![], change).0
+}
+
+#[test]
+fn directory_and_memory() {
+    assert_eq!(entry(|_| {}), "done 0");
+    assert_eq!(entry(|i| i.directory.truncate(3)), "refused 10 0");
+    assert_eq!(entry(|i| i.directory.truncate(2)), "refused 10 0");
+    assert_eq!(entry(|i| i.directory[0] = 0), "refused 10 0");
+    assert_eq!(entry(|i| i.directory[1] = 2), "refused 10 0");
+    assert_eq!(entry(|i| i.directory[2] = 4), "refused 10 1");
+    assert_eq!(entry(|i| i.directory[2] = 1), "refused 10 1");
+    assert_eq!(entry(|i| i.directory[2] = u32::MAX), "refused 10 1");
+    assert_eq!(entry(|i| i.cells.truncate(9)), "done 0");
+    assert_eq!(entry(|i| i.cells.truncate(8)), "refused 10 1");
+    assert_eq!(entry(|i| i.cells = vec![0; machine::MAX_CELLS + 1]), "refused 10 0");
+}
+
+#[test]
+fn entries() {
+    assert_eq!(entry(|i| i.values.truncate(3)), "refused 11 0");
+    assert_eq!(entry(|i| i.origins.push(0)), "refused 11 0");
+    assert_eq!(entry(|i| i.origins[1] = 1), "refused 12 1");
+    assert_eq!(entry(|i| i.origins[3] = 3), "refused 12 3");
+    assert_eq!(entry(|i| i.origins[0] = 0), "refused 12 0");
+    assert_eq!(entry(|i| i.values[0] = 0), "refused 12 0");
+    // Touching objects are not one object.
+    assert_eq!(entry(|i| i.values[1] = 4), "refused 12 0");
+    // An end is never wrapped.
+    assert_eq!(entry(|i| i.values[1] = u32::MAX), "refused 12 0");
+    // A pointer need not lie in its origin object; its bounds must.
+    assert_eq!(entry(|i| i.values[3] = 9), "done 0");
+    // Null has true bounds, and counts as 0 in the ends of others.
+    assert_eq!(entry(|i| (i.values[0], i.origins[0]) = (0, 0)), "refused 12 3");
+}
+
+#[test]
+fn done_then_spent_then_stopped() {
+    let stop = dynamic_check(with_literal(N, EQUAL, 0));
+    let with_allowance = |statements: Vec<Record>, a: u32| run_with(statements, |i| i.allowance = a).0;
+    assert_eq!(with_allowance(vec![set(X, 1)], 1), "done 1");
+    assert_eq!(with_allowance(vec![set(X, 1)], 0), "spent 0 0");
+    assert_eq!(with_allowance(vec![], 0), "done 0");
+    assert_eq!(with_allowance(vec![set(X, 1), stop], 1), "spent 1 1");
+    assert_eq!(with_allowance(vec![set(X, 1), stop], 2), "stopped 2 1 1");
+}
+
+#[test]
+fn checks_of_accesses() {
+    assert_eq!(run(vec![load(X, P, -1, 2), load(X, P, -1, 3)]), "stopped 2 1 3");
+    assert_eq!(run(vec![load(X, P, -1, -1)]), "stopped 1 0 3");
+    assert_eq!(run(vec![null(Q), store(Q, -1, 65_536, X)]), "stopped 2 1 2");
+    // The index is a whole number: it does not wrap round to the pointer.
+    let wrap = vec![add_constant(X, X, -1), load(X, P, X, 1)];
+    assert_eq!(run(wrap), "stopped 2 1 3");
+    // Declared ends, whatever the pointer's own value.
+    let outside = vec![move_pointer(Q, Q, 5), load(X, Q, -1, -5), load(X, Q, -1, 0)];
+    assert_eq!(run(outside), "stopped 3 2 3");
+}
+
+#[test]
+fn checks_of_pointer_arithmetic() {
+    assert_eq!(run(vec![null(Q), move_pointer(Q, Q, 0), index_pointer(Q, Q, X)]), "stopped 3 2 4");
+    assert_eq!(run(vec![null(Q), move_pointer(Q, Q, 1)]), "stopped 2 1 4");
+    assert_eq!(run(vec![move_pointer(Q, Q, -1), move_pointer(Q, Q, -1)]), "stopped 2 1 5");
+    assert_eq!(run(vec![add_constant(X, X, -2), index_pointer(Q, P, X)]), "stopped 2 1 5");
+    assert_eq!(run(vec![add_constant(X, X, -3), index_pointer(Q, P, X)]), "done 2");
+}
+
+#[test]
+fn stores_and_loads_reach_the_cells() {
+    let (answer, after) = run_with(vec![load(X, P, -1, 2), store(P, -1, 0, X)], |_| {});
+    assert_eq!(answer, "done 2");
+    assert_eq!((after.values[2], after.cells[2]), (104, 104));
+}
+
+#[test]
+fn blocks_and_steps() {
+    let count_down = while_loop(with_literal(N, GREATER, 0), vec![add_constant(N, N, -1)]);
+    assert_eq!(run(count_down), "done 7");
+    // The test of an endless while is a step each time.
+    assert_eq!(run(while_loop(with_literal(X, EQUAL, 0), vec![])), "spent 100 0");
+    // A bundle is a step for its head and one for each statement.
+    assert_eq!(run(bundle(vec![set(X, 1), set(X, 2)])), "done 3");
+    // The end of a then block skips the else block, also from a nested one.
+    let inner = if_else(with_literal(N, EQUAL, 3), vec![set(X, 1)], vec![set(X, 2)]);
+    let outer = if_else(with_literal(X, EQUAL, 0), inner, vec![set(X, 3)]);
+    let (answer, after) = run_with([outer, vec![add_constant(X, X, 10)]].concat(), |_| {});
+    assert_eq!((answer.as_str(), after.values[2]), ("done 4", 11));
+    // An empty chosen block ends at once.
+    assert_eq!(run(if_else(with_literal(X, EQUAL, 0), vec![], vec![set(X, 3)])), "done 1");
+}
+
+#[test]
+fn integers_wrap() {
+    let (_, after) = run_with(vec![add_constant(X, X, -1), operate(X, X, X, 2)], |_| {});
+    assert_eq!(after.values[2], 1);
+    let (_, after) = run_with(vec![add_constant(X, X, -1), operate(X, X, N, 0)], |_| {});
+    assert_eq!(after.values[2], 2);
+}
+
+#[test]
+fn the_measured_loop_is_right_in_both_forms() {
+    let table = bench::loop_table();
+    let lent = bench::loop_input(5_000);
+    let (mut plain, mut fast) = (lent.clone(), lent);
+    assert_eq!(machine::run(&table, &mut plain), fast_run::run(&table, &mut fast));
+    assert_eq!(plain, fast);
+}

@@ -1,0 +1,119 @@
+//! A second implementation of the routine checker and interpreter, written from
+//! the paper alone, to run beside the proved one.
+
+mod answer;
+mod bench;
+mod checker;
+mod differ;
+mod facts;
+mod fast_check;
+mod fast_code;
+mod fast_facts;
+mod fast_run;
+mod generate;
+mod linked;
+mod machine;
+mod proved;
+mod rng;
+mod shrink;
+mod stats;
+mod syntax;
+mod table;
+mod vectors;
+
+use std::path::Path;
+use std::process::ExitCode;
+
+const USAGE: &str = "usage: compare vectors DIR
+       compare stats SEED COUNT
+       compare differ SEED COUNT [FIRST]
+       compare show SEED NUMBER
+       compare bench";
+
+fn main() -> ExitCode {
+    let args: Vec<String> = std::env::args().skip(1).collect();
+    let args: Vec<&str> = args.iter().map(String::as_str).collect();
+    let outcome = match args[..] {
+        ["vectors", directory] => check_vectors(Path::new(directory)),
+        ["stats", seed, count] => show_stats(seed, count),
+        ["differ", seed, count] => search(seed, count, "0"),
+        ["differ", seed, count, first] => search(seed, count, first),
+        ["show", seed, number] => show(seed, number),
+        ["bench"] => {
+            bench::run();
+            Ok(true)
+        }
+        _ => Err(USAGE.to_string()),
+    };
+    match outcome {
+        Ok(true) => ExitCode::SUCCESS,
+        Ok(false) => ExitCode::from(1),
+        Err(message) => {
+            eprintln!("{message}");
+            ExitCode::from(2)
+        }
+    }
+}
+
+fn number(text: &str) -> Result<u64, String> {
+    text.parse().map_err(|_| format!("not a number: {text}\n{USAGE}"))
+}
+
+/// Checks both forms of this implementation, and all behind the seam, against all cases of the files.
+fn check_vectors(directory: &Path) -> Result<bool, String> {
+    let mut counts = Vec::new();
+    let mut differences = Vec::new();
+    for file in ["named.txt", "random.txt"] {
+        let cases = vectors::read_file(&directory.join(file))?;
+        let wrong = cases.iter().map(all_differences).filter(|d| !d.is_empty());
+        let before = differences.len();
+        differences.extend(wrong);
+        counts.push(format!("{file}: {} of {} right", cases.len() + before - differences.len(), cases.len()));
+    }
+    println!("{}", counts.join(", "));
+    for line in differences.iter().flatten().take(6) {
+        println!("{line}");
+    }
+    Ok(differences.is_empty())
+}
+
+/// The differences of one case of the files, of both forms and of every implementation behind the seam.
+fn all_differences(vector: &vectors::Vector) -> Vec<String> {
+    let mut found = vectors::differences(vector);
+    let case = generate::Case { table: vector.table.clone(), input: vector.input.clone() };
+    for other in proved::implementations() {
+        let what = differ::difference(&case, other.as_ref()).or_else(|| differ::at_every_limit(&case, other.as_ref()));
+        found.extend(what.map(|what| format!("{} ({}): {what}", vector.name, other.name())));
+    }
+    found
+}
+
+fn show_stats(seed: &str, count: &str) -> Result<bool, String> {
+    let stats = stats::gather(number(seed)?, number(count)?);
+    println!("{stats}");
+    for line in stats.differences.iter().take(6) {
+        println!("{line}");
+    }
+    Ok(stats.differences.is_empty())
+}
+
+/// Compares every implementation behind the seam with the plain form.
+fn search(seed: &str, count: &str, first: &str) -> Result<bool, String> {
+    let (seed, count, first) = (number(seed)?, number(count)?, number(first)?);
+    let mut same = true;
+    for other in proved::implementations() {
+        match differ::search(seed, first, count, other.as_ref()) {
+            None => println!("{}: {count} cases of seed {seed} from {first}, no difference", other.name()),
+            Some(report) => {
+                print!("{report}");
+                same = false;
+            }
+        }
+    }
+    Ok(same)
+}
+
+fn show(seed: &str, case: &str) -> Result<bool, String> {
+    print!("{}", differ::vector(&generate::case(number(seed)?, number(case)?)));
+    Ok(true)
+}

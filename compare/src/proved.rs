@@ -1,0 +1,139 @@
+//! What an implementation under comparison offers: answers as words. The proved
+//! implementation (`linked.rs`) and the fast form of this crate are both held
+//! against the plain form.
+
+use crate::answer::{CheckAnswer, Refusal, RunAnswer, RunInput};
+use crate::linked::Proved;
+use crate::{fast_check, fast_run};
+
+/// 0 for accepted, else the number of the refusal; its place; for refusal 8 a
+/// pointer whose declared bounds are not shown there, else 0.
+pub type CheckWords = [u32; 3];
+
+/// Outcome, then three words: 0 done (steps), 1 spent (steps, statement),
+/// 2 stopped (steps, statement, check), 3 refused (number, place, pointer).
+pub type RunWords = [u32; 4];
+
+/// What an implementation under comparison offers. A run works in the lent
+/// buffers: it may write `cells` and `values`, and nothing else.
+pub trait Implementation {
+    fn name(&self) -> &'static str;
+    fn check(&self, table: &[i32]) -> CheckWords;
+    fn run(&self, table: &[i32], input: &mut RunInput) -> RunWords;
+}
+
+/// The fast form of this crate behind the seam.
+pub struct Fast;
+
+impl Implementation for Fast {
+    fn name(&self) -> &'static str {
+        "fast form"
+    }
+
+    fn check(&self, table: &[i32]) -> CheckWords {
+        check_words(&fast_check::check(table))
+    }
+
+    fn run(&self, table: &[i32], input: &mut RunInput) -> RunWords {
+        run_words(&fast_run::run(table, input))
+    }
+}
+
+/// All implementations to compare with the plain form.
+pub fn implementations() -> Vec<Box<dyn Implementation>> {
+    vec![Box::new(Proved), Box::new(Fast)]
+}
+
+fn refusal_words(refusal: &Refusal) -> CheckWords {
+    let lowest = if refusal.cause == 8 { refusal.pointers.trailing_zeros() } else { 0 };
+    [refusal.cause.into(), refusal.place, lowest]
+}
+
+/// The words of an answer; of refusal 8 the lowest pointer.
+pub fn check_words(answer: &CheckAnswer) -> CheckWords {
+    match answer {
+        Ok(()) => [0; 3],
+        Err(refusal) => refusal_words(refusal),
+    }
+}
+
+pub fn run_words(answer: &RunAnswer) -> RunWords {
+    // Steps never exceed the allowance, which is below 4,294,967,296.
+    match *answer {
+        RunAnswer::Done { steps } => [0, steps as u32, 0, 0],
+        RunAnswer::Spent { steps, statement } => [1, steps as u32, statement, 0],
+        RunAnswer::Stopped { steps, statement, check } => [2, steps as u32, statement, check as u32],
+        RunAnswer::Refused(refusal) => {
+            let [number, place, pointer] = refusal_words(&refusal);
+            [3, number, place, pointer]
+        }
+        RunAnswer::Stuck { steps, statement } => [u32::MAX, steps as u32, statement, 0],
+    }
+}
+
+/// Whether words are the right answer. For refusal 8 every choice of a pointer
+/// that is not shown is right.
+pub fn check_agrees(right: &CheckAnswer, words: CheckWords) -> bool {
+    let [number, place, pointer] = words;
+    match right {
+        Err(refusal) if refusal.cause == 8 => {
+            number == 8 && place == refusal.place && pointer < 16 && refusal.pointers >> pointer & 1 == 1
+        }
+        other => words == check_words(other),
+    }
+}
+
+pub fn run_agrees(right: &RunAnswer, words: RunWords) -> bool {
+    match right {
+        RunAnswer::Refused(refusal) => {
+            words[0] == 3 && check_agrees(&Err(*refusal), [words[1], words[2], words[3]])
+        }
+        // An alarm is right for nobody.
+        RunAnswer::Stuck { .. } => false,
+        other => words == run_words(other),
+    }
+}
+
+/// Words as text, in the form of the vectors.
+pub fn show_check_words([number, place, pointer]: CheckWords) -> String {
+    match number {
+        0 => "accepted".to_string(),
+        8 => format!("refused 8 {place} {pointer}"),
+        _ => format!("refused {number} {place}"),
+    }
+}
+
+pub fn show_run_words(words: RunWords) -> String {
+    let [outcome, a, b, c] = words;
+    match outcome {
+        0 => format!("done {a}"),
+        1 => format!("spent {a} {b}"),
+        2 => format!("stopped {a} {b} {c}"),
+        3 => show_check_words([a, b, c]),
+        _ => format!("unknown words {words:?}"),
+    }
+}
+
+#[cfg(test)]
+mod tests {
+    use super::*;
+    use crate::answer::Check;
+
+    #[test]
+    fn refusal_8_may_name_any_pointer_not_shown() {
+        let right = Err(Refusal::bounds(3, 0b101));
+        assert!(check_agrees(&right, [8, 3, 0]) && check_agrees(&right, [8, 3, 2]));
+        assert!(!check_agrees(&right, [8, 3, 1]) && !check_agrees(&right, [8, 2, 0]));
+        assert!(!check_agrees(&right, [8, 3, 99]) && !check_agrees(&right, [0, 0, 0]));
+        assert_eq!(check_words(&right), [8, 3, 0]);
+    }
+
+    #[test]
+    fn other_answers_must_be_equal() {
+        let right = RunAnswer::Stopped { steps: 4, statement: 2, check: Check::OutOfBounds };
+        assert!(run_agrees(&right, [2, 4, 2, 3]));
+        assert!(!run_agrees(&right, [2, 5, 2, 3]) && !run_agrees(&right, [1, 4, 2, 0]));
+        let refused = RunAnswer::Refused(Refusal::at(12, 1));
+        assert!(run_agrees(&refused, [3, 12, 1, 0]) && !run_agrees(&refused, [3, 12, 0, 0]));
+    }
+}

@@ -1,0 +1,226 @@
+//! Makes a case smaller while a predicate stays true, for short reports.
+
+use crate::generate::draft::{Draft, Record};
+use crate::generate::Case;
+
+/// Gives up after so many trials.
+const TRIALS: usize = 50_000;
+
+/// The smallest case found for which `keeps` is true, as it is for `case`.
+pub fn shrink(case: &Case, keeps: &mut dyn FnMut(&Case) -> bool) -> Case {
+    let mut shrinker = Shrinker { best: case.clone(), keeps, trials: TRIALS };
+    loop {
+        let before = shrinker.best.clone();
+        shrinker.statements();
+        shrinker.names();
+        shrinker.words();
+        shrinker.input();
+        if shrinker.best == before || shrinker.trials == 0 {
+            return shrinker.best;
+        }
+    }
+}
+
+struct Shrinker<'a> {
+    best: Case,
+    keeps: &'a mut dyn FnMut(&Case) -> bool,
+    trials: usize,
+}
+
+impl Shrinker<'_> {
+    /// Takes the candidate if it still keeps the predicate true.
+    fn offer(&mut self, candidate: Case) -> bool {
+        if self.trials == 0 || candidate == self.best {
+            return false;
+        }
+        self.trials -= 1;
+        let taken = (self.keeps)(&candidate);
+        if taken {
+            self.best = candidate;
+        }
+        taken
+    }
+
+    fn offer_table(&mut self, table: Vec<i32>) -> bool {
+        self.offer(Case { table, input: self.best.input.clone() })
+    }
+
+    fn draft(&self) -> Option<Draft> {
+        Draft::from_words(&self.best.table)
+    }
+
+    /// Drops statements, with their blocks or the head alone.
+    fn statements(&mut self) {
+        let Some(draft) = self.draft() else { return };
+        for s in (0..draft.statements.len()).rev() {
+            for keep_blocks in [false, true] {
+                let Some(mut smaller) = self.draft() else { return };
+                if s < smaller.statements.len() {
+                    smaller.remove(s, keep_blocks);
+                    if self.offer_table(smaller.words()) {
+                        break;
+                    }
+                }
+            }
+        }
+    }
+
+    /// Drops variables that nothing names, and objects from the last.
+    fn names(&mut self) {
+        let count = self.draft().map_or(0, |draft| draft.variables.len());
+        for v in (0..count).rev() {
+            let mut smaller = self.best.clone();
+            let Some(table) = self.draft().and_then(|draft| without_variable(draft, v)) else { continue };
+            smaller.table = table.words();
+            for list in [&mut smaller.input.values, &mut smaller.input.origins] {
+                if v < list.len() {
+                    list.remove(v);
+                }
+            }
+            self.offer(smaller);
+        }
+        while let Some(mut draft) = self.draft() {
+            let mut smaller = self.best.clone();
+            if draft.objects.pop().is_none() {
+                return;
+            }
+            smaller.table = draft.words();
+            let pairs = smaller.input.directory.len().saturating_sub(2);
+            smaller.input.directory.truncate(pairs);
+            if !self.offer(smaller) {
+                return;
+            }
+        }
+    }
+
+    /// Sets words to smaller ones.
+    fn words(&mut self) {
+        let first = if self.draft().is_some() { 6 } else { 0 };
+        for place in first..self.best.table.len() {
+            for smaller in smaller_words(self.best.table[place].into()) {
+                let mut table = self.best.table.clone();
+                table[place] = smaller as i32;
+                if self.offer_table(table) {
+                    break;
+                }
+            }
+        }
+        if first == 0 {
+            for length in [6, self.best.table.len() / 2, self.best.table.len().saturating_sub(1)] {
+                let table = self.best.table.iter().copied().take(length).collect();
+                self.offer_table(table);
+            }
+        }
+    }
+
+    /// Makes what is lent smaller.
+    fn input(&mut self) {
+        for allowance in smaller_words(self.best.input.allowance.into()) {
+            let mut smaller = self.best.clone();
+            smaller.input.allowance = allowance as u32;
+            if self.offer(smaller) {
+                break;
+            }
+        }
+        for cells in [0, self.best.input.cells.len() / 2, self.best.input.cells.len().saturating_sub(1)] {
+            let mut smaller = self.best.clone();
+            smaller.input.cells.truncate(cells);
+            self.offer(smaller);
+        }
+        for list in 0..4 {
+            let length = lent(&mut self.best.clone(), list).len().min(200);
+            for place in 0..length {
+                let old = lent(&mut self.best.clone(), list).get(place).copied().unwrap_or(0);
+                for word in smaller_words(old.into()) {
+                    let mut smaller = self.best.clone();
+                    lent(&mut smaller, list)[place] = word as u32;
+                    if self.offer(smaller) {
+                        break;
+                    }
+                }
+            }
+        }
+    }
+}
+
+fn lent(case: &mut Case, list: usize) -> &mut Vec<u32> {
+    let input = &mut case.input;
+    [&mut input.values, &mut input.origins, &mut input.directory, &mut input.cells]
+        .into_iter()
+        .nth(list)
+        .unwrap()
+}
+
+/// Words nearer to zero, the smallest first.
+fn smaller_words(word: i64) -> impl Iterator<Item = i64> {
+    [0, word / 2, word - word.signum()].into_iter().filter(move |w| w.abs() < word.abs())
+}
+
+/// The fields of a statement that name variables.
+fn named(record: &Record) -> &'static [usize] {
+    match (record[0], record[3]) {
+        (1 | 4 | 5, _) => &[1],
+        (2 | 6, _) => &[1, 2],
+        (3 | 7 | 8, _) => &[1, 2, 3],
+        (9, _) => &[1, 2, 4],
+        (10..=12, 0) => &[1, 4],
+        (10..=12, _) => &[1],
+        _ => &[],
+    }
+}
+
+/// The draft without variable v, if nothing else names it.
+fn without_variable(mut draft: Draft, v: usize) -> Option<Draft> {
+    draft.variables.remove(v);
+    let rename = |word: &mut i32| {
+        let free = *word != v as i32;
+        *word -= i32::from(*word > v as i32);
+        free
+    };
+    let ends = draft.variables.iter_mut().filter(|record| record[0] == 1);
+    let ends_free =
+        ends.flat_map(|record| [2, 3, 5, 6].map(|field| rename(&mut record[field]))).all(|free| free);
+    let statements_free = draft
+        .statements
+        .iter_mut()
+        .flat_map(|record| named(record).iter().map(|&field| rename(&mut record[field])).collect::<Vec<_>>())
+        .all(|free| free);
+    (ends_free && statements_free && !draft.variables.is_empty()).then_some(draft)
+}
+
+#[cfg(test)]
+mod tests {
+    use super::*;
+    use crate::answer::RunAnswer;
+    use crate::generate::case;
+    use crate::{checker, machine};
+
+    #[test]
+    fn keeps_the_predicate_and_gets_small() {
+        let is_eight = |c: &Case| matches!(checker::check(&c.table), Err(r) if r.cause == 8);
+        let mut seen = 0;
+        for number in 0..400 {
+            let found = case(5, number);
+            if is_eight(&found) && seen < 8 {
+                let small = shrink(&found, &mut |c| is_eight(c));
+                assert!(is_eight(&small));
+                // One variable, one statement or a small bundle are enough for refusal 8.
+                assert!(small.table.len() <= 6 + 3 * 8 + 5 * 7, "{:?}", small.table);
+                seen += 1;
+            }
+        }
+        assert_eq!(seen, 8);
+    }
+
+    #[test]
+    fn shrinks_runs_too() {
+        let is_stop = |c: &Case| {
+            let answer = machine::run(&c.table, &mut c.input.clone());
+            matches!(answer, RunAnswer::Stopped { .. })
+        };
+        let found = (0..).map(|n| case(6, n)).find(is_stop).unwrap();
+        let small = shrink(&found, &mut |c| is_stop(c));
+        assert!(is_stop(&small));
+        assert!(small.table.len() <= found.table.len() && small.input.allowance <= 12);
+    }
+}

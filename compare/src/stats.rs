@@ -1,0 +1,152 @@
+//! How many generated cases end in which way.
+
+use crate::answer::{CheckAnswer, RunAnswer};
+use crate::generate::case;
+use crate::table::{decode, Statement};
+use crate::{checker, fast_check, fast_run, machine};
+use std::collections::BTreeMap;
+
+/// The cases of a seed by their answers; the fast form is held against the
+/// plain one on the way.
+#[derive(Default)]
+pub struct Stats {
+    check: BTreeMap<String, u64>,
+    run: BTreeMap<String, u64>,
+    cases: u64,
+    accepted: u64,
+    /// Statements of the accepted tables, and how many of those tables have
+    /// an if, a while, a bundle.
+    statements: u64,
+    heads: [u64; 3],
+    steps: u64,
+    pub differences: Vec<String>,
+}
+
+fn check_class(answer: &CheckAnswer) -> String {
+    match answer {
+        Ok(()) => "accepted".to_string(),
+        Err(refusal) => format!("refused {:2}", refusal.cause),
+    }
+}
+
+fn run_class(answer: &RunAnswer) -> String {
+    match answer {
+        RunAnswer::Refused(refusal) => format!("refused {:2}", refusal.cause),
+        RunAnswer::Done { .. } => "done".to_string(),
+        RunAnswer::Spent { .. } => "spent".to_string(),
+        RunAnswer::Stopped { check, .. } => format!("stopped {}", *check as u8),
+        RunAnswer::Stuck { .. } => "STUCK".to_string(),
+    }
+}
+
+pub fn gather(seed: u64, count: u64) -> Stats {
+    let mut stats = Stats { cases: count, ..Stats::default() };
+    for number in 0..count {
+        let case = case(seed, number);
+        let checked = checker::check(&case.table);
+        let (mut plain, mut fast) = (case.input.clone(), case.input.clone());
+        let answer = machine::run(&case.table, &mut plain);
+        let same = fast_check::check(&case.table) == checked
+            && fast_run::run(&case.table, &mut fast) == answer
+            && plain == fast;
+        let stuck = matches!(answer, RunAnswer::Stuck { .. });
+        if !same || stuck {
+            stats.differences.push(format!("case {seed} {number}: plain {answer}"));
+        }
+        if let (Ok(()), Ok(routine)) = (&checked, decode(&case.table)) {
+            stats.accepted += 1;
+            stats.count_statements(&routine.statements);
+        }
+        if let RunAnswer::Done { steps } | RunAnswer::Spent { steps, .. } | RunAnswer::Stopped { steps, .. } =
+            answer
+        {
+            stats.steps += steps;
+        }
+        *stats.check.entry(check_class(&checked)).or_default() += 1;
+        *stats.run.entry(run_class(&answer)).or_default() += 1;
+    }
+    stats
+}
+
+impl Stats {
+    fn count_statements(&mut self, statements: &[Statement]) {
+        self.statements += statements.len() as u64;
+        let has = |test: fn(&Statement) -> bool| u64::from(statements.iter().any(test));
+        self.heads[0] += has(|s| matches!(s, Statement::If { .. }));
+        self.heads[1] += has(|s| matches!(s, Statement::While { .. }));
+        self.heads[2] += has(|s| matches!(s, Statement::Bundle { .. }));
+    }
+}
+
+impl std::fmt::Display for Stats {
+    fn fmt(&self, f: &mut std::fmt::Formatter<'_>) -> std::fmt::Result {
+        let percent = |part: u64| 100.0 * part as f64 / self.cases.max(1) as f64;
+        writeln!(
+            f,
+            "{} cases, {:.1} percent accepted, {} steps run",
+            self.cases,
+            percent(self.accepted),
+            self.steps
+        )?;
+        let mean = self.statements as f64 / self.accepted.max(1) as f64;
+        let [ifs, whiles, bundles] = self.heads;
+        writeln!(f, "accepted tables: {mean:.1} statements each, {ifs} with an if, {whiles} with a while, {bundles} with a bundle")?;
+        for (title, classes) in [("check", &self.check), ("run", &self.run)] {
+            for (class, count) in classes {
+                writeln!(f, "{title}  {class:<12} {count:>8}  {:5.1} %", percent(*count))?;
+            }
+        }
+        write!(f, "fast form against plain form: {} differences", self.differences.len())
+    }
+}
+
+#[cfg(test)]
+mod tests {
+    use super::*;
+
+    /// The greatest depth of a statement in the block.
+    fn depth(statements: &[Statement]) -> usize {
+        let mut greatest = 0;
+        let mut s = 0;
+        while s < statements.len() {
+            let block = &statements[s + 1..s + statements[s].size()];
+            match statements[s] {
+                Statement::If { then_count, .. } => {
+                    let (then, other) = block.split_at(then_count as usize);
+                    let inner = [then, other].into_iter().filter(|b| !b.is_empty()).map(|b| 1 + depth(b));
+                    greatest = inner.fold(greatest, usize::max);
+                }
+                Statement::While { count: 1.., .. } => greatest = greatest.max(1 + depth(block)),
+                _ => {}
+            }
+            s += statements[s].size();
+        }
+        greatest
+    }
+
+    #[test]
+    fn generated_cases_reach_every_answer() {
+        let stats = gather(21, 8_000);
+        assert!(stats.differences.is_empty(), "{:?}", stats.differences);
+        let percent = 100 * stats.accepted / stats.cases;
+        assert!((30..=60).contains(&percent), "{percent} percent accepted");
+        for cause in 1..=9 {
+            assert!(stats.check.contains_key(&format!("refused {cause:2}")), "cause {cause}");
+        }
+        for class in ["done", "spent", "refused 10", "refused 11", "refused 12"] {
+            assert!(stats.run.contains_key(class), "{class}");
+        }
+        for check in 1..=5 {
+            assert!(stats.run.contains_key(&format!("stopped {check}")), "check {check}");
+        }
+        assert!(!stats.run.contains_key("STUCK"));
+    }
+
+    #[test]
+    fn accepted_tables_go_down_to_depth_8() {
+        let accepted = (0..6_000).map(|number| case(22, number).table).filter(|t| checker::check(t).is_ok());
+        let depths: Vec<usize> = accepted.map(|t| depth(&decode(&t).unwrap().statements)).collect();
+        assert_eq!(depths.iter().max(), Some(&8));
+        assert!(depths.iter().filter(|&&d| d == 8).count() >= 10);
+    }
+}

@@ -1,0 +1,175 @@
+//! A decoded routine: objects, variables with their bounds, typed statements.
+
+pub type Var = u8;
+
+#[derive(Clone, Copy, Debug, PartialEq, Eq)]
+pub enum Kind {
+    Integer,
+    Pointer,
+}
+
+/// An end's value is the whole number pointer + integer + constant.
+#[derive(Clone, Copy, Debug, PartialEq, Eq)]
+pub struct End {
+    pub pointer: Var,
+    pub integer: Option<Var>,
+    pub constant: i32,
+}
+
+#[derive(Clone, Copy, Debug, PartialEq, Eq)]
+pub struct Bounds {
+    pub lower: End,
+    pub upper: End,
+}
+
+/// Relations in the order of the table: <, >=, >, <=, ==, !=.
+#[derive(Clone, Copy, Debug, PartialEq, Eq)]
+#[repr(u8)]
+pub enum Relation {
+    Less,
+    GreaterEqual,
+    Greater,
+    LessEqual,
+    Equal,
+    NotEqual,
+}
+
+use Relation::*;
+
+pub const RELATIONS: [Relation; 6] = [Less, GreaterEqual, Greater, LessEqual, Equal, NotEqual];
+
+/// "The negation of each relation is a table of six."
+const NEGATION: [Relation; 6] = [GreaterEqual, Less, LessEqual, Greater, NotEqual, Equal];
+
+#[derive(Clone, Copy, Debug, PartialEq, Eq)]
+pub enum Right {
+    Variable(Var),
+    Literal(u32),
+}
+
+#[derive(Clone, Copy, Debug, PartialEq, Eq)]
+pub struct Condition {
+    pub left: Var,
+    pub relation: Relation,
+    pub right: Right,
+}
+
+impl Condition {
+    pub fn negated(self) -> Condition {
+        Condition { relation: NEGATION[self.relation as usize], ..self }
+    }
+}
+
+#[derive(Clone, Copy, Debug, PartialEq, Eq)]
+pub enum Operator {
+    Add,
+    Subtract,
+    Multiply,
+}
+
+#[derive(Clone, Copy, Debug, PartialEq, Eq)]
+pub enum Statement {
+    Literal {
+        x: Var,
+        literal: u32,
+    },
+    AddConstant {
+        x: Var,
+        y: Var,
+        k: i32,
+    },
+    Operate {
+        x: Var,
+        y: Var,
+        z: Var,
+        operator: Operator,
+    },
+    Null {
+        p: Var,
+    },
+    Address {
+        p: Var,
+        object: u8,
+    },
+    MovePointer {
+        p: Var,
+        q: Var,
+        k: i32,
+    },
+    IndexPointer {
+        p: Var,
+        q: Var,
+        i: Var,
+    },
+    Load {
+        x: Var,
+        p: Var,
+        i: Option<Var>,
+        k: i32,
+    },
+    Store {
+        p: Var,
+        i: Option<Var>,
+        k: i32,
+        x: Var,
+    },
+    Check {
+        condition: Condition,
+    },
+    If {
+        condition: Condition,
+        then_count: u32,
+        else_count: u32,
+    },
+    While {
+        condition: Condition,
+        count: u32,
+    },
+    /// The count as the table has it; 1 to 16 once cause 6 is excluded.
+    Bundle {
+        count: i32,
+    },
+}
+
+impl Statement {
+    /// The variable that kinds 1 to 8 assign.
+    pub fn target(&self) -> Option<Var> {
+        match *self {
+            Statement::Literal { x, .. }
+            | Statement::AddConstant { x, .. }
+            | Statement::Operate { x, .. }
+            | Statement::Load { x, .. } => Some(x),
+            Statement::Null { p }
+            | Statement::Address { p, .. }
+            | Statement::MovePointer { p, .. }
+            | Statement::IndexPointer { p, .. } => Some(p),
+            _ => None,
+        }
+    }
+
+    /// Itself and all statements of its blocks.
+    pub fn size(&self) -> usize {
+        match *self {
+            Statement::If { then_count, else_count, .. } => 1 + then_count as usize + else_count as usize,
+            Statement::While { count, .. } => 1 + count as usize,
+            Statement::Bundle { count } => 1 + count.max(0) as usize,
+            _ => 1,
+        }
+    }
+
+    pub fn is_head(&self) -> bool {
+        matches!(self, Statement::If { .. } | Statement::While { .. } | Statement::Bundle { .. })
+    }
+}
+
+/// A routine that none of the causes 1 to 6 refuses.
+#[derive(Clone, Debug)]
+pub struct Routine {
+    pub objects: Vec<u32>,
+    pub kinds: Vec<Kind>,
+    /// Declared bounds; `None` for an integer.
+    pub bounds: Vec<Option<Bounds>>,
+    pub statements: Vec<Statement>,
+    /// Bit v for each variable that a condition or the right side of kind 2 reads.
+    pub compared: u16,
+}

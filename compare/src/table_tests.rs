@@ -1,0 +1,182 @@
+use super::*;
+use crate::generate::draft::*;
+
+/// Variables: p (0, count(n)), n (1), x (2); object 0 has 10 cells.
+fn draft(statements: Vec<Record>) -> Draft {
+    Draft { objects: vec![10], variables: vec![[1, 0, 0, -1, 0, 0, 1, 0], [0; 8], [0; 8]], statements }
+}
+
+fn refused(words: &[i32]) -> Option<(u8, u32)> {
+    decode(words).err().map(|refusal| (refusal.cause, refusal.place))
+}
+
+fn refused_statements(statements: Vec<Record>) -> Option<(u8, u32)> {
+    refused(&draft(statements).words())
+}
+
+fn some_check() -> Record {
+    dynamic_check(with_literal(1, GREATER, 0))
+}
+
+#[test]
+fn cause_1_is_the_number_of_words() {
+    assert_eq!(refused(&[]), Some((1, 0)));
+    assert_eq!(refused(&[6, 0, 6, 8, 14]), Some((1, 0)));
+    assert_eq!(refused(&vec![0; MAX_WORDS + 1]), Some((1, 0)));
+    assert_eq!(refused(&vec![0; MAX_WORDS]), Some((2, 0)));
+}
+
+#[test]
+fn the_largest_table_is_read() {
+    let mut largest = draft(vec![some_check(); MAX_STATEMENTS]);
+    largest.objects.resize(MAX_OBJECTS, 1_000_000);
+    largest.variables.resize(MAX_VARIABLES, [0; 8]);
+    assert_eq!(largest.words().len(), MAX_WORDS);
+    assert_eq!(refused(&largest.words()), None);
+}
+
+#[test]
+fn cause_2_is_directory_and_lengths() {
+    assert_eq!(refused(&[6, 0, 6, 0, 6, 0]), Some((2, 0)));
+    let right = draft(vec![]).words();
+    for place in 0..6 {
+        for change in [-1, 1, 7, 8, i32::MIN, i32::MAX] {
+            let mut words = right.clone();
+            words[place] = words[place].wrapping_add(change);
+            assert_eq!(refused(&words), Some((2, 0)), "word {place} by {change}");
+        }
+    }
+    let mut longer = right;
+    longer.push(0);
+    assert_eq!(refused(&longer), Some((2, 0)));
+}
+
+#[test]
+fn cause_3_goes_before_4_and_4_before_5() {
+    let mut wrong = draft(vec![[0; 7]]);
+    wrong.objects = vec![1, 1_000_001, 0];
+    wrong.variables[2][5] = 1;
+    assert_eq!(refused(&wrong.words()), Some((3, 1)));
+    wrong.objects[1] = 1_000_000;
+    wrong.objects[2] = 1;
+    assert_eq!(refused(&wrong.words()), Some((4, 2)));
+    wrong.variables[2][5] = 0;
+    assert_eq!(refused(&wrong.words()), Some((5, 0)));
+}
+
+#[test]
+fn an_end_goes_by_the_kind_word_alone() {
+    // Variable 1 is wrong in its second word, but it is an array_ptr to variable 0.
+    let mut wrong = draft(vec![]);
+    wrong.variables = vec![[1, 0, 1, -1, 0, 1, -1, 0], [1, 7, 1, -1, 0, 1, -1, 0]];
+    assert_eq!(refused(&wrong.words()), Some((4, 1)));
+    // A kind word of 2 is neither kind.
+    wrong.variables = vec![[1, 0, 0, -1, 0, 0, 1, 0], [2, 0, 0, 0, 0, 0, 0, 0]];
+    assert_eq!(refused(&wrong.words()), Some((4, 0)));
+}
+
+#[test]
+fn an_end_needs_a_pointer_and_a_k_in_range() {
+    for (field, word) in [(2, -1), (2, 1), (3, 0), (3, -2), (4, 65_537), (5, 3), (7, -65_537)] {
+        let mut wrong = draft(vec![]);
+        wrong.variables[0][field] = word;
+        assert_eq!(refused(&wrong.words()), Some((4, 0)), "field {field} {word}");
+    }
+    let mut right = draft(vec![]);
+    right.variables[0][4] = -65_536;
+    right.variables[0][7] = 65_536;
+    assert_eq!(refused(&right.words()), None);
+}
+
+#[test]
+fn statement_fields_by_kind() {
+    for right in [
+        set(1, i32::MAX),
+        add_constant(1, 2, -65_536),
+        operate(2, 1, 1, 2),
+        null(0),
+        address(0, 0),
+        move_pointer(0, 0, 65_536),
+        index_pointer(0, 0, 1),
+        load(2, 0, -1, 5),
+        store(0, 1, -5, 2),
+        dynamic_check(with_literal(0, EQUAL, 0)),
+        dynamic_check(with_variable(0, NOT_EQUAL, 0)),
+    ] {
+        assert_eq!(refused_statements(vec![right]), None, "{right:?}");
+        let mut stray = right;
+        stray[6] = 1;
+        assert_eq!(refused_statements(vec![some_check(), stray]), Some((5, 1)), "{stray:?}");
+    }
+    for wrong in [
+        set(1, -1),
+        set(0, 1),
+        set(3, 1),
+        set(16, 1),
+        add_constant(1, 2, 65_537),
+        operate(2, 1, 1, 3),
+        null(1),
+        address(0, 1),
+        address(0, -1),
+        index_pointer(0, 0, -1),
+        load(2, 0, -2, 0),
+        load(2, 1, -1, 0),
+        store(0, -1, 0, 0),
+        dynamic_check(with_literal(0, EQUAL, 1)),
+        dynamic_check(with_literal(1, EQUAL, -1)),
+        dynamic_check(with_variable(0, LESS, 1)),
+        dynamic_check(with_variable(1, LESS, 0)),
+        dynamic_check(with_literal(1, 6, 0)),
+        dynamic_check(with_literal(1, -1, 0)),
+        dynamic_check([1, 0, 2, 0]),
+        [0, 0, 0, 0, 0, 0, 0],
+        [14, 0, 0, 0, 0, 0, 0],
+        [-1, 0, 0, 0, 0, 0, 0],
+        [11, 1, 0, 1, 0, -1, 0],
+        [11, 1, 0, 1, 0, 0, -1],
+        [12, 1, 0, 1, 0, -1, 0],
+        [12, 1, 0, 1, 0, 0, 1],
+        [13, 1, 0, 0, 0, 0, 1],
+    ] {
+        assert_eq!(refused_statements(vec![wrong, some_check()]), Some((5, 0)), "{wrong:?}");
+    }
+}
+
+#[test]
+fn a_bundle_count_is_cause_6_and_comes_after_all_of_5() {
+    for count in [-1, 0, 17, i32::MIN, i32::MAX] {
+        let head = [13, count, 0, 0, 0, 0, 0];
+        let all = [vec![head], vec![some_check(); 20]].concat();
+        assert_eq!(refused_statements(all.clone()), Some((6, 0)), "{count}");
+        let with_5 = [all, vec![set(1, -1)]].concat();
+        assert_eq!(refused_statements(with_5), Some((5, 21)));
+    }
+    assert_eq!(refused_statements(bundle(vec![some_check(); 16])), None);
+}
+
+#[test]
+fn a_block_ends_with_its_parent() {
+    // The while inside the then block may not reach into the else block.
+    let inner = [12, 1, GREATER, 1, 0, 1, 0];
+    let wrong = if_else(with_literal(1, GREATER, 0), vec![inner], vec![some_check()]);
+    assert_eq!(refused_statements(wrong), Some((6, 1)));
+    let too_long = vec![[11, 1, GREATER, 1, 0, i32::MAX, i32::MAX], some_check()];
+    assert_eq!(refused_statements(too_long), Some((6, 0)));
+}
+
+#[test]
+fn depth_8_is_the_last() {
+    let nest = |depth: usize, inner: Vec<Record>| {
+        (0..depth).fold(inner, |inner, _| while_loop(with_literal(1, GREATER, 0), inner))
+    };
+    assert_eq!(refused_statements(nest(8, vec![some_check()])), None);
+    assert_eq!(refused_statements(nest(8, bundle(vec![some_check()]))), None);
+    assert_eq!(refused_statements(nest(9, vec![])), None);
+    assert_eq!(refused_statements(nest(9, vec![some_check()])), Some((6, 9)));
+}
+
+#[test]
+fn a_head_in_a_bundle_is_named_at_the_bundle() {
+    let nested = bundle(vec![some_check(), [12, 1, 0, 1, 0, 0, 0]]);
+    assert_eq!(refused_statements([vec![some_check()], nested].concat()), Some((6, 1)));
+}

@@ -1,0 +1,15 @@
+-- `exports::mizzengrape_run` meets its contract.
+use mathlib.Core.Path.{_≡_, refl, sym, ap, _∙_}
+use native.Mathlib.Omega.{arith}
+use borrow.Author.Needs.{needs}
+use Rattle.exports.specs.WordLaws.{no-room-to-run, ran-words}
+use Rattle.exports.proofs.mizzengrape_run.Statement.{statement}
+use Rattle.exports.proofs.mizzengrape_run.Tie as tie
+
+pub mizzengrape-run-spec : {M : Type 1} → statement M
+mizzengrape-run-spec =
+    tie.close
+    (tie.spec
+    (λ c. no-room-to-run (c .if1 .taken))
+    (λ c κs. search needs) (λ c κs. search needs) (λ c. search needs) (λ c. search needs) (λ c. search needs)
+    (λ c. ran-words _ (c .before .before .before .before .before .before .before .before .before .before .before .if1 .left) (c .before .before .before .before .before .before .before .before .run .ensures) (c .before .before .put-outcome .ensures)))

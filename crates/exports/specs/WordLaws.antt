@@ -1,0 +1,59 @@
+-- The words of each answer.
+use Prim.Native.Nat.{ℕ, _≤_, _<_}
+use mathlib.Core.Path.{_≡_, refl, sym, ap, _∙_}
+use mathlib.Core.Bool.{Bool, true, false}
+use mathlib.Core.List.{List}
+use borrow.Author.Tests.{le-leb, lt-leb}
+use lib.IntN.{ℤ}
+use lib.ListN.{length}
+use Rattle.table.specs.Refusals.{number, place, pointer}
+use Rattle.table.specs.declared.Refusal.{Refusal}
+use Rattle.checker.specs.Verdict.{faults, Answers}
+use Rattle.checker.specs.declared.Verdict.{Verdict}
+use Rattle.checker.specs.declared.Verdict.the-variants as verdict
+use Rattle.interpreter.specs.Checks.{checkNumber, checkStatement}
+use Rattle.interpreter.specs.Claim.{runFaults, RunAnswer}
+use Rattle.interpreter.specs.declared.Check.{Check}
+use Rattle.interpreter.specs.declared.Outcome.{Outcome}
+use Rattle.interpreter.specs.declared.Outcome.the-variants.{Done, Spent, Stopped, Refused}
+use Rattle.exports.specs.Words.{wordOf, putThree, putFour, verdictWords, outcomeWords, CheckAnswer, RunWords}
+
+module _ (w : List ℕ) {w′ : List ℕ} where
+  pub accepted-words : {v : Verdict} → v ≡ verdict.Accepted → w′ ≡ putThree w 0 0 0 → w′ ≡ verdictWords v w
+  unfolding verdictWords
+  accepted-words e p = rw e p
+
+  pub refused-words : {v : Verdict} {r : Refusal} {n a b p q : ℕ} → v ≡ verdict.Refused r → n ≡ number r → a ≡ place r → b ≡ wordOf a → p ≡ pointer r → q ≡ wordOf p
+      → w′ ≡ putThree w n b q → w′ ≡ verdictWords v w
+  unfolding verdictWords
+  refused-words e en ea eb ep eq s = rw (e, ← en, ← ea, ← ep, ← eb, ← eq) s
+
+  pub done-words : {o : Outcome} {n : ℕ} → o ≡ Done n → w′ ≡ putFour w 0 n 0 0 → w′ ≡ outcomeWords o w
+  unfolding outcomeWords
+  done-words e p = rw e p
+
+  pub spent-words : {o : Outcome} {n a b : ℕ} → o ≡ Spent n a → b ≡ wordOf a → w′ ≡ putFour w 1 n b 0 → w′ ≡ outcomeWords o w
+  unfolding outcomeWords
+  spent-words e eb p = rw (e, ← eb) p
+
+  pub stopped-words : {o : Outcome} {c : Check} {n a b k : ℕ} → o ≡ Stopped n c → a ≡ checkStatement c → b ≡ wordOf a → k ≡ checkNumber c → w′ ≡ putFour w 2 n b k → w′ ≡ outcomeWords o w
+  unfolding outcomeWords
+  stopped-words e ea eb ek p = rw (e, ← ea, ← eb, ← ek) p
+
+  pub not-begun-words : {o : Outcome} {r : Refusal} {n a b p q : ℕ} → o ≡ Refused r → n ≡ number r → a ≡ place r → b ≡ wordOf a → p ≡ pointer r → q ≡ wordOf p
+      → w′ ≡ putFour w 3 n b q → w′ ≡ outcomeWords o w
+  unfolding outcomeWords
+  not-begun-words e en ea eb ep eq s = rw (e, ← en, ← ea, ← ep, ← eb, ← eq) s
+
+pub no-room : {T : List ℤ} {w : List ℕ} → length w < 3 → CheckAnswer T w false w
+no-room {T} {w} h = record { room = sym (lt-leb 3 (length w) h); words = rw (lt-leb 3 (length w) h) refl }
+
+pub checked-words : {T : List ℤ} {w w′ : List ℕ} (v : Verdict) → 3 ≤ length w → Answers (faults T) v → w′ ≡ verdictWords v w → CheckAnswer T w true w′
+checked-words {T} {w} {w′} v h a e = record { room = sym (le-leb 3 (length w) h); words = rw (le-leb 3 (length w) h) (v, a, e) }
+
+pub no-room-to-run : {T : List ℤ} {D cs vs os w : List ℕ} {limit : ℕ} → length w < 4 → RunWords T D cs vs os limit w false vs cs w
+no-room-to-run {w = w} h = record { room = sym (lt-leb 4 (length w) h); words = rw (lt-leb 4 (length w) h) (refl, refl, refl) }
+
+pub ran-words : {T : List ℤ} {D cs vs os w vs′ cs′ w′ : List ℕ} {limit : ℕ} (o : Outcome) → 4 ≤ length w → RunAnswer (runFaults T D cs vs os) T D cs vs os limit o vs′ cs′ → w′ ≡ outcomeWords o w
+    → RunWords T D cs vs os limit w true vs′ cs′ w′
+ran-words {w = w} o h a e = record { room = sym (le-leb 4 (length w) h); words = rw (le-leb 4 (length w) h) (o, a, e) }

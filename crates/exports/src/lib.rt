@@ -1,0 +1,136 @@
+// What C and Rust link: the check and the run on lent slices, with the answer as words in a lent slice (include/mizzengrape.h).
+use checker::Verdict;
+use interpreter::Check;
+use interpreter::Outcome;
+ghost use mathlib.Core.Path.{_≡_};
+ghost use Prim.Native.Nat.{ℕ, _≤_};
+ghost use lib.ListN.{length};
+ghost use Rattle.interpreter.specs.Checks.{checkNumber, checkStatement};
+ghost use Rattle.exports.specs.Words.{wordOf, putThree, putFour, verdictWords, outcomeWords, CheckAnswer, RunWords};
+
+// A number as an answer word. Statements, objects and variables are few, so that the remainder is the number.
+fn word_of(n: usize) -> u32
+    ensures { λ r. ⌜ r ≡ wordOf n ⌝ }
+{
+    (n % 4294967296) as u32
+}
+
+fn put_three(answer: &mut [u32], a: u32, b: u32, c: u32)
+    requires { ⌜ 3 ≤ length (now answer) ⌝ }
+    ensures { λ _. ⌜ now (answer .exit) ≡ putThree (now (answer .entry)) a b c ⌝ }
+{
+    answer[0] = a;
+    answer[1] = b;
+    answer[2] = c;
+}
+
+fn put_four(answer: &mut [u32], a: u32, b: u32, c: u32, d: u32)
+    requires { ⌜ 4 ≤ length (now answer) ⌝ }
+    ensures { λ _. ⌜ now (answer .exit) ≡ putFour (now (answer .entry)) a b c d ⌝ }
+{
+    answer[0] = a;
+    answer[1] = b;
+    answer[2] = c;
+    answer[3] = d;
+}
+
+fn put_verdict(answer: &mut [u32], verdict: Verdict)
+    requires { ⌜ 3 ≤ length (now answer) ⌝ }
+    ensures { λ _. ⌜ now (answer .exit) ≡ verdictWords verdict (now (answer .entry)) ⌝ }
+{
+    match verdict {
+        Verdict::Accepted => {
+            put_three(answer, 0, 0, 0);
+        }
+        Verdict::Refused(r) => {
+            let number = table::refusal_number(r);
+            let place = word_of(table::refusal_place(r));
+            let pointer = word_of(table::refusal_pointer(r));
+            put_three(answer, number, place, pointer);
+        }
+    }
+}
+
+fn check_number(check: Check) -> u32
+    ensures { λ r. ⌜ r ≡ checkNumber check ⌝ }
+{
+    match check {
+        Check::ConditionFalse(_) => 1,
+        Check::NullAccess(_) => 2,
+        Check::OutOfBounds(_) => 3,
+        Check::NullArithmetic(_) => 4,
+        Check::AddressRange(_) => 5,
+    }
+}
+
+fn check_statement(check: Check) -> usize
+    ensures { λ r. ⌜ r ≡ checkStatement check ⌝ }
+{
+    match check {
+        Check::ConditionFalse(a) => a,
+        Check::NullAccess(a) => a,
+        Check::OutOfBounds(a) => a,
+        Check::NullArithmetic(a) => a,
+        Check::AddressRange(a) => a,
+    }
+}
+
+fn put_outcome(answer: &mut [u32], outcome: Outcome)
+    requires { ⌜ 4 ≤ length (now answer) ⌝ }
+    ensures { λ _. ⌜ now (answer .exit) ≡ outcomeWords outcome (now (answer .entry)) ⌝ }
+{
+    match outcome {
+        Outcome::Done { steps } => {
+            put_four(answer, 0, steps, 0, 0);
+        }
+        Outcome::Spent { steps, statement } => {
+            let place = word_of(statement);
+            put_four(answer, 1, steps, place, 0);
+        }
+        Outcome::Stopped { steps, check } => {
+            let place = word_of(check_statement(check));
+            let number = check_number(check);
+            put_four(answer, 2, steps, place, number);
+        }
+        Outcome::Refused(r) => {
+            let number = table::refusal_number(r);
+            let place = word_of(table::refusal_place(r));
+            let pointer = word_of(table::refusal_pointer(r));
+            put_four(answer, 3, number, place, pointer);
+        }
+    }
+}
+
+// Checks a routine. False, and nothing written, where the answer has fewer than three words.
+#[no_mangle]
+pub extern "C" fn mizzengrape_check(table: &[i32], answer: &mut [u32]) -> bool
+    ensures { λ r. ⌜ CheckAnswer (now (table .entry)) (now (answer .entry)) r (now (answer .exit)) ⌝ }
+{
+    if answer.len() < 3 {
+        return false;
+    }
+    let verdict = checker::check(table);
+    put_verdict(answer, verdict);
+    true
+}
+
+// Runs a routine, `limit` steps at most. False, and nothing written, where the answer has fewer than four words.
+#[no_mangle]
+pub extern "C" fn mizzengrape_run(
+    table: &[i32],
+    directory: &[u32],
+    cells: &mut [u32],
+    values: &mut [u32],
+    origins: &[u32],
+    limit: u32,
+    answer: &mut [u32],
+) -> bool
+    ensures { λ r. ⌜ RunWords (now (table .entry)) (now (directory .entry)) (now (cells .entry)) (now (values .entry)) (now (origins .entry)) limit (now (answer .entry)) r (now (values .exit)) (now (cells .exit)) (now (answer .exit)) ⌝ }
+{
+    if answer.len() < 4 {
+        return false;
+    }
+    let outcome = interpreter::run(table, directory, cells, values, origins, limit);
+    put_outcome(answer, outcome);
+    true
+}
