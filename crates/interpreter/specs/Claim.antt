@@ -6,6 +6,7 @@ use mathlib.Core.Logic.{_≢_, _↔_}
 use mathlib.Core.Bool.{true, false}
 use mathlib.Core.List.{List, [], _∷_}
 use lib.IntN.{ℤ}
+use lib.ListN.{getD}
 use Rattle.table.specs.Form.{sectionsOf, formOf}
 use Rattle.table.specs.Statements.{statementAt}
 use Rattle.table.specs.declared.Sections.{Sections}
@@ -24,6 +25,7 @@ use Rattle.checker.specs.declared.Verdict.the-variants as verdict
 use Rattle.interpreter.specs.Machine.{Failing, none, fails, failing, boundsTrue, inOrigin, Status, going, stopped, stuck, Point, start, pointAfter}
 use Rattle.interpreter.specs.Entry.{entryRefusals}
 use Rattle.interpreter.specs.Points.{inBundle, Access, no-access, access, accessFrom}
+use Rattle.interpreter.specs.Soundness.{Outside}
 use Rattle.interpreter.specs.Agreement.{outcomeShown}
 use Rattle.interpreter.specs.declared.Outcome.{Outcome}
 use Rattle.interpreter.specs.declared.Outcome.the-variants as outcome
@@ -67,6 +69,8 @@ pub record AtPoint (T : List ℤ) (h : Sections) (E : Environment) (D : List ℕ
   pub bounds : inBundle (tree T h) (point t .due) ≡ false → (p : ℕ) → isPointer E p ≡ true → boundsTrue E D (point t .values) (point t .origins) p ≡ true
   -- "Each cell read or written so far lay in the object that the pointer was derived from."
   pub accesses : (s : ℕ) → s < t → AccessInside D (accessFrom T h E (point s .status) (point s))
+  -- No cell outside the objects has changed.
+  pub untouched : (i : ℕ) → Outside D (h .objects) i → getD (point t .cells) i 0 ≡ getD (point 0 .cells) i 0
   -- The plain machine has a step wherever no check fails.
   pub has-step : point t .status ≢ stuck
   -- A run that goes on has made t steps.

@@ -90,6 +90,10 @@ module _ (T : List ℤ) (h : Sections) (formed : formOf T ≡ WellFormed h) (acc
   unfolding start
   none-yet = refl
 
+  first-cells : point 0 .cells ≡ cs
+  unfolding start pointAfter
+  first-cells = refl
+
   counted : (t : ℕ) → point t .status ≡ going → point t .due < h .statements → point t .steps ≡ t
   counted = steps-counted T h E D first unstuck none-yet
 
@@ -106,6 +110,7 @@ module _ (T : List ℤ) (h : Sections) (formed : formOf T ≡ WellFormed h) (acc
   at-point limit t = record {
     bounds = right t .bounds;
     accesses = λ s l. allowed-inside D (length (point s .cells)) (accessFrom T h E (point s .status) (point s)) (right s .access-allowed);
+    untouched = λ i o. right t .outside i o ∙ ap (λ (l : List ℕ). getD l i 0) (sym first-cells);
     has-step = unstuck t;
     counted = counted t;
     finished = finished t;
