@@ -61,17 +61,6 @@ stops xs ys z e p =
     let h = refuse-part xs ys e p in
     record { said = h .0 ∙ ap lowestVerdict (sym z); kept = λ q. absurd (h .1 (sym z ∙ q)) }
 
--- Where nothing is refused, no part is.
-pub no-first : (xs ys : List Fault) → also xs ys ≡ [] → xs ≡ []
-unfolding also
-no-first [] ys e = refl
-no-first (x ∷ xs) ys e = cc
-
-pub no-rest : (xs ys : List Fault) → also xs ys ≡ [] → ys ≡ []
-unfolding also
-no-rest [] ys e = e
-no-rest (x ∷ xs) ys e = cc
-
 pub no-fault : (b : Bool) (r : Refusal) → faultIf b r ≡ [] → b ≡ false
 unfolding faultIf
 no-fault true r e = cc

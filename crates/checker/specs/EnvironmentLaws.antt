@@ -24,7 +24,7 @@ use Rattle.table.specs.declared.Variable.the-variants.{Integer, Pointer}
 use Rattle.table.specs.declared.VariableRead.{VariableRead}
 use Rattle.table.specs.declared.VariableRead.the-variants.{Read}
 use Rattle.checker.specs.BoundsRules.{nothingKnown, isPointer, declared}
-use Rattle.checker.specs.BoundsLaws.{Proper}
+use Rattle.checker.specs.BoundsTrue.{Proper}
 use Rattle.checker.specs.Verdict.{boundsOf, environmentOf}
 use Rattle.checker.specs.declared.KnownEnd.the-variants.{Known}
 use Rattle.checker.specs.declared.Environment.{Environment}

@@ -31,7 +31,8 @@ use Rattle.checker.specs.FactRules.{conditionFacts, factsAfter, loopFact
 use Rattle.checker.specs.BoundsRules.{sameEnd, endAtMost}
 use Rattle.checker.specs.Rules.{bundleFacts, bundleFaults, sidesJoined, blockFacts, blockFaults}
 use Rattle.checker.specs.Verdict.{environmentOf}
-use Rattle.checker.specs.BundleLaws.{no-first, no-rest, no-fault}
+use Rattle.checker.specs.BundleLaws.{no-fault}
+use Rattle.checker.specs.RuleLaws.{no-first, no-rest}
 use Rattle.checker.specs.Exactness.{Traced, traced-exact, traced-new, traced-join, variables, traced-condition, traced-negated, traced-after, traced-body}
 use Rattle.checker.specs.declared.Bounds.{Bounds}
 

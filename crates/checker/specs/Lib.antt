@@ -2,6 +2,7 @@ pub mod FactRules
 pub mod BoundsRules
 pub mod Rules
 pub mod Verdict
+pub mod RuleLaws
 pub mod Walk
 pub mod FactRulesLaws
 pub mod BoundsRulesLaws
@@ -12,8 +13,6 @@ pub mod Routines
 pub mod Exactness
 pub mod ExactWalk
 pub mod ExactBounds
-pub mod FactLaws
-pub mod BoundsLaws
-pub mod RuleLaws
+pub mod FactsTrue
+pub mod BoundsTrue
 pub mod EnvironmentLaws
-pub mod FaultLaws

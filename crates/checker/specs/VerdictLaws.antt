@@ -28,7 +28,7 @@ use Rattle.blocks.specs.declared.Layout.{Layout}
 use Rattle.blocks.specs.declared.Layout.the-variants as layout-variant
 use Rattle.checker.specs.Rules.{Fault, refusal, notShown, also, blockFaults}
 use Rattle.checker.specs.Verdict.{environmentOf, refusals, sectionFaults, formFaults, faults, Answers, lowestVerdict}
-use Rattle.checker.specs.BundleLaws.{no-first, no-rest}
+use Rattle.checker.specs.RuleLaws.{no-first, no-rest}
 use Rattle.checker.specs.Walk.{Measured, Walks}
 use Rattle.checker.specs.declared.Environment.{Environment}
 use Rattle.checker.specs.declared.Verdict.{Verdict}
@@ -120,10 +120,16 @@ no-refusals [] e = refl
 no-refusals (x ∷ xs) e = cc
 
 -- A table without a fault is well formed and laid out, and its walk has no fault.
-pub faults-clear : (T : List ℤ) → faults T ≡ [] → (h : Sections) × Clear T h
+pub clear : (T : List ℤ) (h : Sections) → formOf T ≡ form.WellFormed h → faults T ≡ [] → Clear T h
 unfolding faults sectionFaults
+clear T h f e =
+    let s : formFaults T (form.WellFormed h) ≡ [] = rw f at e in
+    record { form = f; laid = no-refusals (layout T h) (no-first _ _ s); walked = no-rest _ _ s }
+
+pub faults-clear : (T : List ℤ) → faults T ≡ [] → (h : Sections) × Clear T h
+unfolding faults
 faults-clear T e = go (formOf T) refl e
   where
     go : (f : Form) → formOf T ≡ f → formFaults T f ≡ [] → (h : Sections) × Clear T h
-    go (form.Refused r) q e = let o : _≡_ {A = ℕ} 0 1 = cc in absurd (omega arith)
-    go (form.WellFormed h) q e = (h, record { form = q; laid = no-refusals (layout T h) (no-first _ _ e); walked = no-rest _ _ e })
+    go (form.Refused r) q e′ = let o : _≡_ {A = ℕ} 0 1 = cc in absurd (omega arith)
+    go (form.WellFormed h) q e′ = (h, clear T h q e)

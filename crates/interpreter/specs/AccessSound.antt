@@ -11,9 +11,9 @@ use lib.ListN.{getD}
 use Rattle.facts.specs.Numbers.{bias}
 use Rattle.table.specs.declared.Simple.{Simple}
 use Rattle.table.specs.declared.Simple.the-variants.{Literal, AddConstant, Arithmetic, Null, Address, PointerOffset, PointerIndex, Load, Store, Check}
-use Rattle.checker.specs.FactLaws.{neither}
+use Rattle.checker.specs.FactsTrue.{neither}
 use Rattle.checker.specs.BoundsRules.{declared}
-use Rattle.checker.specs.BoundsLaws.{endAt, BoundsHold}
+use Rattle.checker.specs.BoundsTrue.{endAt, BoundsHold}
 use Rattle.checker.specs.EnvironmentLaws.{DeclaredEnds}
 use Rattle.checker.specs.declared.KnownEnd.the-variants.{Known}
 use Rattle.checker.specs.declared.Environment.{Environment}

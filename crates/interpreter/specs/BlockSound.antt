@@ -22,7 +22,7 @@ use Rattle.blocks.specs.Tree.{Block, nil, plain, branch, loop, bundle, unread, 
 use Rattle.blocks.specs.Flow.{Successors, successors, entry, lead}
 use Rattle.blocks.specs.Shape.{size, targetsFrom}
 use Rattle.checker.specs.FactRules.{factsAfter, conditionFacts, loopFacts}
-use Rattle.checker.specs.FactLaws.{Agree, among-left, among-right, loop-facts-hold}
+use Rattle.checker.specs.FactsTrue.{Agree, among-left, among-right, loop-facts-hold}
 use Rattle.checker.specs.BoundsRules.{isPointer, declared, known, effect, boundsAfter, accessShown, unshown}
 use Rattle.checker.specs.Rules.{bundleFacts, bundleBounds, bundleFaults, sidesJoined, blockFacts, blockFaults}
 use Rattle.checker.specs.RuleLaws.{no-first, no-rest, access-passed, bounds-passed}

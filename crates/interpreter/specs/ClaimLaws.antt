@@ -16,10 +16,10 @@ use Rattle.table.specs.declared.Sections.{Sections}
 use Rattle.table.specs.declared.Form.{Form}
 use Rattle.table.specs.declared.Form.the-variants.{WellFormed, Refused}
 use Rattle.table.specs.declared.Refusal.{Refusal}
-use Rattle.table.specs.declared.Refusal.the-variants.{Length, Directory, ObjectLength, VariableRecord, StatementRecord, BoundsNotShown}
+use Rattle.table.specs.declared.Refusal.the-variants.{Length, Directory, ObjectLength, VariableRecord, StatementRecord}
 use Rattle.blocks.specs.Flow.{tableFlow, written, Written}
 use Rattle.checker.specs.EnvironmentLaws.{environment-declares}
-use Rattle.checker.specs.FaultLaws.{accepted, faultless-sections}
+use Rattle.checker.specs.VerdictLaws.{clear, faults-clear}
 use Rattle.checker.specs.BoundsRules.{isPointer}
 use Rattle.checker.specs.Rules.{Fault, refusal, notShown, also}
 use Rattle.checker.specs.Verdict.{environmentOf, refusals, faults, Answers}
@@ -149,15 +149,15 @@ pub record Lent (cs vs : List ℕ) : Type 0 where
 module _ (T : List ℤ) (h : Sections) (formed : formOf T ≡ WellFormed h) (accepts : faults T ≡ []) (D cs vs os : List ℕ) (lent : Lent cs vs)
     (none : entryRefusals h (environmentOf T h) D cs vs os ≡ []) where
   begun : Begun h (environmentOf T h) D cs vs os
-  begun = entry-begun h (environmentOf T h) D cs vs os none (lent .values-small) (lent .cells-small) (environment-declares T h (well-formed T h formed) .below)
+  begun = entry-begun h (environmentOf T h) D cs vs os (admitted h (environmentOf T h) D cs vs os none) (lent .values-small) (lent .cells-small) (environment-declares T h (well-formed T h formed) .below)
 
   -- What the loop asks.
   pub run-prepared : (w : List ℕ) → 2 * h .statements ≤ length w → Prepared h (endsOf (environmentOf T h)) D (written (tableFlow T h) w) vs
-  run-prepared w room = start-prepared T h D cs vs os w (well-formed T h formed) (accepted T h formed accepts .laid) room (admitted h (environmentOf T h) D cs vs os none)
+  run-prepared w room = start-prepared T h D cs vs os w (well-formed T h formed) (clear T h formed accepts .laid) room (admitted h (environmentOf T h) D cs vs os none)
 
   pub run-safe : (w : List ℕ) → 2 * h .statements ≤ length w → (limit : ℕ) → SafeRun T h (endsOf (environmentOf T h)) D (written (tableFlow T h) w) limit 0 vs cs
   run-safe w room limit =
-      start-safe T h D cs vs os w (well-formed T h formed) (accepted T h formed accepts .laid) room (admitted h (environmentOf T h) D cs vs os none)
+      start-safe T h D cs vs os w (well-formed T h formed) (clear T h formed accepts .laid) room (admitted h (environmentOf T h) D cs vs os none)
       (unstuck T h formed accepts D cs vs os begun) limit
 
   -- What the loop leaves is the claim.
@@ -165,7 +165,7 @@ module _ (T : List ℤ) (h : Sections) (formed : formOf T ≡ WellFormed h) (acc
       → Ends (bareRun T h (endsOf (environmentOf T h)) D (written (tableFlow T h) w) limit 0 0 vs cs) r vs′ cs′ → Ran T (sectionsOf T) D cs vs os limit r vs′ cs′
   run-claim w room limit r vs′ cs′ e =
       let agrees : bareRun T h (endsOf (environmentOf T h)) D (written (tableFlow T h) w) limit 0 0 vs cs ≡ resultShown h (point T h formed accepts D cs vs os begun limit)
-      = start-agrees T h D cs vs os w (well-formed T h formed) (accepted T h formed accepts .laid) room (admitted h (environmentOf T h) D cs vs os none)
+      = start-agrees T h D cs vs os w (well-formed T h formed) (clear T h formed accepts .laid) room (admitted h (environmentOf T h) D cs vs os none)
       (unstuck T h formed accepts D cs vs os begun) limit in
       subst (λ (g : Sections). Ran T g D cs vs os limit r vs′ cs′) (formed-sections T h formed) (record {
         answer = e .outcome ∙ ap (λ (o : Result). o .outcome) agrees;
@@ -181,13 +181,6 @@ unfolding Answers
 answers-first (refusal r) fs gs v a = a
 answers-first (notShown s p ps) fs gs v a = a
 
--- The verdict was accepted: there is no fault.
-pub accepted-none : (fs : List Fault) → Answers fs verdict.Accepted → fs ≡ []
-unfolding Answers
-accepted-none [] a = refl
-accepted-none (refusal r ∷ fs) a = let z : _≡_ {A = ℕ} 0 1 = cc in absurd (omega arith)
-accepted-none (notShown s p ps ∷ fs) a = let e : verdict.Accepted ≡ verdict.Refused (BoundsNotShown s (a .0)) = a .2 in let z : _≡_ {A = ℕ} 0 1 = cc in absurd (omega arith)
-
 -- The verdict was a refusal.
 pub check-refused : (T : List ℤ) (D cs vs os : List ℕ) (limit : ℕ) (r : Refusal) → Answers (faults T) (verdict.Refused r)
     → RunAnswer (runFaults T D cs vs os) T D cs vs os limit (outcome.Refused r) vs cs
@@ -200,7 +193,7 @@ check-refused T D cs vs os limit r a = go (faults T) a
 
 -- A table with no fault is well formed.
 pub no-form-refused : (T : List ℤ) (r : Refusal) → faults T ≡ [] → formOf T ≡ Refused r → ⊥
-no-form-refused T r e f = let p = faultless-sections T e in let q = p .1 in let z : _≡_ {A = ℕ} 0 1 = cc in omega arith
+no-form-refused T r e f = let p = faults-clear T e in let q = p .1 .form in let z : _≡_ {A = ℕ} 0 1 = cc in omega arith
 
 -- Of an accepted table the faults of a run are those of the entry.
 entry-only : (T : List ℤ) (h : Sections) (D cs vs os : List ℕ) → formOf T ≡ WellFormed h → faults T ≡ [] → runFaults T D cs vs os ≡ refusals (entryRefusals h (environmentOf T h) D cs vs os)

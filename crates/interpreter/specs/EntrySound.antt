@@ -15,7 +15,7 @@ use Rattle.facts.specs.Sound.{InRange, new-holds}
 use Rattle.table.specs.SectionsLaws.{both}
 use Rattle.table.specs.declared.Sections.{Sections}
 use Rattle.checker.specs.BoundsRules.{declared}
-use Rattle.checker.specs.BoundsLaws.{BoundsHold}
+use Rattle.checker.specs.BoundsTrue.{BoundsHold}
 use Rattle.checker.specs.EnvironmentLaws.{Declares, DeclaredEnds}
 use Rattle.checker.specs.declared.Environment.{Environment}
 use Rattle.interpreter.specs.Machine.{value, lowerEnd, upperEnd, low, high, originHolds, boundsTrue, Memory}

@@ -18,7 +18,7 @@ use Rattle.table.specs.declared.Sections.{Sections}
 use Rattle.blocks.specs.Tree.{tree}
 use Rattle.blocks.specs.Layout.{layout}
 use Rattle.checker.specs.BoundsRules.{isPointer, declared, known, effectOn, boundsAfter, boundsShown, unshown}
-use Rattle.checker.specs.BoundsLaws.{BoundsHold, known-after, all-shown, shown-holds, ProperEnd}
+use Rattle.checker.specs.BoundsTrue.{BoundsHold, known-after, all-shown, shown-holds, ProperEnd}
 use Rattle.checker.specs.Rules.{blockFaults}
 use Rattle.checker.specs.EnvironmentLaws.{Declares, DeclaredEnds}
 use Rattle.checker.specs.declared.Bounds.{Bounds}

@@ -19,9 +19,9 @@ use Rattle.table.specs.declared.Simple.{Simple}
 use Rattle.table.specs.declared.Simple.the-variants.{Literal, AddConstant, Arithmetic, Null, Address, PointerOffset, PointerIndex, Load, Store, Check}
 use Rattle.blocks.specs.Tree.{target}
 use Rattle.checker.specs.FactRules.{sumInRange, factsAfter, conditionFacts}
-use Rattle.checker.specs.FactLaws.{neither}
+use Rattle.checker.specs.FactsTrue.{neither}
 use Rattle.checker.specs.BoundsRules.{declared, effectOn, boundsAfter, effect}
-use Rattle.checker.specs.BoundsLaws.{known-after}
+use Rattle.checker.specs.BoundsTrue.{known-after}
 use Rattle.checker.specs.declared.Bounds.{Bounds}
 use Rattle.checker.specs.declared.Effect.the-variants.{Keep}
 use Rattle.checker.specs.declared.Environment.{Environment}

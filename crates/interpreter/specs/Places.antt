@@ -18,7 +18,7 @@ use Rattle.blocks.specs.Flow.{Successors, successors, entry, lead}
 use Rattle.blocks.specs.Shape.{size, Numbered, Formed, ReadsLine, Reads, RightLine, Right, targetsFrom}
 use Rattle.blocks.specs.ShapeLaws.{body-targets}
 use Rattle.checker.specs.FactRules.{factsAfter, conditionFacts, loopFacts}
-use Rattle.checker.specs.FactLaws.{Agree}
+use Rattle.checker.specs.FactsTrue.{Agree}
 use Rattle.checker.specs.BoundsRules.{effect, boundsAfter}
 use Rattle.checker.specs.Rules.{bundleFacts, sidesJoined, blockFacts}
 use Rattle.checker.specs.declared.Bounds.{Bounds}

@@ -26,12 +26,12 @@ use Rattle.blocks.specs.Tree.{tree, assigned}
 use Rattle.blocks.specs.Flow.{successors, tableEntry}
 use Rattle.blocks.specs.ShapeLaws.{table-laid}
 use Rattle.blocks.specs.SuccessorLaws.{flow-right}
-use Rattle.checker.specs.FactLaws.{Agree}
+use Rattle.checker.specs.FactsTrue.{Agree}
 use Rattle.checker.specs.BoundsRules.{isPointer, declared}
 use Rattle.checker.specs.EnvironmentLaws.{Declares, environment-declares}
 use Rattle.checker.specs.Rules.{blockFacts}
 use Rattle.checker.specs.Verdict.{environmentOf, faults}
-use Rattle.checker.specs.FaultLaws.{accepted}
+use Rattle.checker.specs.VerdictLaws.{clear}
 use Rattle.checker.specs.declared.Environment.{Environment}
 use Rattle.interpreter.specs.Machine.{value, boundsTrue, Failing, none, fails, failing, Memory, Status, going, stopped, stuck, Point, memoryOf, statementStep, successorsOf, stepIfDue, nextPoint, start, pointAfter}
 use Rattle.interpreter.specs.Points.{inBundle, simpleAccess, unlessFailing, statementAccess, accessIf, accessFrom}
@@ -213,7 +213,7 @@ module _ (T : List ℤ) (h : Sections) (formed : formOf T ≡ WellFormed h) (acc
 
   pub begun-setting : Setting T h (environmentOf T h) D cs
   begun-setting =
-      let a = accepted T h formed accepts in
+      let a = clear T h formed accepts in
       record { laid = a .laid; walked = a .walked; declares = declares; placed = begun .placed; memory = begun .memory }
 
   -- The invariant holds at the start.

@@ -19,9 +19,9 @@ use Rattle.table.specs.declared.Sections.{Sections}
 use Rattle.table.specs.declared.Simple.{Simple}
 use Rattle.blocks.specs.Tree.{target}
 use Rattle.checker.specs.FactRules.{pickFacts, equated, sumInRange, sumFacts, offsetFacts, factsAfter}
-use Rattle.checker.specs.FactLaws.{Agree, among-one, equated-holds, positive-holds, sum-in-range}
+use Rattle.checker.specs.FactsTrue.{Agree, among-one, equated-holds, positive-holds, sum-in-range}
 use Rattle.checker.specs.BoundsRules.{pickEffect, pickBounds, objectLength, known, forgetBounds, objectBounds, effectOn, boundsAfter, effect}
-use Rattle.checker.specs.BoundsLaws.{BoundsHold, forget-holds, shift-holds, object-holds}
+use Rattle.checker.specs.BoundsTrue.{BoundsHold, forget-holds, shift-holds, object-holds}
 use Rattle.checker.specs.declared.Bounds.{Bounds}
 use Rattle.checker.specs.declared.Effect.{Effect}
 use Rattle.checker.specs.declared.Effect.the-variants.{Forget, Shift, Copy, Object}

@@ -22,7 +22,7 @@ use Rattle.blocks.specs.Tree.{Block, nil, plain, branch, loop, bundle, unread}
 use Rattle.blocks.specs.Flow.{Successors, entry}
 use Rattle.blocks.specs.Shape.{size, Numbered}
 use Rattle.checker.specs.FactRules.{factsAfter, conditionFacts}
-use Rattle.checker.specs.FactLaws.{neither, nor}
+use Rattle.checker.specs.FactsTrue.{neither, nor}
 use Rattle.checker.specs.BoundsRules.{effect, boundsAfter, accessShown}
 use Rattle.checker.specs.Rules.{bundleFacts, bundleFaults, sidesJoined, blockFacts, blockFaults}
 use Rattle.checker.specs.RuleLaws.{no-first, no-rest, access-passed}

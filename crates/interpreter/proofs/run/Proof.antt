@@ -1,7 +1,8 @@
 -- `interpreter::run` meets its contract: the verdict refuses, or the accepted table is run.
 use mathlib.Core.Path.{_≡_, sym, ap, _∙_}
 use borrow.Author.Needs.{needs}
-use Rattle.interpreter.specs.ClaimLaws.{accepted-none, check-refused}
+use Rattle.checker.specs.VerdictLaws.{accepted-clear}
+use Rattle.interpreter.specs.ClaimLaws.{check-refused}
 use Rattle.interpreter.proofs.run.Statement.{statement}
 use Rattle.interpreter.proofs.run.Tie as tie
 
@@ -10,6 +11,6 @@ run-spec =
     tie.close
     (tie.spec
     (λ c κs. search needs) (λ c. search needs) (λ c. search needs)
-    (λ c κs. accepted-none _ (rw (c .before .before .enum-told .given .1) at (c .before .before .before .before .check .ensures)))
+    (λ c κs. accepted-clear _ (c .before .before .before .before .check .ensures) (c .before .before .enum-told .given .1))
     (λ c. check-refused _ _ _ _ _ _ _ (rw (c .before .verdict .given .1) at (c .before .before .before .check .ensures)))
     (λ c. search needs) (λ c. search needs) (λ c. search needs))

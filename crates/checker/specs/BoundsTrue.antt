@@ -16,7 +16,7 @@ use Rattle.facts.specs.declared.FactSet.{FactSet}
 use Rattle.table.specs.SectionsLaws.{both}
 use Rattle.table.specs.NameLaws.{either}
 use Rattle.table.specs.declared.End.{End}
-use Rattle.checker.specs.FactLaws.{neither}
+use Rattle.checker.specs.FactsTrue.{neither}
 use Rattle.checker.specs.BoundsRules.{pickEnd, nothingKnown, isPointer, declared, known, names, forgetEnd, shiftConstant, shiftEnd, forgetBounds, shiftBounds, objectBounds, effectOn, boundsAfter, sameEnd, endAtMost, knownAtMost, boundsShown, consIf, unshownFrom, unshown}
 use Rattle.checker.specs.declared.KnownEnd.{KnownEnd}
 use Rattle.checker.specs.declared.KnownEnd.the-variants.{Known, Unknown}
