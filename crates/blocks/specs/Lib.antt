@@ -8,4 +8,3 @@ pub mod Along
 pub mod Shape
 pub mod ShapeLaws
 pub mod SuccessorLaws
-pub mod PlaceLaws

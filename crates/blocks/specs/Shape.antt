@@ -9,8 +9,6 @@ use Rattle.table.specs.declared.Simple.{Simple}
 use Rattle.table.specs.declared.Statement.the-variants.{Plain, If, While, Bundle}
 use Rattle.table.specs.declared.StatementRead.{StatementRead}
 use Rattle.table.specs.declared.StatementRead.the-variants.{Read, Unread}
-use Rattle.table.specs.declared.Refusal.{Refusal}
-use Rattle.table.specs.declared.Refusal.the-variants.{BlockLayout}
 use Rattle.table.specs.Statements.{statementAt}
 use Rattle.blocks.specs.Tree.{Block, nil, plain, branch, loop, bundle, unread, target}
 use Rattle.blocks.specs.Layout.{maxDepth, maxBundle}
@@ -105,8 +103,3 @@ targetOf (Read (Bundle n)) = []
 unfoldable pub targetsFrom : List ℤ → Sections → ℕ → ℕ → List ℕ
 targetsFrom T h a zero = []
 targetsFrom T h a (suc n) = targetOf (statementAt T h a) ++ targetsFrom T h (a + 1) n
-
--- Nothing is refused, or first a statement below m by cause 6.
-pub data Placed (m : ℕ) : List Refusal → Type 0 where
-  none : Placed m []
-  first : {p : ℕ} {xs : List Refusal} → p < m → Placed m (BlockLayout p ∷ xs)

@@ -1,18 +1,18 @@
 -- Each operation keeps the fact set exact, for what is known after it.
 use Prim.Native.Nat.{ℕ, _+_, _-_, _^_, _≤_, _<_, min, max}
 use mathlib.Core.Path.{_≡_, refl, sym, ap, _∙_}
-use mathlib.Core.Logic.{_≢_, _⊎_, inl, inr, ⊎-elim, _↔_}
+use mathlib.Core.Logic.{_≢_, _⊎_, inl, inr, _↔_}
 use mathlib.Core.Bool.{Bool, true, false, false≢true}
 use native.Mathlib.Omega.{arith}
 use native.Mathlib.Decide.{ℕ-discrete}
-use borrow.Author.Tests.{leb-true, leb-false, le-leb, lt-leb, le-ltb, ltb-true, ltb-false, eqb-true, ne-eqb}
+use borrow.Author.Tests.{leb-true, leb-false, ltb-true, ltb-false, eqb-true, ne-eqb}
 use lib.Dec.{leb, ltb, eqb}
 use Rattle.facts.specs.Numbers.{bias, maxValue, zeroVar}
-use Rattle.facts.specs.Store.{pick, pickBool, concatenated, negated, sumAt, leastSum, shown, endShown, newSet, newSum, lowered, marked, added, reassigned, dropped, ranged, shifted, related, joinedSum, joined}
+use Rattle.facts.specs.Store.{pick, concatenated, negated, sumAt, leastSum, shown, newSet, lowered, marked, added, reassigned, dropped, ranged, shifted, related, joinedSum, joined}
 use Rattle.facts.specs.StoreLaws.{concat-plain, least-node, shown-clear, not-shown, added-shown, added-closed, added-lowered, dropped-variable, mark-dropped, ranged-variable, shifted-variable, joined-first, joined-second, joined-both, sum-new, sum-lowered, sum-reassigned, sum-joined}
-use Rattle.facts.specs.Facts.{Variables, Node, Comparable, same-kind, from-zero, to-zero, Known, Always, lower, upper, Chain, ChainWithin, Shown, Contradiction, EndShown, With, before, fact, Without, kept, always, raise, Moved, moved, Shifted, Both, both, LeastSums}
-use Rattle.facts.specs.Chains.{weaken, one, more-contradiction, contradiction-of, zero-node, left-node, right-node, always-comparable, Sane, sinks, shows-every, at-most, closed, no-contradiction, least-same, least-known}
-use Rattle.facts.specs.Operations.{with-comparable, without-comparable, moved-comparable, both-comparable, new-least, add-shown, add-contradiction, add-least, anewAt, anewSums, Anew, anew-least, shift-least, closure-least}
+use Rattle.facts.specs.Facts.{Variables, Node, Comparable, same-kind, from-zero, to-zero, Known, Always, lower, upper, Shown, Contradiction, With, before, fact, Without, kept, always, raise, Moved, moved, Shifted, Both, both, LeastSums}
+use Rattle.facts.specs.Chains.{one, more-contradiction, contradiction-of, zero-node, left-node, right-node, always-comparable, Sane, shows-every, closed, least-same, least-known}
+use Rattle.facts.specs.Operations.{with-comparable, without-comparable, moved-comparable, both-comparable, new-least, add-shown, add-contradiction, add-least, anewAt, anewSums, anew-least, shift-least, closure-least}
 use Rattle.facts.specs.Join.{joinAt, join-least}
 use Rattle.facts.specs.Exact.{Exact, in-rows, contradiction-exact, high, low}
 use Rattle.facts.specs.declared.FactSet.{FactSet}

@@ -4,9 +4,9 @@ use mathlib.Core.Path.{_≡_}
 use mathlib.Core.Logic.{_↔_}
 use mathlib.Core.Bool.{true}
 use Rattle.facts.specs.Numbers.{bias, maxValue, zeroVar}
-use Rattle.facts.specs.Store.{shown, endShown, newSet, added, dropped, ranged, shifted, joined}
-use Rattle.facts.specs.Facts.{Variables, Node, Comparable, Known, Always, Shown, Contradiction, EndShown, With, Without, Shifted, Both}
-use Rattle.facts.specs.Exact.{Exact, shown-exact, contradiction-exact, end-exact}
+use Rattle.facts.specs.Store.{shown, newSet, added, dropped, ranged, shifted, joined}
+use Rattle.facts.specs.Facts.{Variables, Node, Comparable, Known, Always, Shown, Contradiction, With, Without, Shifted, Both}
+use Rattle.facts.specs.Exact.{Exact, shown-exact, contradiction-exact}
 use Rattle.facts.specs.ExactAfter.{Another, Slight, new-exact, added-exact, ranged-exact, dropped-exact, shifted-exact, joined-exact}
 use Rattle.facts.specs.declared.FactSet.{FactSet}
 

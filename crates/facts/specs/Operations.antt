@@ -1,7 +1,7 @@
 -- The least sums after each operation, for any matrix of sums.
 use Prim.Native.Nat.{ℕ, _+_, _-_, _^_, _≤_, _<_, min}
 use mathlib.Core.Path.{_≡_, refl, sym, ap, _∙_}
-use mathlib.Core.Logic.{_≢_, _⊎_, inl, inr, ⊎-elim}
+use mathlib.Core.Logic.{_≢_, _⊎_, inl, inr}
 use mathlib.Core.Bool.{Bool, true, false}
 use native.Mathlib.Omega.{arith}
 use native.Mathlib.Decide.{ℕ-discrete}
@@ -9,7 +9,7 @@ use borrow.Author.Tests.{leb-true, leb-false, eqb-true, eqb-false, eq-eqb, ne-eq
 use lib.Dec.{leb, eqb}
 use Rattle.facts.specs.Numbers.{bias, maxValue, zeroVar}
 use Rattle.facts.specs.Store.{pick, newSum}
-use Rattle.facts.specs.Facts.{Variables, Node, Comparable, from-zero, to-zero, Known, Always, lower, upper, Chain, ChainWithin, Shown, Contradiction, With, before, fact, Without, kept, always, Both, both, Moved, moved, LeastSums}
+use Rattle.facts.specs.Facts.{Variables, Node, Comparable, from-zero, to-zero, Known, Always, lower, upper, ChainWithin, Shown, Contradiction, With, before, fact, Without, kept, always, Both, both, Moved, moved, LeastSums}
 use Rattle.facts.specs.Chains.{append, weaken, one, none, more-shown, contradiction-of, Pair, comparable, zeros, mixed, pair, zero-node, left-node, right-node, always-comparable, Closed, lowest-of, at-most, closed, through-zero}
 
 -- ---- each operation keeps to comparable pairs

@@ -7,8 +7,8 @@ use native.Mathlib.Omega.{arith}
 use borrow.Author.Tests.{leb-true, leb-false, le-leb, ltb-true, ltb-false, eqb-true, eqb-false}
 use lib.Dec.{leb, ltb, eqb}
 use Rattle.facts.specs.Numbers.{bias, maxValue, zeroVar}
-use Rattle.facts.specs.Store.{pick, pickBool, unbounded, concatenated, negated, sumAt, leastSum, shown, endShown, newSum, newSet, lowered, added, reassigned, dropped, ranged, shifted, related, joinedSum, joined}
-use Rattle.facts.specs.StoreLaws.{least-node, shown-clear, not-shown, added-left, added-right, added-shown, added-closed, added-lowered, dropped-other, dropped-variable, ranged-other, ranged-variable, shifted-other, shifted-variable, joined-first, joined-second, joined-both, sum-new, sum-lowered, sum-reassigned, sum-joined}
+use Rattle.facts.specs.Store.{pick, pickBool, unbounded, concatenated, negated, sumAt, leastSum, shown, endShown, newSet, lowered, added, reassigned, dropped, ranged, shifted, related, joinedSum, joined}
+use Rattle.facts.specs.StoreLaws.{least-node, shown-clear, added-left, added-right, added-shown, added-lowered, dropped-variable, ranged-variable, shifted-variable, joined-first, joined-second, joined-both, sum-new, sum-lowered, sum-reassigned, sum-joined}
 use Rattle.facts.specs.Operations.{anewAt}
 use Rattle.facts.specs.declared.FactSet.{FactSet}
 

@@ -1,16 +1,15 @@
 -- What each operation makes, case by case, and sum by sum.
-use Prim.Native.Nat.{ℕ, _+_, _-_, _^_, _≤_, _<_, min, max}
+use Prim.Native.Nat.{ℕ, _+_, _-_, _^_, _≤_, _<_, min}
 use mathlib.Core.Path.{_≡_, refl, sym, ap, _∙_}
 use mathlib.Core.Logic.{_≢_}
 use mathlib.Core.Bool.{Bool, true, false, false≢true}
-use borrow.Author.Tests.{lt-ltb, le-ltb, lt-leb, le-leb, ltb-true, ltb-false, ne-eqb, eqb-true, eqb-false}
+use borrow.Author.Tests.{lt-ltb, le-ltb, lt-leb, eqb-true, eqb-false}
 use lib.Dec.{ltb, leb, eqb}
-use lib.ListN.{getD, set, length}
 use lib.Seq.{getD-set-same, getD-set-other}
 use native.Mathlib.Omega.{arith}
 use Rattle.facts.specs.Numbers.{bias, maxValue, zeroVar}
 use Rattle.facts.specs.Tabulate.{tabulate, length-tabulate, getD-tabulate}
-use Rattle.facts.specs.Store.{pick, pickBool, pickRow, pickSet, unbounded, concatenated, negated, noRow, rowAt, inRow, sumAt, rowOf, setOf, leastSum, shown, newSum, newRow, newSet, loweredRow, lowered, marked, added, ownRow, reroutedRow, rerouted, reassigned, dropped, ranged, shifted, related, joinedSum, joinedRow, joined}
+use Rattle.facts.specs.Store.{pick, pickBool, pickRow, pickSet, concatenated, negated, noRow, rowAt, inRow, sumAt, rowOf, setOf, leastSum, shown, newSum, newRow, newSet, loweredRow, lowered, marked, added, ownRow, reroutedRow, rerouted, reassigned, dropped, ranged, shifted, related, joinedSum, joinedRow, joined}
 use Rattle.facts.specs.Operations.{anewAt}
 use Rattle.facts.specs.declared.rows.Row.{Row}
 use Rattle.facts.specs.declared.FactSet.{FactSet}

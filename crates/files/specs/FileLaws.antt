@@ -1,11 +1,11 @@
 -- The parts of a line put together, and the verdict on a file.
 use Prim.Native.Nat.{ℕ, _+_, _*_, _/_, _%_, _≤_, _<_}
-use mathlib.Core.Path.{_≡_, refl, sym, ap, _∙_}
+use mathlib.Core.Path.{_≡_, refl, _∙_}
 use mathlib.Core.Bool.{Bool, true, false, _&&_}
 use mathlib.Core.Logic.{_≢_}
 use mathlib.Core.List.{List, [], _∷_, _++_, append-assoc}
 use borrow.Author.Tests.{eq-eqb, ne-eqb, lt-leb}
-use lib.Dec.{leb, eqb}
+use lib.Dec.{leb}
 use lib.IntN.{ℤ}
 use lib.ListN.{length, take}
 use Rattle.facts.specs.Tabulate.{tabulate, length-tabulate, Filled}
@@ -17,7 +17,7 @@ use Rattle.checker.specs.Rules.{refusal}
 use Rattle.checker.specs.Verdict.{faults, Answers}
 use Rattle.checker.specs.declared.Verdict.{Verdict}
 use Rattle.checker.specs.declared.Verdict.the-variants.{Refused}
-use Rattle.files.specs.Text.{textOf, pickText, decimal, Grown}
+use Rattle.files.specs.Text.{textOf, decimal, Grown}
 use Rattle.files.specs.Words.{wordAt}
 use Rattle.files.specs.Files.{space, lineFeed, refusedWord, spaced, refusedLine, wordsOf, fileFaults}
 use Rattle.files.specs.declared.text.Text.{Text}

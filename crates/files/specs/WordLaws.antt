@@ -1,6 +1,6 @@
 -- A word from its four bytes.
 use Prim.Native.Nat.{ℕ, _+_, _*_}
-use mathlib.Core.Path.{_≡_, refl}
+use mathlib.Core.Path.{_≡_}
 use mathlib.Core.List.{List}
 use lib.ListN.{getD}
 use Rattle.files.specs.Words.{signedOf, wordAt}

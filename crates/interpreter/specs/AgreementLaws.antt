@@ -32,9 +32,8 @@ use Rattle.interpreter.specs.Checks.{checkOf}
 use Rattle.interpreter.specs.Agreement.{stepShown, moveShown, pickOutcome, outcomeShown, resultShown, Runnable}
 use Rattle.interpreter.specs.Ends.{endsOf}
 use Rattle.interpreter.specs.EndsLaws.{failing-same}
-use Rattle.interpreter.specs.declared.Check.{Check}
 use Rattle.interpreter.specs.declared.Step.{Step}
-use Rattle.interpreter.specs.declared.Step.the-variants.{Go, Stop}
+use Rattle.interpreter.specs.declared.Step.the-variants.{Go}
 use Rattle.interpreter.specs.declared.Outcome.the-variants.{Done, Spent, Stopped}
 
 -- ---- what a statement of kinds 1 to 10 leaves
@@ -91,17 +90,6 @@ pub record Stepped (P Q : Point) (k : ℕ) (m : Move) : Type 0 where
   pub counted : Q .steps ≡ P .steps + 1
   pub long : length (Q .cells) ≡ length (P .cells)
   pub origins : (p : ℕ) → getD (Q .origins) p 0 ≤ k
-
--- The step says `Go b` exactly where the point after it is going and b is due, and `Stop c` exactly where it is stopped by the check c.
-pub shown-go : (s : Status) (a b : ℕ) → (s ≡ stuck → ⊥) → stepShown s a ≡ Go b → (s ≡ going) × (a ≡ b)
-shown-go going a b u e = (refl, cc)
-shown-go (stopped k) a b u e = let z : _≡_ {A = ℕ} 0 1 = cc in absurd (omega arith)
-shown-go stuck a b u e = absurd (u refl)
-
-pub shown-stop : (s : Status) (a : ℕ) (c : Check) → (s ≡ stuck → ⊥) → stepShown s a ≡ Stop c → (n : ℕ) × (s ≡ stopped n) × (c ≡ checkOf n a)
-shown-stop going a c u e = let z : _≡_ {A = ℕ} 0 1 = cc in absurd (omega arith)
-shown-stop (stopped k) a c u e = (k, refl, cc)
-shown-stop stuck a c u e = absurd (u refl)
 
 move-same : (s : Step) (vs ws cs ds : List ℕ) → vs ≡ ws → cs ≡ ds → move s vs cs ≡ move s ws ds
 move-same s vs ws cs ds p q = rw (p, q)

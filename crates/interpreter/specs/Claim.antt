@@ -22,7 +22,7 @@ use Rattle.checker.specs.Rules.{Fault, also}
 use Rattle.checker.specs.Verdict.{environmentOf, refusals, faults, Answers}
 use Rattle.checker.specs.declared.Environment.{Environment}
 use Rattle.checker.specs.declared.Verdict.the-variants as verdict
-use Rattle.interpreter.specs.Machine.{Failing, none, fails, failing, boundsTrue, inOrigin, Status, going, stopped, stuck, Point, start, pointAfter}
+use Rattle.interpreter.specs.Machine.{Failing, none, fails, failing, boundsTrue, inOrigin, going, stopped, stuck, Point, start, pointAfter}
 use Rattle.interpreter.specs.Entry.{entryRefusals}
 use Rattle.interpreter.specs.Points.{inBundle, Access, no-access, access, accessFrom}
 use Rattle.interpreter.specs.Soundness.{Outside}
@@ -63,7 +63,7 @@ AccessInside D (access a origin) = inOrigin D origin a ≡ true
 abbrev pub answerAt : Sections → Point → Outcome
 answerAt h P = outcomeShown h (P .status) (P .steps) (P .due)
 
--- DEMAND 3 at the point after t steps, P, of a run with the allowance `limit`; N is what the next step leaves.
+-- DEMAND 3 at the point after t steps of a run with the allowance `limit`.
 pub record AtPoint (T : List ℤ) (h : Sections) (E : Environment) (D : List ℕ) (point : ℕ → Point) (limit t : ℕ) : Type 0 where
   -- "Outside a bundle every declared bound is true."
   pub bounds : inBundle (tree T h) (point t .due) ≡ false → (p : ℕ) → isPointer E p ≡ true → boundsTrue E D (point t .values) (point t .origins) p ≡ true

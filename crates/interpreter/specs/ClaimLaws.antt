@@ -5,13 +5,13 @@ use mathlib.Core.Logic.{_≢_, _↔_}
 use mathlib.Core.Bool.{Bool, true, false}
 use mathlib.Core.List.{List, [], _∷_}
 use native.Mathlib.Omega.{arith}
-use borrow.Author.Tests.{lt-ltb, le-ltb, le-leb, ltb-true, ltb-false}
+use borrow.Author.Tests.{lt-ltb, le-leb, ltb-true, ltb-false}
 use lib.Dec.{ltb}
 use lib.IntN.{ℤ}
 use lib.ListN.{length, getD}
 use Rattle.facts.specs.Numbers.{maxValue}
 use Rattle.table.specs.Form.{pickForm, lengthRight, directoryRight, sectionsOf, lowestObject, lowestVariable, lowestStatement, itemsForm, formOf}
-use Rattle.table.specs.FormLaws.{Formed, well-formed}
+use Rattle.table.specs.FormLaws.{well-formed}
 use Rattle.table.specs.declared.Sections.{Sections}
 use Rattle.table.specs.declared.Form.{Form}
 use Rattle.table.specs.declared.Form.the-variants.{WellFormed, Refused}
@@ -20,7 +20,6 @@ use Rattle.table.specs.declared.Refusal.the-variants.{Length, Directory, Object
 use Rattle.blocks.specs.Flow.{tableFlow, written, Written}
 use Rattle.checker.specs.EnvironmentLaws.{environment-declares}
 use Rattle.checker.specs.VerdictLaws.{clear, faults-clear}
-use Rattle.checker.specs.BoundsRules.{isPointer}
 use Rattle.checker.specs.Rules.{Fault, refusal, notShown, also}
 use Rattle.checker.specs.Verdict.{environmentOf, refusals, faults, Answers}
 use Rattle.checker.specs.declared.Verdict.{Verdict}
@@ -30,7 +29,7 @@ use Rattle.interpreter.specs.Machine.{Status, going, stopped, stuck, Poi
 use Rattle.interpreter.specs.Points.{Access, no-access, access, accessFrom}
 use Rattle.interpreter.specs.Soundness.{Begun, Sound, AccessAllowed}
 use Rattle.interpreter.specs.RunSound.{sound}
-use Rattle.interpreter.specs.StepLaws.{StepFacts, point-step, stop-same, steps-counted}
+use Rattle.interpreter.specs.StepLaws.{point-step, stop-same, steps-counted}
 use Rattle.interpreter.specs.Entry.{entryRefusals}
 use Rattle.interpreter.specs.BegunLaws.{entry-begun}
 use Rattle.interpreter.specs.Ends.{endsOf}
@@ -43,7 +42,7 @@ use Rattle.interpreter.specs.declared.EntryVerdict.{EntryVerdict}
 use Rattle.interpreter.specs.declared.EntryVerdict.the-variants as entry
 use Rattle.interpreter.specs.declared.Outcome.the-variants as outcome
 use Rattle.interpreter.specs.declared.Outcome.{Outcome}
-use Rattle.interpreter.specs.declared.Outcome.the-variants.{Done, Spent, Stopped}
+use Rattle.interpreter.specs.declared.Outcome.the-variants.{Done, Spent}
 
 allowed-inside : (D : List ℕ) (n : ℕ) (a : Access) → AccessAllowed D n a → AccessInside D a
 allowed-inside D n no-access h = tt

@@ -4,7 +4,7 @@ use mathlib.Core.Bool.{Bool, true, false, not, _&&_, _||_}
 use mathlib.Core.List.{List, [], _∷_}
 use lib.Dec.{leb, ltb, eqb}
 use lib.IntN.{ℤ}
-use lib.ListN.{length, getD, set}
+use lib.ListN.{getD, set}
 use Rattle.facts.specs.Numbers.{bias, maxValue}
 use Rattle.table.specs.Statements.{statementAt}
 use Rattle.table.specs.declared.Sections.{Sections}

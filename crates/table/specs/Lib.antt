@@ -6,7 +6,6 @@ pub mod Typed
 pub mod NameLaws
 pub mod StatementLaws
 pub mod Negation
-pub mod NegationLaws
 pub mod Variables
 pub mod VariableLaws
 pub mod Refusals

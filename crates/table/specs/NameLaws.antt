@@ -107,20 +107,3 @@ module _ (table : List ℤ) (h : Sections) where
           absurd (omega arith))
           (either (sameKind table h (f .first) (f .fourth)) (eqb (f .third) (bias + 1) && besideLiteral table h (f .first) (f .fourth)) g)
       go false q g = literal-sides (f .first) (f .fourth) (both (eqb (f .third) (bias + 1)) (besideLiteral table h (f .first) (f .fourth)) g .1)
-
--- A variable or the number that stands for zero, so one of 17 numbers.
-pub index-bound : (table : List ℤ) (h : Sections) (v : ℕ) → Limits h → IsIndex table h v → v ≤ zeroVar
-index-bound table h v l (missing e) = omega arith
-index-bound table h v l (given i) = omega (arith, i .below, l .variables)
-
-pub right-bound : (table : List ℤ) (h : Sections) (left right offset : ℕ) → Limits h → Sides table h left right offset → right ≤ zeroVar
-right-bound table h left right offset l (integers i j e) = omega (arith, j .below, l .variables)
-right-bound table h left right offset l (pointers i j e) = omega (arith, j .below, l .variables)
-right-bound table h left right offset l (literal i e o) = omega arith
-right-bound table h left right offset l (null i e o) = omega arith
-
-pub left-bound : (table : List ℤ) (h : Sections) (left right offset : ℕ) → Sides table h left right offset → left < h .variables
-left-bound table h left right offset (integers i j e) = i .below
-left-bound table h left right offset (pointers i j e) = i .below
-left-bound table h left right offset (literal i e o) = i .below
-left-bound table h left right offset (null i e o) = i .below

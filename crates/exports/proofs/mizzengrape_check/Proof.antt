@@ -1,6 +1,5 @@
 -- `exports::mizzengrape_check` meets its contract.
-use mathlib.Core.Path.{_≡_, refl, sym, ap, _∙_}
-use native.Mathlib.Omega.{arith}
+use mathlib.Core.Path.{_≡_, _∙_}
 use borrow.Author.Needs.{needs}
 use Rattle.exports.specs.WordLaws.{no-room, checked-words}
 use Rattle.exports.proofs.mizzengrape_check.Statement.{statement}

@@ -1,9 +1,9 @@
 -- `files::check_file` meets its contract: each turn fills one more word.
 use Prim.Native.Nat.{_-_, _*_, _/_, _%_, _≤_}
-use mathlib.Core.Path.{_≡_, sym, ap, _∙_}
+use mathlib.Core.Path.{_≡_, _∙_}
 use native.Mathlib.Omega.{arith}
 use borrow.Author.Needs.{needs}
-use lib.ListN.{length, length-take}
+use lib.ListN.{length-take}
 use mir.Syntax.{w32}
 use mir.Facts.{toZ-ofZ}
 use Rattle.facts.specs.Tabulate.{Filled, filled-none, filled-more}

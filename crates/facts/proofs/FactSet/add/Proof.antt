@@ -1,16 +1,12 @@
 -- `facts::FactSet::add` meets its contract: each turn fills one more row.
 use Prim.Native.Nat.{ℕ, _-_, _≤_, _<_}
-use mathlib.Core.Path.{_≡_, ap, ap₂, sym, _∙_}
-use mathlib.Core.List.{List}
-use mathlib.Core.Bool.{Bool, false}
+use mathlib.Core.Path.{_≡_, ap₂, sym, _∙_}
 use borrow.Author.Needs.{needs}
 use lib.ListN.{getD}
 use native.Mathlib.Omega.{arith}
-use mathlib.Core.Bool.{true}
 use Rattle.facts.specs.declared.rows.Row.{Row}
-use Rattle.facts.specs.Tabulate.{Filled, filled-none, filled-more, filled-each, filled-whole, length-under}
-use Rattle.facts.specs.Store.{noRow, inRow, setOf, concatenated, loweredRow, lowered, marked, added, sumAt, shown}
-use Rattle.facts.specs.Numbers.{bias}
+use Rattle.facts.specs.Tabulate.{Filled, filled-none, filled-each, filled-whole, length-under}
+use Rattle.facts.specs.Store.{noRow, inRow, setOf, concatenated, loweredRow, lowered, marked}
 use Rattle.facts.specs.StoreLaws.{added-left, added-right, added-shown, added-closed, added-lowered}
 use Rattle.facts.proofs.FactSet.add.Statement.{statement}
 use Rattle.facts.proofs.FactSet.add.Tie as tie

@@ -1,13 +1,11 @@
 -- `facts::FactSet::join` meets its contract: each turn fills one more row.
-use Prim.Native.Nat.{ℕ, _-_, _≤_, _<_}
-use mathlib.Core.Path.{_≡_, ap, ap₂, sym, _∙_}
-use mathlib.Core.List.{List}
-use mathlib.Core.Bool.{Bool, false}
+use Prim.Native.Nat.{_-_, _≤_, _<_}
+use mathlib.Core.Path.{_≡_, ap₂, sym, _∙_}
+use mathlib.Core.Bool.{false}
 use borrow.Author.Needs.{needs}
 use lib.ListN.{getD}
-use Rattle.facts.specs.declared.rows.Row.{Row}
-use Rattle.facts.specs.Tabulate.{Filled, filled-none, filled-more, filled-each, filled-whole, length-under}
-use Rattle.facts.specs.Store.{noRow, setOf, joinedRow, joined}
+use Rattle.facts.specs.Tabulate.{Filled, filled-none, filled-more, filled-whole, length-under}
+use Rattle.facts.specs.Store.{noRow, setOf, joinedRow}
 use Rattle.facts.specs.StoreLaws.{joined-first, joined-second, joined-both}
 use Rattle.facts.proofs.FactSet.join.Statement.{statement}
 use Rattle.facts.proofs.FactSet.join.Tie as tie

@@ -1,12 +1,8 @@
 -- `facts::FactSet::new` meets its contract: each turn fills one more row.
-use Prim.Native.Nat.{ℕ, _-_}
-use mathlib.Core.Path.{_≡_, ap, ap₂, sym, _∙_}
-use mathlib.Core.List.{List}
-use mathlib.Core.Bool.{Bool, false}
+use Prim.Native.Nat.{_-_}
+use mathlib.Core.Path.{_≡_, ap₂, _∙_}
 use borrow.Author.Needs.{needs}
-use lib.ListN.{getD}
-use Rattle.facts.specs.declared.rows.Row.{Row}
-use Rattle.facts.specs.Tabulate.{Filled, filled-none, filled-more, filled-next, filled-whole, length-under}
+use Rattle.facts.specs.Tabulate.{Filled, filled-none, filled-more, filled-whole, length-under}
 use Rattle.facts.specs.Store.{newRow, newSet, setOf}
 use Rattle.facts.proofs.FactSet.new.Statement.{statement}
 use Rattle.facts.proofs.FactSet.new.Tie as tie

@@ -1,13 +1,12 @@
 -- `facts::FactSet::reassign` meets its contract: each turn fills one more row.
 use Prim.Native.Nat.{ℕ, _-_, _≤_, _<_}
-use mathlib.Core.Path.{_≡_, ap, ap₂, sym, _∙_}
+use mathlib.Core.Path.{_≡_, ap, ap₂, _∙_}
 use mathlib.Core.List.{List}
-use mathlib.Core.Bool.{Bool, false}
 use borrow.Author.Needs.{needs}
 use lib.ListN.{getD}
 use lib.ListN.{set}
 use Rattle.facts.specs.declared.rows.Row.{Row}
-use Rattle.facts.specs.Tabulate.{Filled, filled-none, filled-more, filled-each, filled-whole, length-under}
+use Rattle.facts.specs.Tabulate.{Filled, filled-none, filled-each, filled-whole, length-under}
 use Rattle.facts.specs.Store.{noRow, inRow, setOf, concatenated, reroutedRow, reassigned}
 use Rattle.facts.proofs.FactSet.reassign.Statement.{statement}
 use Rattle.facts.proofs.FactSet.reassign.Tie as tie

@@ -1,11 +1,11 @@
 -- `facts::rows::joined_row` meets its contract: each turn fills one more sum.
 use Prim.Native.Nat.{ℕ, _-_}
-use mathlib.Core.Path.{_≡_, ap, ap₂, sym, _∙_}
+use mathlib.Core.Path.{_≡_, ap, _∙_}
 use mathlib.Core.List.{List}
-use mathlib.Core.Bool.{Bool, false}
+use mathlib.Core.Bool.{false}
 use borrow.Author.Needs.{needs}
 use lib.ListN.{getD}
-use Rattle.facts.specs.Tabulate.{Filled, filled-none, filled-more, filled-next, filled-whole, length-under}
+use Rattle.facts.specs.Tabulate.{Filled, filled-none, filled-more, filled-whole}
 use Rattle.facts.specs.Store.{related, inRow, joinedSum, joinedRow}
 use Rattle.facts.specs.Numbers.{zeroVar}
 use Rattle.facts.proofs.rows.joined_row.Statement.{statement}

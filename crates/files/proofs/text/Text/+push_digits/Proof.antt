@@ -1,12 +1,11 @@
 -- `files::text::Text::push_digits` meets its contract: the number of digits falls.
 use Prim.Native.Nat.{ℕ, _+_, _-_, _/_, _%_, _≤_, _<_}
-use mathlib.Core.Path.{_≡_, refl, sym, ap, _∙_}
-use mathlib.Core.List.{List, [], _∷_, _++_, append-assoc}
+use mathlib.Core.Path.{_≡_, _∙_}
+use mathlib.Core.List.{[], _∷_, _++_}
 use native.Mathlib.Omega.{arith}
 use borrow.Author.Needs.{needs}
 use borrow.Fn.Kinds.{In}
 use borrow.Fn.PlainCycle.{Measures, is, falls, and}
-use Rattle.files.specs.Text.{Grown, decimal}
 use Rattle.files.specs.TextLaws.{grown-none, grown-digit, grown-digits, room}
 use Rattle.files.proofs.text.Text.push_digits.Reads as push-digits
 use Rattle.files.proofs.text.Text.push_digits.Kinds as push-digits-kinds

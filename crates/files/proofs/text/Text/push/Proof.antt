@@ -2,7 +2,6 @@
 use mathlib.Core.Path.{_≡_, refl}
 use native.Mathlib.Numerals.{add-one}
 use lib.Seq.{take-suc-set}
-use lib.ListN.{length}
 use borrow.Author.Needs.{needs}
 use Rattle.files.proofs.text.Text.push.Statement.{statement}
 use Rattle.files.proofs.text.Text.push.Tie as tie
