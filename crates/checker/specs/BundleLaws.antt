@@ -18,19 +18,21 @@ use Rattle.table.specs.declared.Refusal.{Refusal}
 use Rattle.table.specs.declared.Refusal.the-variants.{Contradiction, BundleAccess}
 use Rattle.table.specs.Statements.{statementAt}
 use Rattle.blocks.specs.Tree.{simples, simplesFrom}
-use Rattle.checker.specs.FactRules.{factsAfter}
-use Rattle.checker.specs.BoundsRules.{effect, boundsAfter, unshown, accessShown}
-use Rattle.checker.specs.Rules.{Fault, refusal, notShown, also, faultIf, accessAt, boundsAt, bundleFacts, bundleBounds, bundleFaults}
-use Rattle.checker.specs.Verdict.{lowestVerdict}
-use Rattle.checker.specs.Walk.{InRange, Measured, Short, applied, Passes, WalksBundle}
-use Rattle.checker.specs.FactRulesLaws.{effect-lengths}
-use Rattle.checker.specs.BoundsRulesLaws.{effect-short}
-use Rattle.checker.specs.declared.Bounds.{Bounds}
-use Rattle.checker.specs.declared.Environment.{Environment}
-use Rattle.checker.specs.declared.Effect.{Effect}
-use Rattle.checker.specs.declared.Verdict.{Verdict}
-use Rattle.checker.specs.declared.Verdict.the-variants.{Accepted, Refused}
-use Rattle.checker.specs.declared.effects.Applied.{Applied}
+use Rattle.rules.specs.FactRules.{factsAfter}
+use Rattle.rules.specs.BoundsRules.{effect, boundsAfter, unshown, accessShown}
+use Rattle.rules.specs.Rules.{Fault, refusal, notShown, also, faultIf, accessAt, boundsAt, bundleFacts, bundleBounds, bundleFaults}
+use Rattle.rules.specs.Verdict.{lowestVerdict}
+use Rattle.rules.specs.Ranges.{InRange, Measured, Short}
+use Rattle.effects.specs.Applied.{applied}
+use Rattle.checker.specs.Walk.{Passes, WalksBundle}
+use Rattle.effects.specs.FactRulesLaws.{effect-lengths}
+use Rattle.bounds.specs.BoundsRulesLaws.{effect-short}
+use Rattle.rules.specs.declared.Bounds.{Bounds}
+use Rattle.rules.specs.declared.Environment.{Environment}
+use Rattle.rules.specs.declared.Effect.{Effect}
+use Rattle.rules.specs.declared.Verdict.{Verdict}
+use Rattle.rules.specs.declared.Verdict.the-variants.{Accepted, Refused}
+use Rattle.effects.specs.declared.Applied.{Applied}
 use Rattle.checker.specs.declared.walk.Walked.{Walked}
 
 -- ---- faults in order

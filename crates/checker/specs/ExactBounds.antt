@@ -29,17 +29,17 @@ use Rattle.table.specs.declared.Variable.the-variants.{Integer, Pointer}
 use Rattle.table.specs.declared.VariableRead.{VariableRead}
 use Rattle.table.specs.declared.VariableRead.the-variants.{Read, Unread}
 use Rattle.blocks.specs.Shape.{ReadsLine}
-use Rattle.checker.specs.FactRules.{sumInRange, factsAfter}
-use Rattle.checker.specs.BoundsRules.{pickEnd, pickBounds, pickEffect, nothingKnown, declared, known, names, objectLength, forgetEnd, shiftConstant, shiftEnd, forgetBounds, shiftBounds, objectBounds, effectOn, boundsAfter, effect, knownAtMost, boundsShown}
-use Rattle.checker.specs.Rules.{bundleBounds}
-use Rattle.checker.specs.Verdict.{boundsOf, environmentOf}
-use Rattle.checker.specs.Exactness.{Traced, variables}
+use Rattle.rules.specs.FactRules.{sumInRange, factsAfter}
+use Rattle.rules.specs.BoundsRules.{pickEnd, pickBounds, pickEffect, nothingKnown, declared, known, names, objectLength, forgetEnd, shiftConstant, shiftEnd, forgetBounds, shiftBounds, objectBounds, effectOn, boundsAfter, effect, knownAtMost, boundsShown}
+use Rattle.rules.specs.Rules.{bundleBounds}
+use Rattle.rules.specs.Verdict.{boundsOf, environmentOf}
+use Rattle.rules.specs.Exactness.{Traced, variables}
 use Rattle.checker.specs.ExactWalk.{shown-by-chains, end-by-chains}
-use Rattle.checker.specs.declared.KnownEnd.{KnownEnd}
-use Rattle.checker.specs.declared.KnownEnd.the-variants.{Known, Unknown}
-use Rattle.checker.specs.declared.Bounds.{Bounds}
-use Rattle.checker.specs.declared.Effect.{Effect}
-use Rattle.checker.specs.declared.Effect.the-variants.{Keep, Forget, Shift, Copy, Object}
+use Rattle.rules.specs.declared.KnownEnd.{KnownEnd}
+use Rattle.rules.specs.declared.KnownEnd.the-variants.{Known, Unknown}
+use Rattle.rules.specs.declared.Bounds.{Bounds}
+use Rattle.rules.specs.declared.Effect.{Effect}
+use Rattle.rules.specs.declared.Effect.the-variants.{Keep, Forget, Shift, Copy, Object}
 
 -- ---- the paper's sentence, by chains
 

@@ -27,14 +27,14 @@ use Rattle.blocks.specs.Layout.{layout}
 use Rattle.blocks.specs.Shape.{size, ReadsLine, Reads, targetsFrom}
 use Rattle.blocks.specs.ShapeLaws.{table-laid}
 use Rattle.blocks.specs.Tree.{Block, nil, plain, branch, loop, bundle, unread, tree}
-use Rattle.checker.specs.FactRules.{conditionFacts, factsAfter, loopFacts}
-use Rattle.checker.specs.BoundsRules.{sameEnd, endAtMost}
-use Rattle.checker.specs.Rules.{bundleFacts, bundleFaults, sidesJoined, blockFacts, blockFaults}
-use Rattle.checker.specs.Verdict.{environmentOf}
+use Rattle.rules.specs.FactRules.{conditionFacts, factsAfter, loopFacts}
+use Rattle.rules.specs.BoundsRules.{sameEnd, endAtMost}
+use Rattle.rules.specs.Rules.{bundleFacts, bundleFaults, sidesJoined, blockFacts, blockFaults}
+use Rattle.rules.specs.Verdict.{environmentOf}
 use Rattle.checker.specs.BundleLaws.{no-fault}
-use Rattle.checker.specs.RuleLaws.{no-first, no-rest}
-use Rattle.checker.specs.Exactness.{Traced, traced-exact, traced-new, traced-join, variables, traced-condition, traced-negated, traced-after, traced-body}
-use Rattle.checker.specs.declared.Bounds.{Bounds}
+use Rattle.rules.specs.RuleLaws.{no-first, no-rest}
+use Rattle.rules.specs.Exactness.{Traced, traced-exact, traced-new, traced-join, variables, traced-condition, traced-negated, traced-after, traced-body}
+use Rattle.rules.specs.declared.Bounds.{Bounds}
 
 -- ---- what "shown" says in the rules
 

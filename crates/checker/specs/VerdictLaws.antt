@@ -26,13 +26,14 @@ use Rattle.blocks.specs.Tree.{parse, tree}
 use Rattle.blocks.specs.Layout.{layout, verdict}
 use Rattle.blocks.specs.declared.Layout.{Layout}
 use Rattle.blocks.specs.declared.Layout.the-variants as layout-variant
-use Rattle.checker.specs.Rules.{Fault, refusal, notShown, also, blockFaults}
-use Rattle.checker.specs.Verdict.{environmentOf, refusals, sectionFaults, formFaults, faults, Answers, lowestVerdict}
-use Rattle.checker.specs.RuleLaws.{no-first, no-rest}
-use Rattle.checker.specs.Walk.{Measured, Walks}
-use Rattle.checker.specs.declared.Environment.{Environment}
-use Rattle.checker.specs.declared.Verdict.{Verdict}
-use Rattle.checker.specs.declared.Verdict.the-variants.{Accepted, Refused}
+use Rattle.rules.specs.Rules.{Fault, refusal, notShown, also, blockFaults}
+use Rattle.rules.specs.Verdict.{environmentOf, refusals, sectionFaults, formFaults, faults, Answers, lowestVerdict}
+use Rattle.rules.specs.RuleLaws.{no-first, no-rest}
+use Rattle.rules.specs.Ranges.{Measured}
+use Rattle.checker.specs.Walk.{Walks}
+use Rattle.rules.specs.declared.Environment.{Environment}
+use Rattle.rules.specs.declared.Verdict.{Verdict}
+use Rattle.rules.specs.declared.Verdict.the-variants.{Accepted, Refused}
 use Rattle.checker.specs.declared.walk.Walked.{Walked}
 
 -- The lengths that a well-formed table declares are in range.

@@ -21,17 +21,19 @@ use Rattle.table.specs.StatementLaws.{read-typed, read-limits, read-counts-if, 
 use Rattle.blocks.specs.Tree.{Block, nil, unread, simples, node, parse}
 use Rattle.blocks.specs.TreeLaws.{parse-none, parse-end, parse-some}
 use Rattle.blocks.specs.Shape.{targetsFrom}
-use Rattle.checker.specs.FactRules.{factsAfter, conditionFacts, loopFacts}
-use Rattle.checker.specs.BoundsRules.{isPointer, effect, boundsAfter, unshown}
-use Rattle.checker.specs.Rules.{Fault, also, faultIf, boundsAt, bundleFacts, bundleBounds, bundleFaults, blockFacts, blockFaults}
-use Rattle.checker.specs.Verdict.{lowestVerdict}
-use Rattle.checker.specs.Walk.{InRange, applied, WalksBundle, Walks}
-use Rattle.checker.specs.FactRulesLaws.{offset-ranged, read-ranged}
-use Rattle.checker.specs.declared.Environment.{Environment}
-use Rattle.checker.specs.declared.Effect.{Effect}
-use Rattle.checker.specs.declared.Verdict.{Verdict}
-use Rattle.checker.specs.declared.Verdict.the-variants.{Accepted, Refused}
-use Rattle.checker.specs.declared.effects.Applied.{Applied}
+use Rattle.rules.specs.FactRules.{factsAfter, conditionFacts, loopFacts}
+use Rattle.rules.specs.BoundsRules.{isPointer, effect, boundsAfter, unshown}
+use Rattle.rules.specs.Rules.{Fault, also, faultIf, boundsAt, bundleFacts, bundleBounds, bundleFaults, blockFacts, blockFaults}
+use Rattle.rules.specs.Verdict.{lowestVerdict}
+use Rattle.rules.specs.Ranges.{InRange}
+use Rattle.effects.specs.Applied.{applied}
+use Rattle.checker.specs.Walk.{WalksBundle, Walks}
+use Rattle.effects.specs.FactRulesLaws.{offset-ranged, read-ranged}
+use Rattle.rules.specs.declared.Environment.{Environment}
+use Rattle.rules.specs.declared.Effect.{Effect}
+use Rattle.rules.specs.declared.Verdict.{Verdict}
+use Rattle.rules.specs.declared.Verdict.the-variants.{Accepted, Refused}
+use Rattle.effects.specs.declared.Applied.{Applied}
 use Rattle.checker.specs.declared.walk.Walked.{Walked}
 use Rattle.checker.specs.BundleLaws.{pass, skip, stops, fault-verdict, ends, carry, also-assoc, none-refused, applied-facts, applied-effect, lineFaults}
 

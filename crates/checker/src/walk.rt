@@ -1,14 +1,14 @@
 // The walk over the statements.
-use crate::Environment;
-use crate::Verdict;
-use crate::effects::apply;
-use crate::effects::assume;
-use crate::known::KnownBounds;
-use crate::known::access_shown;
-use crate::known::bounds_after;
-use crate::known::check_effect;
-use crate::known::check_known;
-use crate::loops::lose;
+use rules::Environment;
+use rules::Verdict;
+use effects::apply;
+use effects::assume;
+use bounds::KnownBounds;
+use bounds::access_shown;
+use bounds::bounds_after;
+use bounds::check_effect;
+use bounds::check_known;
+use effects::lose;
 use facts::FactSet;
 use table::Refusal;
 use table::Sections;
@@ -18,9 +18,10 @@ use table::negated;
 use table::read_statement;
 ghost use Prim.Native.Nat.{ℕ, _+_, _^_, _<_};
 ghost use Rattle.blocks.specs.Tree.{simples, parse};
-ghost use Rattle.checker.specs.BoundsRules.{unshown};
-ghost use Rattle.checker.specs.Rules.{boundsAt};
-ghost use Rattle.checker.specs.Walk.{Measured, Walks, Passes, WalksBundle};
+ghost use Rattle.rules.specs.BoundsRules.{unshown};
+ghost use Rattle.rules.specs.Rules.{boundsAt};
+ghost use Rattle.rules.specs.Ranges.{Measured};
+ghost use Rattle.checker.specs.Walk.{Walks, Passes, WalksBundle};
 
 // The verdict on a block, and the facts after it where nothing is refused.
 pub(crate) struct Walked {

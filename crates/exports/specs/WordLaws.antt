@@ -8,9 +8,9 @@ use lib.IntN.{ℤ}
 use lib.ListN.{length}
 use Rattle.table.specs.Refusals.{number, place, pointer}
 use Rattle.table.specs.declared.Refusal.{Refusal}
-use Rattle.checker.specs.Verdict.{faults, Answers}
-use Rattle.checker.specs.declared.Verdict.{Verdict}
-use Rattle.checker.specs.declared.Verdict.the-variants as verdict
+use Rattle.rules.specs.Verdict.{faults, Answers}
+use Rattle.rules.specs.declared.Verdict.{Verdict}
+use Rattle.rules.specs.declared.Verdict.the-variants as verdict
 use Rattle.interpreter.specs.Checks.{checkNumber, checkStatement}
 use Rattle.interpreter.specs.Claim.{runFaults, RunAnswer}
 use Rattle.interpreter.specs.declared.Check.{Check}

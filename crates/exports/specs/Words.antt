@@ -7,9 +7,9 @@ use lib.Dec.{leb}
 use lib.IntN.{ℤ}
 use lib.ListN.{length, set}
 use Rattle.table.specs.Refusals.{number, place, pointer}
-use Rattle.checker.specs.Verdict.{faults, Answers}
-use Rattle.checker.specs.declared.Verdict.{Verdict}
-use Rattle.checker.specs.declared.Verdict.the-variants as verdict
+use Rattle.rules.specs.Verdict.{faults, Answers}
+use Rattle.rules.specs.declared.Verdict.{Verdict}
+use Rattle.rules.specs.declared.Verdict.the-variants as verdict
 use Rattle.interpreter.specs.Checks.{checkNumber, checkStatement}
 use Rattle.interpreter.specs.Claim.{runFaults, RunAnswer}
 use Rattle.interpreter.specs.declared.Outcome.{Outcome}

@@ -1,5 +1,5 @@
 // What C and Rust link: the check and the run on lent slices, with the answer as words in a lent slice (include/mizzengrape.h).
-use checker::Verdict;
+use rules::Verdict;
 use interpreter::Check;
 use interpreter::Outcome;
 ghost use mathlib.Core.Path.{_≡_};

@@ -13,10 +13,10 @@ use Rattle.table.specs.Form.{lengthRight, formOf}
 use Rattle.table.specs.Refusals.{number, place, pointer}
 use Rattle.table.specs.declared.Refusal.{Refusal}
 use Rattle.table.specs.declared.Refusal.the-variants.{Length}
-use Rattle.checker.specs.Rules.{refusal}
-use Rattle.checker.specs.Verdict.{faults, Answers}
-use Rattle.checker.specs.declared.Verdict.{Verdict}
-use Rattle.checker.specs.declared.Verdict.the-variants.{Refused}
+use Rattle.rules.specs.Rules.{refusal}
+use Rattle.rules.specs.Verdict.{faults, Answers}
+use Rattle.rules.specs.declared.Verdict.{Verdict}
+use Rattle.rules.specs.declared.Verdict.the-variants.{Refused}
 use Rattle.files.specs.Text.{textOf, decimal, Grown}
 use Rattle.files.specs.Words.{wordAt}
 use Rattle.files.specs.Files.{space, lineFeed, refusedWord, spaced, refusedLine, wordsOf, fileFaults}

@@ -9,10 +9,10 @@ use Rattle.facts.specs.Tabulate.{tabulate}
 use Rattle.table.specs.Refusals.{number, place, pointer}
 use Rattle.table.specs.declared.Refusal.{Refusal}
 use Rattle.table.specs.declared.Refusal.the-variants.{Length}
-use Rattle.checker.specs.Rules.{Fault, refusal}
-use Rattle.checker.specs.Verdict.{faults}
-use Rattle.checker.specs.declared.Verdict.{Verdict}
-use Rattle.checker.specs.declared.Verdict.the-variants.{Accepted, Refused}
+use Rattle.rules.specs.Rules.{Fault, refusal}
+use Rattle.rules.specs.Verdict.{faults}
+use Rattle.rules.specs.declared.Verdict.{Verdict}
+use Rattle.rules.specs.declared.Verdict.the-variants.{Accepted, Refused}
 use Rattle.files.specs.Words.{wordAt}
 use Rattle.files.specs.Text.{pickText, decimal}
 

@@ -2,10 +2,10 @@
 mod text;
 mod words;
 
-use checker::Verdict;
+use rules::Verdict;
 use table::Refusal;
 pub use text::Text;
-ghost use Rattle.checker.specs.Verdict.{Answers};
+ghost use Rattle.rules.specs.Verdict.{Answers};
 ghost use Rattle.files.specs.Text.{Line};
 ghost use Rattle.files.specs.Files.{fileFaults, lineOf, refusedLine};
 

@@ -11,12 +11,12 @@ use lib.ListN.{getD}
 use Rattle.facts.specs.Numbers.{bias}
 use Rattle.table.specs.declared.Simple.{Simple}
 use Rattle.table.specs.declared.Simple.the-variants.{Literal, AddConstant, Arithmetic, Null, Address, PointerOffset, PointerIndex, Load, Store, Check}
-use Rattle.checker.specs.FactsTrue.{neither}
-use Rattle.checker.specs.BoundsRules.{declared}
-use Rattle.checker.specs.BoundsTrue.{endAt, BoundsHold}
-use Rattle.checker.specs.EnvironmentLaws.{DeclaredEnds}
-use Rattle.checker.specs.declared.KnownEnd.the-variants.{Known}
-use Rattle.checker.specs.declared.Environment.{Environment}
+use Rattle.rules.specs.FactsTrue.{neither}
+use Rattle.rules.specs.BoundsRules.{declared}
+use Rattle.rules.specs.BoundsTrue.{endAt, BoundsHold}
+use Rattle.rules.specs.EnvironmentLaws.{DeclaredEnds}
+use Rattle.rules.specs.declared.KnownEnd.the-variants.{Known}
+use Rattle.rules.specs.declared.Environment.{Environment}
 use Rattle.interpreter.specs.Machine.{value, lowerEnd, upperEnd, low, high, inOrigin, Failing, none, firstOf, accessFailing, Memory}
 use Rattle.interpreter.specs.Good.{TrueOf}
 

@@ -11,7 +11,7 @@ use Rattle.table.specs.declared.Sections.{Sections}
 use Rattle.table.specs.declared.Statement.{Statement}
 use Rattle.table.specs.declared.StatementRead.the-variants.{Read}
 use Rattle.blocks.specs.Shape.{entriesAt}
-use Rattle.checker.specs.declared.Environment.{Environment}
+use Rattle.rules.specs.declared.Environment.{Environment}
 use Rattle.interpreter.specs.Machine.{high, Status, going, stopped, stuck, Point, successorsOf, pointAfter}
 use Rattle.interpreter.specs.Checks.{checkOf}
 use Rattle.interpreter.specs.Bare.{Move, move, Result, result}

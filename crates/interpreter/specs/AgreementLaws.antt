@@ -25,7 +25,7 @@ use Rattle.table.specs.declared.StatementRead.{StatementRead}
 use Rattle.table.specs.declared.StatementRead.the-variants.{Read}
 use Rattle.blocks.specs.Flow.{Successors}
 use Rattle.blocks.specs.Shape.{entriesAt}
-use Rattle.checker.specs.declared.Environment.{Environment}
+use Rattle.rules.specs.declared.Environment.{Environment}
 use Rattle.interpreter.specs.Machine.{low, high, address, inOrigin, conditionHolds, Failing, none, fails, failing, Status, going, stopped, stuck, Point, Memory, Performed, done, no-step, stepIf, performed, memoryOf, afterChecks, branched, statementStep, stepIfDue, nextPoint, pointAfter}
 use Rattle.interpreter.specs.Bare.{valuesAfter, cellsAfter, stepUnless, changedUnless, Move, move, simpleMove, statementMove, bareMove, Result, result, pickResult, follow, bareRun, InCells, InsideSimple, Inside, Ready, IfTrue, Onward, SafeRun}
 use Rattle.interpreter.specs.Checks.{checkOf}

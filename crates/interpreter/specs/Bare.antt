@@ -20,9 +20,9 @@ use Rattle.table.specs.declared.Statement.the-variants.{Plain, If, While, Bundl
 use Rattle.table.specs.declared.StatementRead.the-variants.{Read}
 use Rattle.blocks.specs.Flow.{Successors}
 use Rattle.blocks.specs.Shape.{entriesAt}
-use Rattle.checker.specs.declared.KnownEnd.the-variants.{Known}
-use Rattle.checker.specs.declared.Bounds.{Bounds}
-use Rattle.checker.specs.declared.Environment.{Environment}
+use Rattle.rules.specs.declared.KnownEnd.the-variants.{Known}
+use Rattle.rules.specs.declared.Bounds.{Bounds}
+use Rattle.rules.specs.declared.Environment.{Environment}
 use Rattle.interpreter.specs.Machine.{value, low, conditionHolds, Failing, none, fails, failing, accessFailing, address, combined}
 use Rattle.interpreter.specs.Checks.{checkOf}
 use Rattle.interpreter.specs.declared.Step.{Step}

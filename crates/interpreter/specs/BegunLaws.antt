@@ -11,8 +11,8 @@ use lib.Dec.{leb, eqb}
 use lib.ListN.{length, getD}
 use Rattle.facts.specs.Numbers.{maxValue}
 use Rattle.table.specs.declared.Sections.{Sections}
-use Rattle.checker.specs.BoundsRules.{isPointer, objectLength}
-use Rattle.checker.specs.declared.Environment.{Environment}
+use Rattle.rules.specs.BoundsRules.{isPointer, objectLength}
+use Rattle.rules.specs.declared.Environment.{Environment}
 use Rattle.interpreter.specs.Machine.{value, boundsTrue}
 use Rattle.interpreter.specs.Entry.{pickBool, endBefore, pairRight, entryRight}
 use Rattle.interpreter.specs.Soundness.{Placed, Begun}

@@ -21,13 +21,13 @@ use Rattle.table.specs.declared.StatementRead.{StatementRead}
 use Rattle.blocks.specs.Tree.{Block, nil, plain, branch, loop, bundle, unread, target, targets, assigned}
 use Rattle.blocks.specs.Flow.{Successors, successors, entry, lead}
 use Rattle.blocks.specs.Shape.{size, targetsFrom}
-use Rattle.checker.specs.FactRules.{factsAfter, conditionFacts, loopFacts}
-use Rattle.checker.specs.FactsTrue.{Agree, among-left, among-right, loop-facts-hold}
-use Rattle.checker.specs.BoundsRules.{isPointer, declared, known, effect, boundsAfter, accessShown, unshown}
-use Rattle.checker.specs.Rules.{bundleFacts, bundleBounds, bundleFaults, sidesJoined, blockFacts, blockFaults}
-use Rattle.checker.specs.RuleLaws.{no-first, no-rest, access-passed, bounds-passed}
-use Rattle.checker.specs.declared.Bounds.{Bounds}
-use Rattle.checker.specs.declared.Environment.{Environment}
+use Rattle.rules.specs.FactRules.{factsAfter, conditionFacts, loopFacts}
+use Rattle.rules.specs.FactsTrue.{Agree, among-left, among-right, loop-facts-hold}
+use Rattle.rules.specs.BoundsRules.{isPointer, declared, known, effect, boundsAfter, accessShown, unshown}
+use Rattle.rules.specs.Rules.{bundleFacts, bundleBounds, bundleFaults, sidesJoined, blockFacts, blockFaults}
+use Rattle.rules.specs.RuleLaws.{no-first, no-rest, access-passed, bounds-passed}
+use Rattle.rules.specs.declared.Bounds.{Bounds}
+use Rattle.rules.specs.declared.Environment.{Environment}
 use Rattle.interpreter.specs.Machine.{value, conditionHolds, Failing, none, fails, failing, Memory, Performed, done, no-step, performed, Point, memoryOf, moved, halted, afterChecks, branched, statementStep}
 use Rattle.interpreter.specs.Good.{Setting, Good, with-facts, shown-true, redeclared}
 use Rattle.interpreter.specs.ConditionSound.{condition-holds, negated-holds}

@@ -9,7 +9,7 @@ use borrow.Author.Tests.{eq-eqb, ne-eqb, lt-ltb, le-ltb, le-leb, lt-leb}
 use lib.Dec.{leb, ltb, eqb}
 use Rattle.facts.specs.Numbers.{bias, maxValue}
 use Rattle.facts.specs.Tabulate.{getD-tabulate}
-use Rattle.checker.specs.BoundsRules.{nothingKnown}
+use Rattle.rules.specs.BoundsRules.{nothingKnown}
 use Rattle.interpreter.specs.Machine.{value, endValue, relates, none, firstOf, accessFailing, arithmeticFailing, combined}
 use Rattle.interpreter.specs.Bare.{endAt, boundsAt, declaredIn, stepUnless}
 use Rattle.interpreter.specs.declared.Check.the-variants.{NullAccess, OutOfBounds, NullArithmetic, AddressRange}

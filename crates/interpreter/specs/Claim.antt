@@ -17,11 +17,11 @@ use Rattle.table.specs.declared.Statement.the-variants.{Plain, If, While, Bundl
 use Rattle.table.specs.declared.StatementRead.{StatementRead}
 use Rattle.table.specs.declared.StatementRead.the-variants.{Read, Unread}
 use Rattle.blocks.specs.Tree.{tree}
-use Rattle.checker.specs.BoundsRules.{isPointer}
-use Rattle.checker.specs.Rules.{Fault, also}
-use Rattle.checker.specs.Verdict.{environmentOf, refusals, faults, Answers}
-use Rattle.checker.specs.declared.Environment.{Environment}
-use Rattle.checker.specs.declared.Verdict.the-variants as verdict
+use Rattle.rules.specs.BoundsRules.{isPointer}
+use Rattle.rules.specs.Rules.{Fault, also}
+use Rattle.rules.specs.Verdict.{environmentOf, refusals, faults, Answers}
+use Rattle.rules.specs.declared.Environment.{Environment}
+use Rattle.rules.specs.declared.Verdict.the-variants as verdict
 use Rattle.interpreter.specs.Machine.{Failing, none, fails, failing, boundsTrue, inOrigin, going, stopped, stuck, Point, start, pointAfter}
 use Rattle.interpreter.specs.Entry.{entryRefusals}
 use Rattle.interpreter.specs.Points.{inBundle, Access, no-access, access, accessFrom}

@@ -18,13 +18,13 @@ use Rattle.table.specs.declared.Form.the-variants.{WellFormed, Refused}
 use Rattle.table.specs.declared.Refusal.{Refusal}
 use Rattle.table.specs.declared.Refusal.the-variants.{Length, Directory, ObjectLength, VariableRecord, StatementRecord}
 use Rattle.blocks.specs.Flow.{tableFlow, written, Written}
-use Rattle.checker.specs.EnvironmentLaws.{environment-declares}
+use Rattle.rules.specs.EnvironmentLaws.{environment-declares}
 use Rattle.checker.specs.VerdictLaws.{clear, faults-clear}
-use Rattle.checker.specs.Rules.{Fault, refusal, notShown, also}
-use Rattle.checker.specs.Verdict.{environmentOf, refusals, faults, Answers}
-use Rattle.checker.specs.declared.Verdict.{Verdict}
-use Rattle.checker.specs.declared.Verdict.the-variants as verdict
-use Rattle.checker.specs.declared.Environment.{Environment}
+use Rattle.rules.specs.Rules.{Fault, refusal, notShown, also}
+use Rattle.rules.specs.Verdict.{environmentOf, refusals, faults, Answers}
+use Rattle.rules.specs.declared.Verdict.{Verdict}
+use Rattle.rules.specs.declared.Verdict.the-variants as verdict
+use Rattle.rules.specs.declared.Environment.{Environment}
 use Rattle.interpreter.specs.Machine.{Status, going, stopped, stuck, Point, start, pointAfter}
 use Rattle.interpreter.specs.Points.{Access, no-access, access, accessFrom}
 use Rattle.interpreter.specs.Soundness.{Begun, Sound, AccessAllowed}

@@ -13,8 +13,8 @@ use Rattle.facts.specs.declared.FactSet.{FactSet}
 use Rattle.table.specs.Negation.{negation, negatedOf}
 use Rattle.table.specs.SectionsLaws.{both}
 use Rattle.table.specs.declared.Condition.{Condition}
-use Rattle.checker.specs.FactRules.{pickFacts, positive, differs, relationFacts, conditionFacts}
-use Rattle.checker.specs.FactsTrue.{equated-holds, positive-holds}
+use Rattle.rules.specs.FactRules.{pickFacts, positive, differs, relationFacts, conditionFacts}
+use Rattle.rules.specs.FactsTrue.{equated-holds, positive-holds}
 use Rattle.interpreter.specs.Machine.{value, relates, conditionHolds}
 
 module _ (f : FactSet) (v : ℕ → ℕ) (g : InRange v) (h : Holds f v) where

@@ -5,9 +5,9 @@ use lib.Dec.{ltb}
 use Rattle.facts.specs.Tabulate.{tabulate}
 use Rattle.table.specs.Words.{pickNumber}
 use Rattle.table.specs.declared.End.{End}
-use Rattle.checker.specs.BoundsRules.{declared}
-use Rattle.checker.specs.declared.Bounds.{Bounds}
-use Rattle.checker.specs.declared.Environment.{Environment}
+use Rattle.rules.specs.BoundsRules.{declared}
+use Rattle.rules.specs.declared.Bounds.{Bounds}
+use Rattle.rules.specs.declared.Environment.{Environment}
 use Rattle.interpreter.specs.Machine.{endOf}
 
 -- The numbers of an end: pointer, integer, constant.

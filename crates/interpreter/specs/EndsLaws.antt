@@ -21,11 +21,11 @@ use Rattle.table.specs.declared.Simple.the-variants.{Literal, AddConstant, Arit
 use Rattle.table.specs.declared.Variable.the-variants.{Integer, Pointer}
 use Rattle.table.specs.declared.VariableRead.{VariableRead}
 use Rattle.table.specs.declared.VariableRead.the-variants.{Read, Unread}
-use Rattle.checker.specs.BoundsRules.{nothingKnown, declared}
-use Rattle.checker.specs.Verdict.{boundsOf, environmentOf}
-use Rattle.checker.specs.declared.KnownEnd.the-variants.{Unknown}
-use Rattle.checker.specs.declared.Bounds.{Bounds}
-use Rattle.checker.specs.declared.Environment.{Environment}
+use Rattle.rules.specs.BoundsRules.{nothingKnown, declared}
+use Rattle.rules.specs.Verdict.{boundsOf, environmentOf}
+use Rattle.rules.specs.declared.KnownEnd.the-variants.{Unknown}
+use Rattle.rules.specs.declared.Bounds.{Bounds}
+use Rattle.rules.specs.declared.Environment.{Environment}
 use Rattle.interpreter.specs.Machine.{value, endValue, endOf, lowerEnd, upperEnd, address, none, firstOf, accessFailing, failing}
 use Rattle.interpreter.specs.Ends.{endNumber, boundsNumber, endsOf}
 use Rattle.interpreter.specs.Bare.{boundsAt, declaredIn}

@@ -7,8 +7,8 @@ use lib.ListN.{length, getD}
 use Rattle.table.specs.declared.Sections.{Sections}
 use Rattle.table.specs.declared.Refusal.{Refusal}
 use Rattle.table.specs.declared.Refusal.the-variants.{MemorySize, DirectoryPair, EntryLengths, EntryValue}
-use Rattle.checker.specs.BoundsRules.{isPointer, objectLength}
-use Rattle.checker.specs.declared.Environment.{Environment}
+use Rattle.rules.specs.BoundsRules.{isPointer, objectLength}
+use Rattle.rules.specs.declared.Environment.{Environment}
 use Rattle.interpreter.specs.Machine.{value, boundsTrue}
 
 -- "memory above 16,777,216 cells, wrong number of pairs": one pair per object.

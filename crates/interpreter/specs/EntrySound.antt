@@ -14,10 +14,10 @@ use Rattle.facts.specs.Store.{newSet}
 use Rattle.facts.specs.Sound.{InRange, new-holds}
 use Rattle.table.specs.SectionsLaws.{both}
 use Rattle.table.specs.declared.Sections.{Sections}
-use Rattle.checker.specs.BoundsRules.{declared}
-use Rattle.checker.specs.BoundsTrue.{BoundsHold}
-use Rattle.checker.specs.EnvironmentLaws.{Declares, DeclaredEnds}
-use Rattle.checker.specs.declared.Environment.{Environment}
+use Rattle.rules.specs.BoundsRules.{declared}
+use Rattle.rules.specs.BoundsTrue.{BoundsHold}
+use Rattle.rules.specs.EnvironmentLaws.{Declares, DeclaredEnds}
+use Rattle.rules.specs.declared.Environment.{Environment}
 use Rattle.interpreter.specs.Machine.{value, lowerEnd, upperEnd, low, high, originHolds, boundsTrue, Memory}
 use Rattle.interpreter.specs.Soundness.{Begun}
 use Rattle.interpreter.specs.Good.{TrueOf, Good}

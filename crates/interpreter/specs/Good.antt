@@ -17,13 +17,13 @@ use Rattle.facts.specs.declared.FactSet.{FactSet}
 use Rattle.table.specs.declared.Sections.{Sections}
 use Rattle.blocks.specs.Tree.{tree}
 use Rattle.blocks.specs.Layout.{layout}
-use Rattle.checker.specs.BoundsRules.{isPointer, declared, known, effectOn, boundsAfter, boundsShown, unshown}
-use Rattle.checker.specs.BoundsTrue.{BoundsHold, known-after, all-shown, shown-holds, ProperEnd}
-use Rattle.checker.specs.Rules.{blockFaults}
-use Rattle.checker.specs.EnvironmentLaws.{Declares, DeclaredEnds}
-use Rattle.checker.specs.declared.Bounds.{Bounds}
-use Rattle.checker.specs.declared.Effect.{Effect}
-use Rattle.checker.specs.declared.Environment.{Environment}
+use Rattle.rules.specs.BoundsRules.{isPointer, declared, known, effectOn, boundsAfter, boundsShown, unshown}
+use Rattle.rules.specs.BoundsTrue.{BoundsHold, known-after, all-shown, shown-holds, ProperEnd}
+use Rattle.rules.specs.Rules.{blockFaults}
+use Rattle.rules.specs.EnvironmentLaws.{Declares, DeclaredEnds}
+use Rattle.rules.specs.declared.Bounds.{Bounds}
+use Rattle.rules.specs.declared.Effect.{Effect}
+use Rattle.rules.specs.declared.Environment.{Environment}
 use Rattle.interpreter.specs.Machine.{value, low, high, Memory}
 use Rattle.interpreter.specs.Soundness.{Placed, Outside}
 

@@ -16,10 +16,10 @@ use Rattle.table.specs.declared.Statement.the-variants.{Plain, If, While, Bundl
 use Rattle.table.specs.declared.StatementRead.{StatementRead}
 use Rattle.table.specs.declared.StatementRead.the-variants.{Read, Unread}
 use Rattle.blocks.specs.Flow.{Successors, successors, tableFlow, tableEntry}
-use Rattle.checker.specs.BoundsRules.{declared}
-use Rattle.checker.specs.declared.KnownEnd.{KnownEnd}
-use Rattle.checker.specs.declared.KnownEnd.the-variants.{Known, Unknown}
-use Rattle.checker.specs.declared.Environment.{Environment}
+use Rattle.rules.specs.BoundsRules.{declared}
+use Rattle.rules.specs.declared.KnownEnd.{KnownEnd}
+use Rattle.rules.specs.declared.KnownEnd.the-variants.{Known, Unknown}
+use Rattle.rules.specs.declared.Environment.{Environment}
 
 -- ---- values, ends and objects
 

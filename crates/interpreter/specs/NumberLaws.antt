@@ -15,7 +15,7 @@ use Rattle.table.specs.declared.Statement.the-variants.{Plain, If, While, Bundl
 use Rattle.table.specs.declared.StatementRead.{StatementRead}
 use Rattle.table.specs.declared.StatementRead.the-variants.{Read, Unread}
 use Rattle.blocks.specs.Flow.{Successors}
-use Rattle.checker.specs.declared.Environment.{Environment}
+use Rattle.rules.specs.declared.Environment.{Environment}
 use Rattle.interpreter.specs.Machine.{value, address, lowerEnd, upperEnd, conditionHolds, Failing, none, fails, firstOf, firstUnless, accessFailing, arithmeticFailing, failing, Status, going, stopped, stuck, Point, Performed, done, no-step, performed, memoryOf, afterPerformed, afterChecks, branched, statementStep, successorsOf, stepIfDue, nextPoint, pointAfter}
 use Rattle.interpreter.specs.Checks.{checkNumber, checkStatement, checkOf}
 

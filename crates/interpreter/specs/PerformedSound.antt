@@ -18,13 +18,13 @@ use Rattle.table.specs.declared.Sections.{Sections}
 use Rattle.table.specs.declared.Simple.{Simple}
 use Rattle.table.specs.declared.Simple.the-variants.{Literal, AddConstant, Arithmetic, Null, Address, PointerOffset, PointerIndex, Load, Store, Check}
 use Rattle.blocks.specs.Tree.{target}
-use Rattle.checker.specs.FactRules.{sumInRange, factsAfter, conditionFacts}
-use Rattle.checker.specs.FactsTrue.{neither}
-use Rattle.checker.specs.BoundsRules.{declared, effectOn, boundsAfter, effect}
-use Rattle.checker.specs.BoundsTrue.{known-after}
-use Rattle.checker.specs.declared.Bounds.{Bounds}
-use Rattle.checker.specs.declared.Effect.the-variants.{Keep}
-use Rattle.checker.specs.declared.Environment.{Environment}
+use Rattle.rules.specs.FactRules.{sumInRange, factsAfter, conditionFacts}
+use Rattle.rules.specs.FactsTrue.{neither}
+use Rattle.rules.specs.BoundsRules.{declared, effectOn, boundsAfter, effect}
+use Rattle.rules.specs.BoundsTrue.{known-after}
+use Rattle.rules.specs.declared.Bounds.{Bounds}
+use Rattle.rules.specs.declared.Effect.the-variants.{Keep}
+use Rattle.rules.specs.declared.Environment.{Environment}
 use Rattle.interpreter.specs.Machine.{value, low, conditionHolds, none, firstOf, firstUnless, address, arithmeticFailing, accessFailing, failing, Memory, combined, performed}
 use Rattle.interpreter.specs.Good.{Setting, TrueOf, Steady, Good}
 use Rattle.interpreter.specs.ConditionSound.{condition-holds}

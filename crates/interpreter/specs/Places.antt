@@ -17,12 +17,12 @@ use Rattle.blocks.specs.Tree.{Block, nil, plain, branch, loop, bundle, unread, 
 use Rattle.blocks.specs.Flow.{Successors, successors, entry, lead}
 use Rattle.blocks.specs.Shape.{size, Numbered, Formed, ReadsLine, Reads, RightLine, Right, targetsFrom}
 use Rattle.blocks.specs.ShapeLaws.{body-targets}
-use Rattle.checker.specs.FactRules.{factsAfter, conditionFacts, loopFacts}
-use Rattle.checker.specs.FactsTrue.{Agree}
-use Rattle.checker.specs.BoundsRules.{effect, boundsAfter}
-use Rattle.checker.specs.Rules.{bundleFacts, sidesJoined, blockFacts}
-use Rattle.checker.specs.declared.Bounds.{Bounds}
-use Rattle.checker.specs.declared.Environment.{Environment}
+use Rattle.rules.specs.FactRules.{factsAfter, conditionFacts, loopFacts}
+use Rattle.rules.specs.FactsTrue.{Agree}
+use Rattle.rules.specs.BoundsRules.{effect, boundsAfter}
+use Rattle.rules.specs.Rules.{bundleFacts, sidesJoined, blockFacts}
+use Rattle.rules.specs.declared.Bounds.{Bounds}
+use Rattle.rules.specs.declared.Environment.{Environment}
 use Rattle.interpreter.specs.Machine.{value, Memory}
 use Rattle.interpreter.specs.Good.{Good}
 

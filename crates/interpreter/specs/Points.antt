@@ -13,7 +13,7 @@ use Rattle.table.specs.declared.Statement.the-variants.{Plain, If, While, Bundl
 use Rattle.table.specs.declared.StatementRead.{StatementRead}
 use Rattle.table.specs.declared.StatementRead.the-variants.{Read, Unread}
 use Rattle.blocks.specs.Tree.{Block, nil, plain, branch, loop, bundle, unread}
-use Rattle.checker.specs.declared.Environment.{Environment}
+use Rattle.rules.specs.declared.Environment.{Environment}
 use Rattle.interpreter.specs.Machine.{Failing, none, fails, failing, address, Status, going, stopped, stuck, Point, Memory, memoryOf}
 
 -- "A point is in a bundle when a statement inside one is due": of the statement d that is due. A bundle's head is not inside it.

@@ -26,13 +26,13 @@ use Rattle.blocks.specs.Tree.{tree, assigned}
 use Rattle.blocks.specs.Flow.{successors, tableEntry}
 use Rattle.blocks.specs.ShapeLaws.{table-laid}
 use Rattle.blocks.specs.SuccessorLaws.{flow-right}
-use Rattle.checker.specs.FactsTrue.{Agree}
-use Rattle.checker.specs.BoundsRules.{isPointer, declared}
-use Rattle.checker.specs.EnvironmentLaws.{Declares, environment-declares}
-use Rattle.checker.specs.Rules.{blockFacts}
-use Rattle.checker.specs.Verdict.{environmentOf, faults}
+use Rattle.rules.specs.FactsTrue.{Agree}
+use Rattle.rules.specs.BoundsRules.{isPointer, declared}
+use Rattle.rules.specs.EnvironmentLaws.{Declares, environment-declares}
+use Rattle.rules.specs.Rules.{blockFacts}
+use Rattle.rules.specs.Verdict.{environmentOf, faults}
 use Rattle.checker.specs.VerdictLaws.{clear}
-use Rattle.checker.specs.declared.Environment.{Environment}
+use Rattle.rules.specs.declared.Environment.{Environment}
 use Rattle.interpreter.specs.Machine.{value, boundsTrue, Failing, none, fails, failing, Memory, Status, going, stopped, stuck, Point, memoryOf, statementStep, successorsOf, stepIfDue, nextPoint, start, pointAfter}
 use Rattle.interpreter.specs.Points.{inBundle, simpleAccess, unlessFailing, statementAccess, accessIf, accessFrom}
 use Rattle.interpreter.specs.Soundness.{AccessRight, AccessAllowed, Begun, Sound}

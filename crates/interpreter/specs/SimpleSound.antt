@@ -18,14 +18,14 @@ use Rattle.table.specs.Typed.{IsInteger, IsPointer}
 use Rattle.table.specs.declared.Sections.{Sections}
 use Rattle.table.specs.declared.Simple.{Simple}
 use Rattle.blocks.specs.Tree.{target}
-use Rattle.checker.specs.FactRules.{pickFacts, equated, sumInRange, sumFacts, offsetFacts, factsAfter}
-use Rattle.checker.specs.FactsTrue.{Agree, among-one, equated-holds, positive-holds, sum-in-range}
-use Rattle.checker.specs.BoundsRules.{pickEffect, pickBounds, objectLength, known, forgetBounds, objectBounds, effectOn, boundsAfter, effect}
-use Rattle.checker.specs.BoundsTrue.{BoundsHold, forget-holds, shift-holds, object-holds}
-use Rattle.checker.specs.declared.Bounds.{Bounds}
-use Rattle.checker.specs.declared.Effect.{Effect}
-use Rattle.checker.specs.declared.Effect.the-variants.{Forget, Shift, Copy, Object}
-use Rattle.checker.specs.declared.Environment.{Environment}
+use Rattle.rules.specs.FactRules.{pickFacts, equated, sumInRange, sumFacts, offsetFacts, factsAfter}
+use Rattle.rules.specs.FactsTrue.{Agree, among-one, equated-holds, positive-holds, sum-in-range}
+use Rattle.rules.specs.BoundsRules.{pickEffect, pickBounds, objectLength, known, forgetBounds, objectBounds, effectOn, boundsAfter, effect}
+use Rattle.rules.specs.BoundsTrue.{BoundsHold, forget-holds, shift-holds, object-holds}
+use Rattle.rules.specs.declared.Bounds.{Bounds}
+use Rattle.rules.specs.declared.Effect.{Effect}
+use Rattle.rules.specs.declared.Effect.the-variants.{Forget, Shift, Copy, Object}
+use Rattle.rules.specs.declared.Environment.{Environment}
 use Rattle.interpreter.specs.Machine.{value, low, high, Memory, Performed, done, no-step, combined}
 use Rattle.interpreter.specs.Good.{Setting, TrueOf, Good, carry, Assigned, set-good}
 

@@ -9,8 +9,8 @@ use lib.ListN.{length, getD}
 use Rattle.facts.specs.Numbers.{bias, maxValue}
 use Rattle.table.specs.declared.Sections.{Sections}
 use Rattle.blocks.specs.Tree.{tree}
-use Rattle.checker.specs.BoundsRules.{isPointer, objectLength}
-use Rattle.checker.specs.declared.Environment.{Environment}
+use Rattle.rules.specs.BoundsRules.{isPointer, objectLength}
+use Rattle.rules.specs.declared.Environment.{Environment}
 use Rattle.interpreter.specs.Machine.{value, low, high, boundsTrue, inOrigin, stuck, Point}
 use Rattle.interpreter.specs.Points.{inBundle, Access, no-access, access, accessFrom}
 

@@ -21,13 +21,13 @@ use Rattle.table.specs.declared.StatementRead.the-variants.{Read}
 use Rattle.blocks.specs.Tree.{Block, nil, plain, branch, loop, bundle, unread}
 use Rattle.blocks.specs.Flow.{Successors, entry}
 use Rattle.blocks.specs.Shape.{size, Numbered}
-use Rattle.checker.specs.FactRules.{factsAfter, conditionFacts}
-use Rattle.checker.specs.FactsTrue.{neither, nor}
-use Rattle.checker.specs.BoundsRules.{effect, boundsAfter, accessShown}
-use Rattle.checker.specs.Rules.{bundleFacts, bundleFaults, sidesJoined, blockFacts, blockFaults}
-use Rattle.checker.specs.RuleLaws.{no-first, no-rest, access-passed}
-use Rattle.checker.specs.declared.Bounds.{Bounds}
-use Rattle.checker.specs.declared.Environment.{Environment}
+use Rattle.rules.specs.FactRules.{factsAfter, conditionFacts}
+use Rattle.rules.specs.FactsTrue.{neither, nor}
+use Rattle.rules.specs.BoundsRules.{effect, boundsAfter, accessShown}
+use Rattle.rules.specs.Rules.{bundleFacts, bundleFaults, sidesJoined, blockFacts, blockFaults}
+use Rattle.rules.specs.RuleLaws.{no-first, no-rest, access-passed}
+use Rattle.rules.specs.declared.Bounds.{Bounds}
+use Rattle.rules.specs.declared.Environment.{Environment}
 use Rattle.interpreter.specs.Machine.{Memory}
 use Rattle.interpreter.specs.Points.{inBundle}
 use Rattle.interpreter.specs.Good.{Setting, Good}

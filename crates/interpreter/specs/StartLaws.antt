@@ -20,9 +20,9 @@ use Rattle.blocks.specs.Layout.{layout}
 use Rattle.blocks.specs.Flow.{successors, tableFlow, tableEntry, written}
 use Rattle.blocks.specs.FlowLaws.{begins, length-written}
 use Rattle.blocks.specs.SuccessorLaws.{written-at}
-use Rattle.checker.specs.BoundsRules.{isPointer, objectLength}
-use Rattle.checker.specs.Verdict.{environmentOf}
-use Rattle.checker.specs.declared.Environment.{Environment}
+use Rattle.rules.specs.BoundsRules.{isPointer, objectLength}
+use Rattle.rules.specs.Verdict.{environmentOf}
+use Rattle.rules.specs.declared.Environment.{Environment}
 use Rattle.interpreter.specs.Machine.{value, high, boundsTrue, stuck, start, pointAfter}
 use Rattle.interpreter.specs.Entry.{memoryRight, endBefore, pairRight, lengthsRight, pickBool, entryRight, consUnless, failures, entryRefusals}
 use Rattle.interpreter.specs.Bare.{Prepared, bareRun, SafeRun}

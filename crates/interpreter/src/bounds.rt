@@ -2,14 +2,14 @@
 use crate::ends::end_of;
 use crate::numbers::BIAS;
 use crate::numbers::value_at;
-use checker::Bounds;
-use checker::Environment;
-use checker::KnownEnd;
+use rules::Bounds;
+use rules::Environment;
+use rules::KnownEnd;
 use table::End;
 ghost use mathlib.Core.Path.{_≡_};
 ghost use Prim.Native.Nat.{_+_, _^_, _<_};
 ghost use lib.Dec.{leb};
-ghost use Rattle.checker.specs.BoundsRules.{declared, isPointer};
+ghost use Rattle.rules.specs.BoundsRules.{declared, isPointer};
 ghost use Rattle.interpreter.specs.Machine.{endValue, boundsTrue};
 
 // Constants from 2^40 on are above every address.

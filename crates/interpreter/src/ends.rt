@@ -1,7 +1,7 @@
 // The ends of declared bounds, laid out for the run's loop.
-use checker::Bounds;
-use checker::Environment;
-use checker::KnownEnd;
+use rules::Bounds;
+use rules::Environment;
+use rules::KnownEnd;
 use table::End;
 ghost use mathlib.Core.Path.{_≡_};
 ghost use Prim.Native.Nat.{_-_, _<_};

@@ -3,14 +3,14 @@ use crate::EntryVerdict;
 use crate::bounds::bounds_true;
 use crate::bounds::is_pointer;
 use crate::numbers::value_at;
-use checker::Environment;
+use rules::Environment;
 use table::Refusal;
 use table::Sections;
 ghost use mathlib.Core.Path.{_≡_};
 ghost use Prim.Native.Nat.{_+_, _*_, _<_};
 ghost use lib.ListN.{length};
 ghost use Rattle.table.specs.declared.Refusal.the-variants.{DirectoryPair, EntryValue};
-ghost use Rattle.checker.specs.BoundsRules.{objectLength};
+ghost use Rattle.rules.specs.BoundsRules.{objectLength};
 ghost use Rattle.interpreter.specs.Entry.{memoryRight, endBefore, pairRight, lengthsRight, entryRight, failures, entryRefusals};
 ghost use Rattle.interpreter.specs.Entered.{entered};
 

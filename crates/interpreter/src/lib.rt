@@ -8,9 +8,9 @@ mod numbers; // numbers.rt: values, sums and conditions
 mod resume; // resume.rt: the run up to a limit
 
 use blocks::write_successors;
-use checker::Verdict;
+use rules::Verdict;
 use checker::check;
-use checker::read_environment;
+use rules::read_environment;
 use ends::lay_ends;
 use entry::enter;
 use resume::resume;
@@ -22,7 +22,7 @@ ghost use mathlib.Core.Path.{_≡_};
 ghost use mathlib.Core.List.{[]};
 ghost use Rattle.table.specs.Form.{formOf};
 ghost use Rattle.table.specs.declared.Form.the-variants.{WellFormed};
-ghost use Rattle.checker.specs.Verdict.{faults};
+ghost use Rattle.rules.specs.Verdict.{faults};
 ghost use Rattle.interpreter.specs.Claim.{runFaults, RunAnswer};
 
 // The named checks, each with the statement at which it fails.

@@ -12,10 +12,10 @@ use Rattle.checker.specs.WalkLaws.{Kept, Turn, arm, placed, falls as lef
 use Rattle.checker.proofs.walk.walk.Reads as walk
 use Rattle.checker.proofs.walk.walk.Kinds as walk-kinds
 use Rattle.checker.proofs.walk.+walk.Lts-walk as walk-lts
-use Rattle.checker.proofs.effects.apply.Reads as apply-reads
-use Rattle.checker.proofs.effects.assume.Reads as assume-reads
-use Rattle.checker.proofs.known.check_effect.Reads as check-effect-reads
-use Rattle.checker.proofs.loops.lose.Reads as lose-reads
+use Rattle.effects.proofs.apply.Reads as apply-reads
+use Rattle.effects.proofs.assume.Reads as assume-reads
+use Rattle.bounds.proofs.check_effect.Reads as check-effect-reads
+use Rattle.effects.proofs.lose.Reads as lose-reads
 use Rattle.checker.proofs.walk.walk_bundle.Reads as walk-bundle-reads
 use Rattle.facts.proofs.FactSet.contradicts.Reads as contradicts-reads
 use Rattle.facts.proofs.FactSet.join.Reads as join-reads

@@ -5,9 +5,9 @@ use borrow.Author.Tests.{not-true, not-false}
 use native.Mathlib.Omega.{arith}
 use Rattle.table.specs.declared.StatementRead.the-variants.{Read}
 use Rattle.table.specs.StatementLaws.{read-within, read-limits}
-use Rattle.checker.specs.FactRulesLaws.{read-ranged}
+use Rattle.effects.specs.FactRulesLaws.{read-ranged}
 use Rattle.checker.specs.BundleLaws.{Held, held-none, held-done, held-unread, held-other, held-contrary, held-access, held-more, applied-facts, applied-effect, applied-short}
-use Rattle.checker.proofs.Variants.{not-plain}
+use Rattle.effects.proofs.Variants.{not-plain}
 use Rattle.checker.proofs.walk.walk_bundle.Statement.{statement}
 use Rattle.checker.proofs.walk.walk_bundle.Tie as tie
 

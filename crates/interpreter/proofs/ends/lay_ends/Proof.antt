@@ -5,8 +5,8 @@ use native.Mathlib.Omega.{arith}
 use borrow.Author.Needs.{needs}
 use lib.ListN.{length, getD}
 use Rattle.facts.specs.Tabulate.{Filled, filled-none, filled-more, filled-whole, length-under}
-use Rattle.checker.specs.BoundsRules.{nothingKnown}
-use Rattle.checker.specs.declared.Bounds.{Bounds}
+use Rattle.rules.specs.BoundsRules.{nothingKnown}
+use Rattle.rules.specs.declared.Bounds.{Bounds}
 use Rattle.interpreter.specs.Ends.{boundsNumber, endsOf}
 use Rattle.interpreter.specs.EntryLaws.{any-default}
 use Rattle.interpreter.proofs.ends.lay_ends.Statement.{statement}

@@ -1,0 +1,13 @@
+-- `checker::declarations::read_environment` meets its contract.
+use borrow.Author.Needs.{needs}
+use Rattle.rules.specs.Verdict.{environmentOf}
+use Rattle.rules.proofs.declarations.read_environment.Statement.{statement}
+use Rattle.rules.proofs.declarations.read_environment.Tie as tie
+
+pub read-environment-spec : {M : Type 1} → statement M
+unfolding environmentOf
+read-environment-spec =
+    tie.close
+    (tie.spec
+    (λ c κs. search needs) (λ c κs. search needs) (λ c κs. search needs)
+    (λ c. simp (c .read-lengths .ensures, c .before .read-declared .ensures, c .before .before .read-pointers .ensures)))

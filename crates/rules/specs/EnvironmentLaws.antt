@@ -1,0 +1,119 @@
+-- What a well-formed table declares: the kinds of its variables, and ends that name variables of the right kinds.
+use Prim.Native.Nat.{ℕ, _+_, _≤_, _<_}
+use mathlib.Core.Path.{_≡_, refl, sym, _∙_, ap}
+use mathlib.Core.Logic.{_≢_}
+use mathlib.Core.Bool.{Bool, true, false, false≢true}
+use mathlib.Core.List.{List}
+use native.Mathlib.Omega.{arith}
+use borrow.Author.Tests.{ltb-true, ltb-false, eqb-true, ne-eqb}
+use lib.IntN.{ℤ}
+use lib.ListN.{length, List·getD-eq-default}
+use lib.Dec.{ltb}
+use Rattle.facts.specs.Numbers.{bias}
+use Rattle.facts.specs.Tabulate.{tabulate, getD-tabulate, length-tabulate}
+use Rattle.table.specs.Sections.{kindAt, integerAt, pointerAt}
+use Rattle.table.specs.Typed.{IsInteger, IsPointer, IsIndex, missing, given, IsSmall, EndTyped, PointerTyped}
+use Rattle.table.specs.NameLaws.{pointer-limits}
+use Rattle.table.specs.Variables.{variableAt}
+use Rattle.table.specs.VariableLaws.{variable-read-typed}
+use Rattle.table.specs.FormLaws.{Formed}
+use Rattle.table.specs.declared.Sections.{Sections}
+use Rattle.table.specs.declared.End.{End}
+use Rattle.table.specs.declared.Variable.{Variable}
+use Rattle.table.specs.declared.Variable.the-variants.{Integer, Pointer}
+use Rattle.table.specs.declared.VariableRead.{VariableRead}
+use Rattle.table.specs.declared.VariableRead.the-variants.{Read}
+use Rattle.rules.specs.BoundsRules.{nothingKnown, isPointer, declared}
+use Rattle.rules.specs.BoundsTrue.{Proper}
+use Rattle.rules.specs.Verdict.{boundsOf, environmentOf}
+use Rattle.rules.specs.declared.KnownEnd.the-variants.{Known}
+use Rattle.rules.specs.declared.Environment.{Environment}
+
+-- The declared ends of a pointer.
+pub record DeclaredEnds (E : Environment) (p : ℕ) : Type 0 where
+  pub low : End
+  pub high : End
+  pub bounds : declared E p ≡ record { lower = Known low; upper = Known high }
+  pub low-proper : Proper low
+  pub high-proper : Proper high
+  pub low-small : IsSmall (low .constant)
+  pub high-small : IsSmall (high .constant)
+
+-- The environment is that of the table.
+pub record Declares (T : List ℤ) (h : Sections) (E : Environment) : Type 0 where
+  pub few : h .variables ≤ 16
+  pub pointer : (p : ℕ) → IsPointer T h p → isPointer E p ≡ true
+  pub integer : (x : ℕ) → IsInteger T h x → isPointer E x ≡ false
+  pub below : (p : ℕ) → isPointer E p ≡ true → p < h .variables
+  pub ends : (p : ℕ) → isPointer E p ≡ true → DeclaredEnds E p
+
+module _ (T : List ℤ) (h : Sections) where
+  integer-no-pointer : (x : ℕ) → integerAt T h x ≡ true → pointerAt T h x ≡ false
+  unfolding integerAt pointerAt
+  integer-no-pointer x e = let k : kindAt T h x ≡ bias = eqb-true (kindAt T h x) bias e in ne-eqb (kindAt T h x) (bias + 1) (λ q. omega arith)
+
+  pointer-at : (p : ℕ) → p < 17 → isPointer (environmentOf T h) p ≡ pointerAt T h p
+  unfolding environmentOf
+  pointer-at p l = getD-tabulate 17 (pointerAt T h) p false l
+
+  declared-at : (p : ℕ) → p < 16 → declared (environmentOf T h) p ≡ boundsOf (variableAt T h p)
+  unfolding environmentOf
+  declared-at p l = getD-tabulate 16 (λ v. boundsOf (variableAt T h v)) p nothingKnown l
+
+  -- A number that the list of kinds does not have is no pointer.
+  pointer-kind : (p : ℕ) → isPointer (environmentOf T h) p ≡ true → pointerAt T h p ≡ true
+  unfolding environmentOf
+  pointer-kind p e = go (ltb p 17) refl
+    where
+      go : (b : Bool) → ltb p 17 ≡ b → pointerAt T h p ≡ true
+      go true q = sym (pointer-at p (ltb-true p 17 q)) ∙ e
+      go false q =
+          let long : length (tabulate 17 (pointerAt T h)) ≤ p = omega (arith, length-tabulate 17 (pointerAt T h), ltb-false p 17 q) in
+          absurd (false≢true (sym (List·getD-eq-default (tabulate 17 (pointerAt T h)) false long) ∙ e))
+
+  index-below : (x : ℕ) → h .variables ≤ 16 → IsIndex T h x → x < 17
+  index-below x few (missing e) = omega arith
+  index-below x few (given i) = omega (arith, i .below)
+
+  apart : (p x : ℕ) → h .variables ≤ 16 → IsPointer T h p → IsIndex T h x → p ≢ x
+  apart p x few i (missing e) q = omega (arith, i .below)
+  apart p x few i (given j) q = false≢true (sym (integer-no-pointer x (j .kind)) ∙ (ap (pointerAt T h) (sym q) ∙ i .kind))
+
+  end-proper : (e : End) → h .variables ≤ 16 → EndTyped T h e → Proper e
+  end-proper e few t =
+      record {
+        pointer = omega (arith, t .pointer .below);
+        integer = index-below (e .integer) few (t .integer);
+        distinct = apart (e .pointer) (e .integer) few (t .pointer) (t .integer);
+        constant = omega (arith, t .constant .high);
+      }
+
+  ends-of : h .variables ≤ 16 → (p : ℕ) → p < 16 → pointerAt T h p ≡ true → (x : Variable) → variableAt T h p ≡ Read x → DeclaredEnds (environmentOf T h) p
+  ends-of few p l k Integer e = absurd (false≢true (sym (integer-no-pointer p (variable-read-typed T h p Integer e)) ∙ k))
+  ends-of few p l k (Pointer low high) e =
+      let t : PointerTyped T h p low high = variable-read-typed T h p (Pointer low high) e in
+      record {
+        low = low;
+        high = high;
+        bounds = declared-at p l ∙ ap (λ (r : VariableRead). boundsOf r) e;
+        low-proper = end-proper low few (t .lower);
+        high-proper = end-proper high few (t .upper);
+        low-small = t .lower .constant;
+        high-small = t .upper .constant;
+      }
+
+pub environment-declares : (T : List ℤ) (h : Sections) → Formed T h → Declares T h (environmentOf T h)
+environment-declares T h f =
+    let few : h .variables ≤ 16 = f .limits .variables in
+    record {
+      few = few;
+      pointer = λ p i. pointer-at T h p (omega (arith, i .below)) ∙ i .kind;
+      integer = λ x i. pointer-at T h x (omega (arith, i .below)) ∙ integer-no-pointer T h x (i .kind);
+      below = λ p e. pointer-limits T h p (pointer-kind T h p e) .1;
+      ends =
+          λ p e.
+          let k = pointer-kind T h p e in
+          let l : p < h .variables = pointer-limits T h p k .1 in
+          let r = f .variables p l in
+          ends-of T h few p (omega arith) k (r .0) (r .1);
+    }

@@ -1,0 +1,11 @@
+pub mod FactRules
+pub mod BoundsRules
+pub mod Rules
+pub mod Verdict
+pub mod Ranges
+pub mod RuleLaws
+pub mod Routines
+pub mod Exactness
+pub mod FactsTrue
+pub mod BoundsTrue
+pub mod EnvironmentLaws

@@ -1,0 +1,77 @@
+// What a table declares, read once.
+use crate::Bounds;
+use crate::Environment;
+use crate::KnownEnd;
+use table::Sections;
+use table::Variable;
+use table::VariableRead;
+ghost use mathlib.Core.Path.{_≡_};
+ghost use Prim.Native.Nat.{ℕ};
+ghost use Rattle.facts.specs.Tabulate.{tabulate};
+ghost use Rattle.table.specs.Sections.{pointerAt};
+ghost use Rattle.table.specs.Variables.{variableAt, objectAt};
+ghost use Rattle.rules.specs.Verdict.{boundsOf, environmentOf};
+
+// The declared bounds of a variable; an integer has none.
+fn bounds_of(read: VariableRead) -> Bounds
+    ensures { λ r. ⌜ r ≡ boundsOf read ⌝ }
+{
+    let unknown = Bounds {
+        lower: KnownEnd::Unknown,
+        upper: KnownEnd::Unknown,
+    };
+    let VariableRead::Read(variable) = read else {
+        return unknown;
+    };
+    match variable {
+        Variable::Integer => unknown,
+        Variable::Pointer { lower, upper } => Bounds {
+            lower: KnownEnd::Known(lower),
+            upper: KnownEnd::Known(upper),
+        },
+    }
+}
+
+fn read_pointers(table: &[i32], sections: Sections) -> [bool; 17]
+    ensures { λ r. ⌜ r ≡ tabulate 17 (pointerAt (now (table .entry)) sections) ⌝ }
+{
+    let mut pointers = [false; 17];
+    for v in 0..17 {
+        pointers[v] = table::is_pointer(table, sections, v);
+    }
+    pointers
+}
+
+fn read_declared(table: &[i32], sections: Sections) -> [Bounds; 16]
+    ensures { λ r. ⌜ r ≡ tabulate 16 (λ v. boundsOf (variableAt (now (table .entry)) sections v)) ⌝ }
+{
+    let unknown = Bounds {
+        lower: KnownEnd::Unknown,
+        upper: KnownEnd::Unknown,
+    };
+    let mut declared = [unknown; 16];
+    for v in 0..16 {
+        declared[v] = bounds_of(table::read_variable(table, sections, v));
+    }
+    declared
+}
+
+fn read_lengths(table: &[i32], sections: Sections) -> [u64; 16]
+    ensures { λ r. ⌜ r ≡ tabulate 16 (objectAt (now (table .entry)) sections) ⌝ }
+{
+    let mut lengths = [0; 16];
+    for o in 0..16 {
+        lengths[o] = table::read_object(table, sections, o);
+    }
+    lengths
+}
+
+pub fn read_environment(table: &[i32], sections: Sections) -> Environment
+    ensures { λ r. ⌜ r ≡ environmentOf (now (table .entry)) sections ⌝ }
+{
+    Environment {
+        pointers: read_pointers(table, sections),
+        declared: read_declared(table, sections),
+        lengths: read_lengths(table, sections),
+    }
+}

@@ -1,0 +1,47 @@
+// The rules: the bounds in force, what a statement does to them and to the facts, and the verdict (specs); and what a table declares.
+mod declarations; // declarations.rt: what a table declares
+
+pub use declarations::read_environment;
+use table::End;
+
+// A constant, a sum or an end is kept as the number that is this much more, so that it may be negative.
+pub const BIAS: u64 = 8589934592;
+
+// The greatest value of a variable.
+pub const MAX_VALUE: u32 = 4294967295;
+
+// The number that stands for zero beside those of variables.
+pub const ZERO: usize = 16;
+
+// An end of the bounds that are known of a pointer.
+pub enum KnownEnd {
+    Known(End),
+    Unknown,
+}
+
+// The bounds that are known of a pointer.
+pub struct Bounds {
+    pub lower: KnownEnd,
+    pub upper: KnownEnd,
+}
+
+// What a table declares, read once: which variables are pointers, the declared bounds (unknown for an integer), the lengths of the objects.
+pub struct Environment {
+    pub pointers: [bool; 17],
+    pub declared: [Bounds; 16],
+    pub lengths: [u64; 16],
+}
+
+// What a statement does to known bounds.
+pub enum Effect {
+    Keep,
+    Forget { target: usize },
+    Shift { target: usize, constant: u64 },
+    Copy { target: usize, source: usize },
+    Object { target: usize, length: u64 },
+}
+
+pub enum Verdict {
+    Accepted,
+    Refused(table::Refusal),
+}
