@@ -12,8 +12,8 @@ use lib.ListN.{length, getD, List·getD-eq-default}
 use Rattle.facts.specs.Numbers.{bias, zeroVar}
 use Rattle.facts.specs.Tabulate.{tabulate, length-tabulate, getD-tabulate}
 use Rattle.facts.specs.Store.{shown}
-use Rattle.facts.specs.Facts.{Variables, Node, Known as Facts, Shown, EndShown}
-use Rattle.facts.specs.History.{known as known-facts}
+use Rattle.chains.specs.Facts.{Variables, Node, Known as Facts, Shown, EndShown}
+use Rattle.chains.specs.History.{known as known-facts}
 use Rattle.facts.specs.declared.FactSet.{FactSet}
 use Rattle.table.specs.FormLaws.{Formed}
 use Rattle.table.specs.StatementLaws.{read-typed}

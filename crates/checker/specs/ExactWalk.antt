@@ -9,9 +9,9 @@ use borrow.Author.Tests.{eqb-true}
 use lib.IntN.{ℤ}
 use lib.Dec.{eqb}
 use Rattle.facts.specs.Store.{contradictory, shown, endShown, newSet}
-use Rattle.facts.specs.Facts.{Variables, Node, Shown, Contradiction, EndShown, empty}
-use Rattle.facts.specs.Exact.{shown-exact, contradiction-exact, end-exact}
-use Rattle.facts.specs.History.{known}
+use Rattle.chains.specs.Facts.{Variables, Node, Shown, Contradiction, EndShown, empty}
+use Rattle.chains.specs.Exact.{shown-exact, contradiction-exact, end-exact}
+use Rattle.chains.specs.History.{known}
 use Rattle.facts.specs.declared.FactSet.{FactSet}
 use Rattle.table.specs.SectionsLaws.{Limits, both}
 use Rattle.table.specs.StatementLaws.{read-typed}

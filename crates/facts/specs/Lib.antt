@@ -2,12 +2,3 @@ pub mod Numbers
 pub mod Tabulate
 pub mod Store
 pub mod StoreLaws
-pub mod Facts
-pub mod Chains
-pub mod Operations
-pub mod Join
-pub mod Exact
-pub mod ExactAfter
-pub mod History
-pub mod Sound
-pub mod Examples

@@ -10,7 +10,6 @@ use native.Mathlib.Omega.{arith}
 use Rattle.facts.specs.Numbers.{bias, maxValue, zeroVar}
 use Rattle.facts.specs.Tabulate.{tabulate, length-tabulate, getD-tabulate}
 use Rattle.facts.specs.Store.{pick, pickBool, pickRow, pickSet, concatenated, negated, noRow, rowAt, inRow, sumAt, rowOf, setOf, leastSum, shown, newSum, newRow, newSet, loweredRow, lowered, marked, added, ownRow, reroutedRow, rerouted, reassigned, dropped, ranged, shifted, related, joinedSum, joinedRow, joined}
-use Rattle.facts.specs.Operations.{anewAt}
 use Rattle.facts.specs.declared.rows.Row.{Row}
 use Rattle.facts.specs.declared.FactSet.{FactSet}
 
@@ -144,6 +143,13 @@ module _ (f : FactSet) (x y up down : ℕ) where
   other-row : (i : ℕ) → i < 17 → i ≢ x → rowAt (reassigned f x y up down) i ≡ reroutedRow (rowAt f i) x (concatenated (sumAt f i y) down)
   unfolding reassigned
   other-row i h n = getD-set-other (tabulate 17 (rerouted f x y down)) x i (ownRow (rowAt f y) x up) noRow n ∙ getD-tabulate 17 (rerouted f x y down) i noRow h
+
+-- One sum after x was put between y - down and y + up: from x to x, from x, to x, or another.
+abbrev pub anewAt : ℕ → ℕ → ℕ → Bool → Bool → ℕ
+anewAt here from to true true = bias
+anewAt here from to true false = from
+anewAt here from to false true = to
+anewAt here from to false false = here
 
 module _ (f : FactSet) (i j : ℕ) (hi : i < 17) (hj : j < 17) where
   pub sum-new : sumAt newSet i j ≡ newSum i j

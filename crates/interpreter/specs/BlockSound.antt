@@ -6,7 +6,7 @@ use mathlib.Core.Bool.{Bool, true, false}
 use mathlib.Core.List.{List, [], _∷_, _++_}
 use lib.IntN.{ℤ}
 use lib.ListN.{length}
-use Rattle.facts.specs.Sound.{InRange, Holds, joined-left-holds, joined-right-holds}
+use Rattle.chains.specs.Sound.{InRange, Holds, joined-left-holds, joined-right-holds}
 use Rattle.facts.specs.declared.FactSet.{FactSet}
 use Rattle.table.specs.Negation.{negatedOf}
 use Rattle.table.specs.Statements.{statementAt}

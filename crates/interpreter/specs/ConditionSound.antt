@@ -8,7 +8,7 @@ use native.Mathlib.Omega.{arith}
 use borrow.Author.Tests.{leb-true, leb-false, ltb-true, ltb-false, eqb-true, eqb-false, le-leb, lt-ltb, not-true, not-false}
 use lib.Dec.{eqb}
 use Rattle.facts.specs.Numbers.{zeroVar}
-use Rattle.facts.specs.Sound.{InRange, Holds, added-holds}
+use Rattle.chains.specs.Sound.{InRange, Holds, added-holds}
 use Rattle.facts.specs.declared.FactSet.{FactSet}
 use Rattle.table.specs.Negation.{negation, negatedOf}
 use Rattle.table.specs.SectionsLaws.{both}

@@ -11,7 +11,7 @@ use lib.IntN.{ℤ}
 use lib.ListN.{length, getD, List·getD-eq-default}
 use Rattle.facts.specs.Numbers.{bias, zeroVar}
 use Rattle.facts.specs.Store.{newSet}
-use Rattle.facts.specs.Sound.{InRange, new-holds}
+use Rattle.chains.specs.Sound.{InRange, new-holds}
 use Rattle.table.specs.SectionsLaws.{both}
 use Rattle.table.specs.declared.Sections.{Sections}
 use Rattle.rules.specs.BoundsRules.{declared}

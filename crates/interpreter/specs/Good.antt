@@ -12,7 +12,7 @@ use lib.ListN.{length, getD, set, length-set}
 use lib.Seq.{getD-set-same, getD-set-other}
 use Rattle.facts.specs.Numbers.{bias, maxValue}
 use Rattle.facts.specs.Store.{newSet}
-use Rattle.facts.specs.Sound.{InRange, Holds, Except}
+use Rattle.chains.specs.Sound.{InRange, Holds, Except}
 use Rattle.facts.specs.declared.FactSet.{FactSet}
 use Rattle.table.specs.declared.Sections.{Sections}
 use Rattle.blocks.specs.Tree.{tree}

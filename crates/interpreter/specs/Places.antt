@@ -5,7 +5,7 @@ use mathlib.Core.Logic.{_⊎_}
 use mathlib.Core.List.{List, [], _∷_}
 use lib.IntN.{ℤ}
 use lib.ListN.{length}
-use Rattle.facts.specs.Sound.{InRange, Holds}
+use Rattle.chains.specs.Sound.{InRange, Holds}
 use Rattle.facts.specs.declared.FactSet.{FactSet}
 use Rattle.table.specs.Negation.{negatedOf}
 use Rattle.table.specs.Statements.{statementAt}

@@ -12,7 +12,7 @@ use lib.ListN.{length, getD, set, length-set}
 use lib.Seq.{getD-set-same, getD-set-other}
 use Rattle.facts.specs.Numbers.{bias, maxValue}
 use Rattle.facts.specs.Store.{dropped, ranged, shifted}
-use Rattle.facts.specs.Sound.{Holds, dropped-holds, ranged-holds, shifted-holds}
+use Rattle.chains.specs.Sound.{Holds, dropped-holds, ranged-holds, shifted-holds}
 use Rattle.facts.specs.declared.FactSet.{FactSet}
 use Rattle.table.specs.Typed.{IsInteger, IsPointer}
 use Rattle.table.specs.declared.Sections.{Sections}

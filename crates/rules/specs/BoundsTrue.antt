@@ -11,7 +11,7 @@ use lib.Dec.{leb, ltb, eqb}
 use Rattle.facts.specs.Numbers.{bias, zeroVar}
 use Rattle.facts.specs.Tabulate.{getD-tabulate}
 use Rattle.facts.specs.Store.{unbounded, shown, endShown}
-use Rattle.facts.specs.Sound.{InRange, Holds, Except, end-true}
+use Rattle.chains.specs.Sound.{InRange, Holds, Except, end-true}
 use Rattle.facts.specs.declared.FactSet.{FactSet}
 use Rattle.table.specs.SectionsLaws.{both}
 use Rattle.table.specs.NameLaws.{either}

@@ -12,10 +12,10 @@ use Rattle.facts.specs.Numbers.{bias, maxValue, zeroVar}
 use Rattle.facts.specs.Tabulate.{getD-tabulate}
 use Rattle.facts.specs.Store.{contradictory, newSet, added, dropped, ranged, shifted, joined}
 use Rattle.facts.specs.StoreLaws.{mark-dropped}
-use Rattle.facts.specs.Facts.{Variables, Comparable, same-kind, from-zero, to-zero, Contradiction}
-use Rattle.facts.specs.Exact.{Exact}
-use Rattle.facts.specs.ExactAfter.{Another, Slight}
-use Rattle.facts.specs.History.{History, new, add, drop, range, shift, join, known, made, Legal, exact, contradicts-exactly}
+use Rattle.chains.specs.Facts.{Variables, Comparable, same-kind, from-zero, to-zero, Contradiction}
+use Rattle.chains.specs.Exact.{Exact}
+use Rattle.chains.specs.ExactAfter.{Another, Slight}
+use Rattle.chains.specs.History.{History, new, add, drop, range, shift, join, known, made, Legal, exact, contradicts-exactly}
 use Rattle.facts.specs.declared.FactSet.{FactSet}
 use Rattle.table.specs.Sections.{kindAt, integerAt, pointerAt}
 use Rattle.table.specs.SectionsLaws.{Limits}

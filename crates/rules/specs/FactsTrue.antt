@@ -10,7 +10,7 @@ use borrow.Author.Tests.{ltb-true, ltb-false, lt-ltb, le-ltb, eqb-true, eqb-fals
 use lib.Dec.{ltb, eqb}
 use Rattle.facts.specs.Numbers.{bias, maxValue, zeroVar}
 use Rattle.facts.specs.Store.{pick, shown, added, dropped}
-use Rattle.facts.specs.Sound.{InRange, True, Holds, Except, added-holds, dropped-holds}
+use Rattle.chains.specs.Sound.{InRange, True, Holds, Except, added-holds, dropped-holds}
 use Rattle.facts.specs.declared.FactSet.{FactSet}
 use Rattle.table.specs.SectionsLaws.{both}
 use Rattle.table.specs.NameLaws.{either}

@@ -3,12 +3,12 @@ use Prim.Native.Nat.{ℕ, _+_, _-_, _≤_, _<_}
 use mathlib.Core.Path.{_≡_}
 use mathlib.Core.Logic.{_↔_}
 use mathlib.Core.Bool.{true}
 use Rattle.facts.specs.Numbers.{bias, maxValue, zeroVar}
 use Rattle.facts.specs.Store.{shown, newSet, added, dropped, ranged, shifted, joined}
-use Rattle.facts.specs.Facts.{Variables, Node, Comparable, Known, Always, Shown, Contradiction, With, Without, Shifted, Both}
-use Rattle.facts.specs.Exact.{Exact, shown-exact, contradiction-exact}
-use Rattle.facts.specs.ExactAfter.{Another, Slight, new-exact, added-exact, ranged-exact, dropped-exact, shifted-exact, joined-exact}
+use Rattle.chains.specs.Facts.{Variables, Node, Comparable, Known, Always, Shown, Contradiction, With, Without, Shifted, Both}
+use Rattle.chains.specs.Exact.{Exact, shown-exact, contradiction-exact}
+use Rattle.chains.specs.ExactAfter.{Another, Slight, new-exact, added-exact, ranged-exact, dropped-exact, shifted-exact, joined-exact}
 use Rattle.facts.specs.declared.FactSet.{FactSet}
 
 pub data History : Type 0 where
   new : History

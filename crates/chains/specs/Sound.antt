@@ -6,11 +6,10 @@ use mathlib.Core.Bool.{Bool, true, false, false≢true}
 use native.Mathlib.Omega.{arith}
 use borrow.Author.Tests.{leb-true, leb-false, le-leb, ltb-true, ltb-false, eqb-true, eqb-false}
 use lib.Dec.{leb, ltb, eqb}
 use Rattle.facts.specs.Numbers.{bias, maxValue, zeroVar}
 use Rattle.facts.specs.Store.{pick, pickBool, unbounded, concatenated, negated, sumAt, leastSum, shown, endShown, newSet, lowered, added, reassigned, dropped, ranged, shifted, related, joinedSum, joined}
-use Rattle.facts.specs.StoreLaws.{least-node, shown-clear, added-left, added-right, added-shown, added-lowered, dropped-variable, ranged-variable, shifted-variable, joined-first, joined-second, joined-both, sum-new, sum-lowered, sum-reassigned, sum-joined}
-use Rattle.facts.specs.Operations.{anewAt}
+use Rattle.facts.specs.StoreLaws.{anewAt, least-node, shown-clear, added-left, added-right, added-shown, added-lowered, dropped-variable, ranged-variable, shifted-variable, joined-first, joined-second, joined-both, sum-new, sum-lowered, sum-reassigned, sum-joined}
 use Rattle.facts.specs.declared.FactSet.{FactSet}
 
 -- Values of the variables, each in its range; zero is 0.
 pub record InRange (v : ℕ → ℕ) : Type 0 where

@@ -6,12 +6,12 @@ use mathlib.Core.Bool.{Bool, true, false}
 use native.Mathlib.Omega.{arith}
 use borrow.Author.Tests.{leb-true, le-leb}
 use lib.Dec.{leb}
 use Rattle.facts.specs.Numbers.{bias, maxValue, zeroVar}
 use Rattle.facts.specs.Store.{pickBool, concatenated, sumAt, leastSum, shown, endShown}
 use Rattle.facts.specs.StoreLaws.{concat-plain, least-node}
-use Rattle.facts.specs.Facts.{Variables, Node, Known, lower, upper, ChainWithin, Shown, Contradiction, EndShown, LeastSums}
-use Rattle.facts.specs.Chains.{weaken, one, zero-node, Sane, sinks, shows-every, at-most, closed, no-contradiction}
+use Rattle.chains.specs.Facts.{Variables, Node, Known, lower, upper, ChainWithin, Shown, Contradiction, EndShown, LeastSums}
+use Rattle.chains.specs.Chains.{weaken, one, zero-node, Sane, sinks, shows-every, at-most, closed, no-contradiction}
 use Rattle.facts.specs.declared.FactSet.{FactSet}
 
 -- THE PROMISE. The known facts relate comparable pairs and have what is always known among them; a set without the mark has the least sums of their
 -- chains, and one with the mark has facts that contradict.

@@ -6,11 +6,11 @@ use mathlib.Core.Bool.{Bool, true, false}
 use native.Mathlib.Omega.{arith}
 use borrow.Author.Tests.{ne-eqb}
 use lib.Dec.{eqb}
 use Rattle.facts.specs.Numbers.{bias, zeroVar}
 use Rattle.facts.specs.Store.{pickBool, same, related}
-use Rattle.facts.specs.Facts.{Variables, Node, Comparable, same-kind, from-zero, to-zero, Known, Shown, Both, both, LeastSums}
-use Rattle.facts.specs.Chains.{weaken, one, Pair, comparable, zeros, mixed, pair, same-or-not, zero-node, left-node, right-node, Closed, at-most, closed}
-use Rattle.facts.specs.Operations.{both-comparable, least-of-facts}
+use Rattle.chains.specs.Facts.{Variables, Node, Comparable, same-kind, from-zero, to-zero, Known, Shown, Both, both, LeastSums}
+use Rattle.chains.specs.Chains.{weaken, one, Pair, comparable, zeros, mixed, pair, same-or-not, zero-node, left-node, right-node, Closed, at-most, closed}
+use Rattle.chains.specs.Operations.{both-comparable, least-of-facts}
 
 -- The greater of the two sums; between a pointer and an integer the greater sums to and from zero.
 abbrev pub joinAt : Bool → ℕ → ℕ → ℕ → ℕ

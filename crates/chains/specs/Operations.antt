@@ -7,10 +7,11 @@ use native.Mathlib.Omega.{arith}
 use native.Mathlib.Decide.{ℕ-discrete}
 use borrow.Author.Tests.{leb-true, leb-false, eqb-true, eqb-false, eq-eqb, ne-eqb}
 use lib.Dec.{leb, eqb}
 use Rattle.facts.specs.Numbers.{bias, maxValue, zeroVar}
 use Rattle.facts.specs.Store.{pick, newSum}
-use Rattle.facts.specs.Facts.{Variables, Node, Comparable, from-zero, to-zero, Known, Always, lower, upper, ChainWithin, Shown, Contradiction, With, before, fact, Without, kept, always, Both, both, Moved, moved, LeastSums}
-use Rattle.facts.specs.Chains.{append, weaken, one, none, more-shown, contradiction-of, Pair, comparable, zeros, mixed, pair, zero-node, left-node, right-node, always-comparable, Closed, lowest-of, at-most, closed, through-zero}
+use Rattle.facts.specs.StoreLaws.{anewAt}
+use Rattle.chains.specs.Facts.{Variables, Node, Comparable, from-zero, to-zero, Known, Always, lower, upper, ChainWithin, Shown, Contradiction, With, before, fact, Without, kept, always, Both, both, Moved, moved, LeastSums}
+use Rattle.chains.specs.Chains.{append, weaken, one, none, more-shown, contradiction-of, Pair, comparable, zeros, mixed, pair, zero-node, left-node, right-node, always-comparable, Closed, lowest-of, at-most, closed, through-zero}
 
 -- ---- each operation keeps to comparable pairs
 
@@ -92,12 +93,6 @@ module _ (vars : Variables) where
 -- ---- a variable anew: drop, a range
 
 -- The sums after x was put between y - down and y + up.
-abbrev pub anewAt : ℕ → ℕ → ℕ → Bool → Bool → ℕ
-anewAt here from to true true = bias
-anewAt here from to true false = from
-anewAt here from to false true = to
-anewAt here from to false false = here
-
 abbrev pub anewSums : (ℕ → ℕ → ℕ) → ℕ → ℕ → ℕ → ℕ → ℕ → ℕ → ℕ
 anewSums D x y up down i j = anewAt (D i j) (up + D y j - bias) (D i y + down - bias) (eqb i x) (eqb j x)
 

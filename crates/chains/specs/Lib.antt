@@ -1,0 +1,9 @@
+pub mod Facts
+pub mod Chains
+pub mod Operations
+pub mod Join
+pub mod Exact
+pub mod ExactAfter
+pub mod History
+pub mod Sound
+pub mod Examples
