@@ -5,10 +5,10 @@ use mathlib.Core.Logic.{⊎-elim}
 use native.Mathlib.Omega.{arith}
 use types.Run.{OneOf}
 use denote.Enum.Declared.{tagOf}
-use Rattle.table.proofs.Statement as statement-enum
-use Rattle.table.specs.declared.Simple.{Simple}
-use Rattle.table.specs.declared.Statement.{Statement}
-use Rattle.table.specs.declared.Statement.the-variants.{Plain}
+use Rattle.statements.proofs.Statement as statement-enum
+use Rattle.statements.specs.declared.Simple.{Simple}
+use Rattle.statements.specs.declared.Statement.{Statement}
+use Rattle.statements.specs.declared.Statement.the-variants.{Plain}
 
 pub not-plain : (s : Statement) → OneOf (1 ∷ 2 ∷ 3 ∷ []) (tagOf statement-enum.the-type s) → (p : Simple) → s ≡ Plain p → ⊥
 not-plain s k p e =

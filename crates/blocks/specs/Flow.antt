@@ -6,7 +6,7 @@ use mathlib.Core.Path.{_≡_}
 use lib.IntN.{ℤ}
 use lib.ListN.{length, set}
 use lib.Dec.{leb}
-use Rattle.table.specs.declared.Sections.{Sections}
+use Rattle.sections.specs.declared.Sections.{Sections}
 use Rattle.blocks.specs.Tree.{Block, nil, plain, branch, loop, bundle, unread, tree}
 
 -- The two successors of a statement: `next`, and `other` where the condition of an if or a while fails.

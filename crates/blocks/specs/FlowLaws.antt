@@ -9,15 +9,15 @@ use borrow.Author.Tests.{ltb-true, ltb-false, lt-leb, le-leb}
 use lib.IntN.{ℤ}
 use lib.ListN.{length, length-set}
 use lib.Dec.{ltb}
-use Rattle.table.specs.declared.Sections.{Sections}
-use Rattle.table.specs.declared.Condition.{Condition}
-use Rattle.table.specs.declared.Simple.{Simple}
-use Rattle.table.specs.declared.Statement.{Statement}
-use Rattle.table.specs.declared.Statement.the-variants.{Plain, If, While, Bundle}
-use Rattle.table.specs.declared.StatementRead.{StatementRead}
-use Rattle.table.specs.declared.StatementRead.the-variants.{Read, Unread}
-use Rattle.table.specs.Statements.{statementAt}
-use Rattle.table.specs.StatementLaws.{read-within}
+use Rattle.sections.specs.declared.Sections.{Sections}
+use Rattle.conditions.specs.declared.Condition.{Condition}
+use Rattle.statements.specs.declared.Simple.{Simple}
+use Rattle.statements.specs.declared.Statement.{Statement}
+use Rattle.statements.specs.declared.Statement.the-variants.{Plain, If, While, Bundle}
+use Rattle.statements.specs.declared.StatementRead.{StatementRead}
+use Rattle.statements.specs.declared.StatementRead.the-variants.{Read, Unread}
+use Rattle.statements.specs.Statements.{statementAt}
+use Rattle.statements.specs.StatementLaws.{read-within}
 use Rattle.blocks.specs.Tree.{Block, plain, branch, loop, bundle, simples, simplesFrom, node, parse, tree}
 use Rattle.blocks.specs.TreeLaws.{parse-none, parse-end, parse-some}
 use Rattle.blocks.specs.Flow.{Successors, successors, entry, Begins, lead, line, flow, tableFlow, put, written, Written}

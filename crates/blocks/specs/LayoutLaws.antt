@@ -9,16 +9,16 @@ use native.Mathlib.Nat.{pos-of-ne-zero}
 use borrow.Author.Tests.{lt-ltb, le-ltb, ne-eqb, eqb-false, ltb-false}
 use lib.IntN.{ℤ}
 use lib.Dec.{ltb, eqb}
-use Rattle.table.specs.declared.Sections.{Sections}
-use Rattle.table.specs.declared.Condition.{Condition}
-use Rattle.table.specs.declared.Simple.{Simple}
-use Rattle.table.specs.declared.Statement.{Statement}
-use Rattle.table.specs.declared.Statement.the-variants.{Plain, If, While, Bundle}
-use Rattle.table.specs.declared.StatementRead.{StatementRead}
-use Rattle.table.specs.declared.StatementRead.the-variants.{Read, Unread}
-use Rattle.table.specs.declared.Refusal.{Refusal}
-use Rattle.table.specs.declared.Refusal.the-variants.{StatementRecord, BlockLayout}
-use Rattle.table.specs.Statements.{statementAt}
+use Rattle.refusals.specs.declared.Refusal.{Refusal}
+use Rattle.refusals.specs.declared.Refusal.the-variants.{StatementRecord, BlockLayout}
+use Rattle.sections.specs.declared.Sections.{Sections}
+use Rattle.conditions.specs.declared.Condition.{Condition}
+use Rattle.statements.specs.declared.Simple.{Simple}
+use Rattle.statements.specs.declared.Statement.{Statement}
+use Rattle.statements.specs.declared.Statement.the-variants.{Plain, If, While, Bundle}
+use Rattle.statements.specs.declared.StatementRead.{StatementRead}
+use Rattle.statements.specs.declared.StatementRead.the-variants.{Read, Unread}
+use Rattle.statements.specs.Statements.{statementAt}
 use Rattle.blocks.specs.declared.Layout.{Layout}
 use Rattle.blocks.specs.declared.Layout.the-variants.{LaidOut, Refused}
 use Rattle.blocks.specs.Layout.{maxDepth, maxBundle, also, when, contents, contentsFrom, bundleLayout, kindLayout, nodeLayout, blockLayout, verdict}

@@ -6,8 +6,8 @@ use native.Mathlib.Omega.{arith}
 use lib.IntN.{ℤ}
 use lib.ListN.{length, getD, set, length-append, length-set}
 use lib.Seq.{getD-set-same, getD-set-other}
-use Rattle.table.specs.declared.Sections.{Sections}
-use Rattle.table.specs.declared.Simple.{Simple}
+use Rattle.sections.specs.declared.Sections.{Sections}
+use Rattle.statements.specs.declared.Simple.{Simple}
 use Rattle.blocks.specs.Tree.{Block, nil, plain, branch, loop, bundle, unread, tree}
 use Rattle.blocks.specs.Layout.{layout}
 use Rattle.blocks.specs.Flow.{Successors, successors, entry, lead, line, flow, tableFlow, tableEntry, put, written}

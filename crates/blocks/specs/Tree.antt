@@ -4,14 +4,14 @@ use mathlib.Core.Bool.{Bool, true, false}
 use mathlib.Core.List.{List, [], _∷_, _++_}
 use lib.IntN.{ℤ}
 use lib.Dec.{ltb}
-use Rattle.table.specs.declared.Sections.{Sections}
-use Rattle.table.specs.declared.Condition.{Condition}
-use Rattle.table.specs.declared.Simple.{Simple}
-use Rattle.table.specs.declared.Simple.the-variants.{Literal, AddConstant, Arithmetic, Null, Address, PointerOffset, PointerIndex, Load, Store, Check}
-use Rattle.table.specs.declared.Statement.the-variants.{Plain, If, While, Bundle}
-use Rattle.table.specs.declared.StatementRead.{StatementRead}
-use Rattle.table.specs.declared.StatementRead.the-variants.{Read, Unread}
-use Rattle.table.specs.Statements.{statementAt}
+use Rattle.sections.specs.declared.Sections.{Sections}
+use Rattle.conditions.specs.declared.Condition.{Condition}
+use Rattle.statements.specs.declared.Simple.{Simple}
+use Rattle.statements.specs.declared.Simple.the-variants.{Literal, AddConstant, Arithmetic, Null, Address, PointerOffset, PointerIndex, Load, Store, Check}
+use Rattle.statements.specs.declared.Statement.the-variants.{Plain, If, While, Bundle}
+use Rattle.statements.specs.declared.StatementRead.{StatementRead}
+use Rattle.statements.specs.declared.StatementRead.the-variants.{Read, Unread}
+use Rattle.statements.specs.Statements.{statementAt}
 
 -- A block is its first statement, with that statement's own number and blocks, and the rest of the block.
 -- A loop also holds the count of its body. A record that does not read ends the tree.

@@ -7,9 +7,9 @@ use native.Mathlib.Omega.{arith}
 use native.Mathlib.Numerals.{sub-one}
 use borrow.Author.Tests.{lt-ltb, le-ltb}
 use lib.IntN.{ℤ}
-use Rattle.table.specs.declared.Sections.{Sections}
-use Rattle.table.specs.declared.StatementRead.{StatementRead}
-use Rattle.table.specs.Statements.{statementAt}
+use Rattle.sections.specs.declared.Sections.{Sections}
+use Rattle.statements.specs.declared.StatementRead.{StatementRead}
+use Rattle.statements.specs.Statements.{statementAt}
 use Rattle.blocks.specs.Tree.{nil, node, parse}
 
 pub parse-none : (l : ℕ) (T : List ℤ) (h : Sections) (a b : ℕ) → l ≤ 0 → parse l T h a b ≡ nil

@@ -1,9 +1,9 @@
 // The blocks of a routine table: their layout (cause 6) and what is due after each statement.
-use table::Refusal;
-use table::Sections;
-use table::Statement;
-use table::StatementRead;
-use table::read_statement;
+use refusals::Refusal;
+use sections::Sections;
+use statements::Statement;
+use statements::StatementRead;
+use statements::read_statement;
 ghost use mathlib.Core.Path.{_≡_};
 ghost use Prim.Native.Nat.{_+_, _*_, _<_, _≤_};
 ghost use lib.ListN.{length};

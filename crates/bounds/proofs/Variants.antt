@@ -7,12 +7,12 @@ use native.Mathlib.Omega.{arith}
 use types.Run.{OneOf}
 use denote.Enum.Declared.{tagOf}
 use Rattle.facts.specs.declared.FactSet.{FactSet}
-use Rattle.table.proofs.Statement as statement-enum
-use Rattle.table.proofs.Simple as simple-enum
-use Rattle.table.specs.declared.Simple.{Simple}
-use Rattle.table.specs.declared.Simple.the-variants.{Literal, AddConstant, Arithmetic, Null, Address, PointerOffset, PointerIndex, Load, Store, Check}
-use Rattle.table.specs.declared.Statement.{Statement}
-use Rattle.table.specs.declared.Statement.the-variants.{Plain}
+use Rattle.statements.proofs.Statement as statement-enum
+use Rattle.statements.proofs.Simple as simple-enum
+use Rattle.statements.specs.declared.Simple.{Simple}
+use Rattle.statements.specs.declared.Simple.the-variants.{Literal, AddConstant, Arithmetic, Null, Address, PointerOffset, PointerIndex, Load, Store, Check}
+use Rattle.statements.specs.declared.Statement.{Statement}
+use Rattle.statements.specs.declared.Statement.the-variants.{Plain}
 use Rattle.rules.specs.BoundsRules.{accessShown}
 use Rattle.rules.specs.declared.Bounds.{Bounds}
 use Rattle.rules.specs.declared.Environment.{Environment}

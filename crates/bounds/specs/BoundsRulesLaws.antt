@@ -12,11 +12,11 @@ use Rattle.facts.specs.Numbers.{bias, zeroVar}
 use Rattle.facts.specs.Tabulate.{getD-tabulate}
 use Rattle.facts.specs.Store.{shown, endShown}
 use Rattle.facts.specs.declared.FactSet.{FactSet}
-use Rattle.table.specs.declared.End.{End}
-use Rattle.table.specs.declared.Refusal.the-variants.{BoundsNotShown}
-use Rattle.table.specs.declared.Simple.{Simple}
-use Rattle.table.specs.declared.Simple.the-variants.{Literal, AddConstant, Arithmetic, Null, Address, PointerOffset, PointerIndex, Load, Store, Check}
-use Rattle.table.specs.SectionsLaws.{both}
+use Rattle.refusals.specs.declared.Refusal.the-variants.{BoundsNotShown}
+use Rattle.sections.specs.SectionsLaws.{both}
+use Rattle.statements.specs.declared.Simple.{Simple}
+use Rattle.statements.specs.declared.Simple.the-variants.{Literal, AddConstant, Arithmetic, Null, Address, PointerOffset, PointerIndex, Load, Store, Check}
+use Rattle.variables.specs.declared.End.{End}
 use Rattle.rules.specs.BoundsRules.{pickEnd, pickBounds, pickEffect, isPointer, declared, known, names, nothingKnown, forgetEnd, shiftConstant, shiftEnd, forgetBounds, shiftBounds, objectBounds, effectOn, boundsAfter, effect, sameEnd, endAtMost, knownAtMost, boundsShown, consIf, unshownFrom, unshown, accessShown}
 use Rattle.rules.specs.FactRules.{sumInRange}
 use Rattle.rules.specs.Rules.{boundsAt}

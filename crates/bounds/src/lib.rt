@@ -1,4 +1,6 @@
 // The bounds in force: what an effect makes of known bounds, and which declared bounds are shown.
+use facts::FactSet;
+use refusals::Refusal;
 use rules::BIAS;
 use rules::Bounds;
 use rules::Effect;
@@ -6,10 +8,8 @@ use rules::Environment;
 use rules::KnownEnd;
 use rules::Verdict;
 use rules::ZERO;
-use facts::FactSet;
-use table::End;
-use table::Refusal;
-use table::Simple;
+use statements::Simple;
+use variables::End;
 ghost use mathlib.Core.Path.{_≡_};
 ghost use mathlib.Core.Bool.{Bool, true, not, _&&_};
 ghost use Prim.Native.Nat.{ℕ, _^_, _<_};
@@ -273,12 +273,7 @@ fn stays_shown(effect: Effect, p: usize, declared: Bounds) -> bool
 }
 
 // The first pointer whose declared bounds are not shown after the effect, where the declared bounds were the known ones.
-pub fn check_effect(
-    environment: Environment,
-    facts: FactSet,
-    effect: Effect,
-    at: usize,
-) -> Verdict
+pub fn check_effect(environment: Environment, facts: FactSet, effect: Effect, at: usize) -> Verdict
     requires { ⌜ Short effect ⌝ }
     ensures { λ r. ⌜ r ≡ lowestVerdict (boundsAt at (unshown environment facts (boundsAfter effect (environment .declared)))) ⌝ }
 {

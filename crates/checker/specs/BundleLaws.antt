@@ -8,15 +8,15 @@ use native.Mathlib.Numerals.{sub-one}
 use lib.IntN.{ℤ}
 use Rattle.facts.specs.Store.{contradictory}
 use Rattle.facts.specs.declared.FactSet.{FactSet}
-use Rattle.table.specs.declared.Sections.{Sections}
-use Rattle.table.specs.declared.Simple.{Simple}
-use Rattle.table.specs.declared.Statement.{Statement}
-use Rattle.table.specs.declared.Statement.the-variants.{Plain, If, While, Bundle}
-use Rattle.table.specs.declared.StatementRead.{StatementRead}
-use Rattle.table.specs.declared.StatementRead.the-variants.{Read, Unread}
-use Rattle.table.specs.declared.Refusal.{Refusal}
-use Rattle.table.specs.declared.Refusal.the-variants.{Contradiction, BundleAccess}
-use Rattle.table.specs.Statements.{statementAt}
+use Rattle.refusals.specs.declared.Refusal.{Refusal}
+use Rattle.refusals.specs.declared.Refusal.the-variants.{Contradiction, BundleAccess}
+use Rattle.sections.specs.declared.Sections.{Sections}
+use Rattle.statements.specs.declared.Simple.{Simple}
+use Rattle.statements.specs.declared.Statement.{Statement}
+use Rattle.statements.specs.declared.Statement.the-variants.{Plain, If, While, Bundle}
+use Rattle.statements.specs.declared.StatementRead.{StatementRead}
+use Rattle.statements.specs.declared.StatementRead.the-variants.{Read, Unread}
+use Rattle.statements.specs.Statements.{statementAt}
 use Rattle.blocks.specs.Tree.{simples, simplesFrom}
 use Rattle.rules.specs.FactRules.{factsAfter}
 use Rattle.rules.specs.BoundsRules.{effect, boundsAfter, unshown, accessShown}

@@ -15,19 +15,21 @@ use Rattle.facts.specs.Store.{shown}
 use Rattle.chains.specs.Facts.{Variables, Node, Known as Facts, Shown, EndShown}
 use Rattle.chains.specs.History.{known as known-facts}
 use Rattle.facts.specs.declared.FactSet.{FactSet}
+use Rattle.sections.specs.Typed.{IsIndex, missing, given, IsSmall}
+use Rattle.sections.specs.declared.Sections.{Sections}
+use Rattle.statements.specs.StatementLaws.{read-typed}
+use Rattle.statements.specs.Typed.{SimpleTyped}
+use Rattle.statements.specs.declared.Simple.{Simple}
+use Rattle.statements.specs.declared.Simple.the-variants.{Literal, AddConstant, Arithmetic, Null, Address, PointerOffset, PointerIndex, Load, Store, Check}
+use Rattle.statements.specs.declared.Statement.the-variants.{Plain}
+use Rattle.variables.specs.Variables.{variableAt, objectAt}
+use Rattle.variables.specs.VariableLaws.{variable-read-typed}
+use Rattle.variables.specs.Typed.{EndTyped}
+use Rattle.variables.specs.declared.End.{End}
+use Rattle.variables.specs.declared.Variable.the-variants.{Integer, Pointer}
+use Rattle.variables.specs.declared.VariableRead.{VariableRead}
+use Rattle.variables.specs.declared.VariableRead.the-variants.{Read, Unread}
 use Rattle.table.specs.FormLaws.{Formed}
-use Rattle.table.specs.StatementLaws.{read-typed}
-use Rattle.table.specs.Variables.{variableAt, objectAt}
-use Rattle.table.specs.VariableLaws.{variable-read-typed}
-use Rattle.table.specs.Typed.{IsIndex, missing, given, IsSmall, EndTyped, SimpleTyped}
-use Rattle.table.specs.declared.Sections.{Sections}
-use Rattle.table.specs.declared.End.{End}
-use Rattle.table.specs.declared.Simple.{Simple}
-use Rattle.table.specs.declared.Simple.the-variants.{Literal, AddConstant, Arithmetic, Null, Address, PointerOffset, PointerIndex, Load, Store, Check}
-use Rattle.table.specs.declared.Statement.the-variants.{Plain}
-use Rattle.table.specs.declared.Variable.the-variants.{Integer, Pointer}
-use Rattle.table.specs.declared.VariableRead.{VariableRead}
-use Rattle.table.specs.declared.VariableRead.the-variants.{Read, Unread}
 use Rattle.blocks.specs.Shape.{ReadsLine}
 use Rattle.rules.specs.FactRules.{sumInRange, factsAfter}
 use Rattle.rules.specs.BoundsRules.{pickEnd, pickBounds, pickEffect, nothingKnown, declared, known, names, objectLength, forgetEnd, shiftConstant, shiftEnd, forgetBounds, shiftBounds, objectBounds, effectOn, boundsAfter, effect, knownAtMost, boundsShown}

@@ -13,15 +13,15 @@ use Rattle.chains.specs.Facts.{Variables, Node, Shown, Contradiction, EndShown,
 use Rattle.chains.specs.Exact.{shown-exact, contradiction-exact, end-exact}
 use Rattle.chains.specs.History.{known}
 use Rattle.facts.specs.declared.FactSet.{FactSet}
-use Rattle.table.specs.SectionsLaws.{Limits, both}
-use Rattle.table.specs.StatementLaws.{read-typed}
-use Rattle.table.specs.Negation.{negatedOf}
+use Rattle.sections.specs.SectionsLaws.{Limits, both}
+use Rattle.sections.specs.declared.Sections.{Sections}
+use Rattle.conditions.specs.Negation.{negatedOf}
+use Rattle.statements.specs.StatementLaws.{read-typed}
+use Rattle.statements.specs.declared.Simple.{Simple}
+use Rattle.statements.specs.declared.Statement.the-variants.{Plain, If, While}
+use Rattle.variables.specs.declared.End.{End}
 use Rattle.table.specs.Form.{formOf}
 use Rattle.table.specs.FormLaws.{well-formed}
-use Rattle.table.specs.declared.Sections.{Sections}
-use Rattle.table.specs.declared.End.{End}
-use Rattle.table.specs.declared.Simple.{Simple}
-use Rattle.table.specs.declared.Statement.the-variants.{Plain, If, While}
 use Rattle.table.specs.declared.Form.the-variants as form
 use Rattle.blocks.specs.Layout.{layout}
 use Rattle.blocks.specs.Shape.{size, ReadsLine, Reads, targetsFrom}

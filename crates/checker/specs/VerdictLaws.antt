@@ -11,15 +11,16 @@ use lib.ListN.{length, getD, List·getD-eq-default}
 use Rattle.facts.specs.Tabulate.{tabulate, length-tabulate, getD-tabulate}
 use Rattle.facts.specs.Store.{newSet}
 use Rattle.facts.specs.declared.FactSet.{FactSet}
-use Rattle.table.specs.Words.{word, plain, pickNumber}
-use Rattle.table.specs.Sections.{inLimits, objectStart}
-use Rattle.table.specs.SectionsLaws.{object-limits}
-use Rattle.table.specs.Variables.{objectAt}
+use Rattle.refusals.specs.declared.Refusal.{Refusal}
+use Rattle.refusals.specs.declared.Refusal.the-variants.{BoundsNotShown}
+use Rattle.words.specs.Words.{word}
+use Rattle.fields.specs.Fields.{plain, pickNumber}
+use Rattle.sections.specs.Sections.{inLimits, objectStart}
+use Rattle.sections.specs.SectionsLaws.{object-limits}
+use Rattle.sections.specs.declared.Sections.{Sections}
+use Rattle.variables.specs.Variables.{objectAt}
 use Rattle.table.specs.Form.{formOf}
 use Rattle.table.specs.FormLaws.{Formed, well-formed}
-use Rattle.table.specs.declared.Sections.{Sections}
-use Rattle.table.specs.declared.Refusal.{Refusal}
-use Rattle.table.specs.declared.Refusal.the-variants.{BoundsNotShown}
 use Rattle.table.specs.declared.Form.{Form}
 use Rattle.table.specs.declared.Form.the-variants as form
 use Rattle.blocks.specs.Tree.{parse, tree}

@@ -4,8 +4,8 @@ use mathlib.Core.Path.{_≡_}
 use mathlib.Core.List.{List, []}
 use lib.IntN.{ℤ}
 use Rattle.facts.specs.declared.FactSet.{FactSet}
-use Rattle.table.specs.declared.Sections.{Sections}
-use Rattle.table.specs.declared.Simple.{Simple}
+use Rattle.sections.specs.declared.Sections.{Sections}
+use Rattle.statements.specs.declared.Simple.{Simple}
 use Rattle.blocks.specs.Tree.{Block}
 use Rattle.rules.specs.BoundsRules.{unshown}
 use Rattle.rules.specs.Rules.{Fault, also, boundsAt, bundleFacts, bundleBounds, bundleFaults, blockFacts, blockFaults}

@@ -14,18 +14,19 @@ use lib.Seq.{getD-set-same, getD-set-other}
 use Rattle.facts.specs.Numbers.{bias, maxValue, zeroVar}
 use Rattle.facts.specs.Store.{shown, added, dropped, shifted}
 use Rattle.facts.specs.declared.FactSet.{FactSet}
-use Rattle.table.specs.declared.Sections.{Sections}
-use Rattle.table.specs.declared.Condition.{Condition}
-use Rattle.table.specs.declared.Simple.{Simple}
-use Rattle.table.specs.declared.Simple.the-variants.{Literal, AddConstant, Arithmetic, Null, Address, PointerOffset, PointerIndex, Load, Store, Check}
-use Rattle.table.specs.declared.Statement.{Statement}
-use Rattle.table.specs.declared.Statement.the-variants.{Plain, If, While, Bundle}
-use Rattle.table.specs.declared.StatementRead.{StatementRead}
-use Rattle.table.specs.declared.StatementRead.the-variants.{Read}
-use Rattle.table.specs.Statements.{statementAt}
-use Rattle.table.specs.Typed.{SimpleTyped, ConditionTyped, Sides, integers, pointers, literal, null}
-use Rattle.table.specs.StatementLaws.{read-typed, read-limits}
-use Rattle.table.specs.SectionsLaws.{Limits}
+use Rattle.sections.specs.declared.Sections.{Sections}
+use Rattle.sections.specs.SectionsLaws.{Limits}
+use Rattle.conditions.specs.declared.Condition.{Condition}
+use Rattle.conditions.specs.Typed.{ConditionTyped, Sides, integers, pointers, literal, null}
+use Rattle.statements.specs.declared.Simple.{Simple}
+use Rattle.statements.specs.declared.Simple.the-variants.{Literal, AddConstant, Arithmetic, Null, Address, PointerOffset, PointerIndex, Load, Store, Check}
+use Rattle.statements.specs.declared.Statement.{Statement}
+use Rattle.statements.specs.declared.Statement.the-variants.{Plain, If, While, Bundle}
+use Rattle.statements.specs.declared.StatementRead.{StatementRead}
+use Rattle.statements.specs.declared.StatementRead.the-variants.{Read}
+use Rattle.statements.specs.Statements.{statementAt}
+use Rattle.statements.specs.Typed.{SimpleTyped}
+use Rattle.statements.specs.StatementLaws.{read-typed, read-limits}
 use Rattle.blocks.specs.Tree.{target}
 use Rattle.blocks.specs.Shape.{targetOf, targetsFrom}
 use Rattle.rules.specs.FactRules.{pickFacts, equated, positive, differs, relationFacts, conditionFacts, sumInRange, sumFacts, offsetFacts, factsAfter, among, droppedEach, loopFacts}

@@ -1,20 +1,20 @@
 // What a condition and a statement of kinds 1 to 10 do to the facts, and what the statement does to known bounds.
 mod loops; // loops.rt: the variables that a loop's body assigns
 
+use conditions::Condition;
+use facts::FactSet;
 pub use loops::lose;
 use rules::BIAS;
 use rules::Effect;
 use rules::MAX_VALUE;
 use rules::ZERO;
-use facts::FactSet;
-use table::Condition;
-use table::Simple;
+use statements::Simple;
 ghost use mathlib.Core.Path.{_≡_};
 ghost use mathlib.Core.List.{[]};
 ghost use Prim.Native.Nat.{ℕ, _^_, _<_};
 ghost use lib.ListN.{getD};
 ghost use lib.Dec.{eqb};
-ghost use Rattle.table.specs.declared.Simple.the-variants.{AddConstant, PointerOffset};
+ghost use Rattle.statements.specs.declared.Simple.the-variants.{AddConstant, PointerOffset};
 ghost use Rattle.rules.specs.FactRules.{conditionFacts, sumInRange};
 ghost use Rattle.rules.specs.BoundsRules.{pickEffect};
 ghost use Rattle.rules.specs.Ranges.{InRange};

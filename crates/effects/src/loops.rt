@@ -1,10 +1,10 @@
 // The variables that a loop's body assigns are dropped before the loop.
 use facts::FactSet;
-use table::Sections;
-use table::Simple;
-use table::Statement;
-use table::StatementRead;
-use table::read_statement;
+use sections::Sections;
+use statements::Simple;
+use statements::Statement;
+use statements::StatementRead;
+use statements::read_statement;
 ghost use mathlib.Core.Path.{_≡_};
 ghost use mathlib.Core.Bool.{false};
 ghost use Prim.Native.Nat.{ℕ, _+_, _^_, _<_};

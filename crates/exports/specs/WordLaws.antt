@@ -6,8 +6,8 @@ use mathlib.Core.List.{List}
 use borrow.Author.Tests.{le-leb, lt-leb}
 use lib.IntN.{ℤ}
 use lib.ListN.{length}
-use Rattle.table.specs.Refusals.{number, place, pointer}
-use Rattle.table.specs.declared.Refusal.{Refusal}
+use Rattle.refusals.specs.Refusals.{number, place, pointer}
+use Rattle.refusals.specs.declared.Refusal.{Refusal}
 use Rattle.rules.specs.Verdict.{faults, Answers}
 use Rattle.rules.specs.declared.Verdict.{Verdict}
 use Rattle.rules.specs.declared.Verdict.the-variants as verdict

@@ -1,7 +1,7 @@
 // What C and Rust link: the check and the run on lent slices, with the answer as words in a lent slice (include/mizzengrape.h).
-use rules::Verdict;
 use interpreter::Check;
 use interpreter::Outcome;
+use rules::Verdict;
 ghost use mathlib.Core.Path.{_≡_};
 ghost use Prim.Native.Nat.{ℕ, _≤_};
 ghost use lib.ListN.{length};
@@ -43,9 +43,9 @@ fn put_verdict(answer: &mut [u32], verdict: Verdict)
             put_three(answer, 0, 0, 0);
         }
         Verdict::Refused(r) => {
-            let number = table::refusal_number(r);
-            let place = word_of(table::refusal_place(r));
-            let pointer = word_of(table::refusal_pointer(r));
+            let number = refusals::refusal_number(r);
+            let place = word_of(refusals::refusal_place(r));
+            let pointer = word_of(refusals::refusal_pointer(r));
             put_three(answer, number, place, pointer);
         }
     }
@@ -93,9 +93,9 @@ fn put_outcome(answer: &mut [u32], outcome: Outcome)
             put_four(answer, 2, steps, place, number);
         }
         Outcome::Refused(r) => {
-            let number = table::refusal_number(r);
-            let place = word_of(table::refusal_place(r));
-            let pointer = word_of(table::refusal_pointer(r));
+            let number = refusals::refusal_number(r);
+            let place = word_of(refusals::refusal_place(r));
+            let pointer = word_of(refusals::refusal_pointer(r));
             put_four(answer, 3, number, place, pointer);
         }
     }

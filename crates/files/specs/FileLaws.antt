@@ -9,10 +9,10 @@ use lib.Dec.{leb}
 use lib.IntN.{ℤ}
 use lib.ListN.{length, take}
 use Rattle.facts.specs.Tabulate.{tabulate, length-tabulate, Filled}
+use Rattle.refusals.specs.Refusals.{number, place, pointer}
+use Rattle.refusals.specs.declared.Refusal.{Refusal}
+use Rattle.refusals.specs.declared.Refusal.the-variants.{Length}
 use Rattle.table.specs.Form.{lengthRight, formOf}
-use Rattle.table.specs.Refusals.{number, place, pointer}
-use Rattle.table.specs.declared.Refusal.{Refusal}
-use Rattle.table.specs.declared.Refusal.the-variants.{Length}
 use Rattle.rules.specs.Rules.{refusal}
 use Rattle.rules.specs.Verdict.{faults, Answers}
 use Rattle.rules.specs.declared.Verdict.{Verdict}

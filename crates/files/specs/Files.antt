@@ -6,9 +6,9 @@ use lib.Dec.{eqb}
 use lib.IntN.{ℤ}
 use lib.ListN.{length}
 use Rattle.facts.specs.Tabulate.{tabulate}
-use Rattle.table.specs.Refusals.{number, place, pointer}
-use Rattle.table.specs.declared.Refusal.{Refusal}
-use Rattle.table.specs.declared.Refusal.the-variants.{Length}
+use Rattle.refusals.specs.Refusals.{number, place, pointer}
+use Rattle.refusals.specs.declared.Refusal.{Refusal}
+use Rattle.refusals.specs.declared.Refusal.the-variants.{Length}
 use Rattle.rules.specs.Rules.{Fault, refusal}
 use Rattle.rules.specs.Verdict.{faults}
 use Rattle.rules.specs.declared.Verdict.{Verdict}

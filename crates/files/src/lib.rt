@@ -1,9 +1,9 @@
 // Routine tables in files, and verdicts as lines of text: what the verdict program is made of.
+mod encoding;
 mod text;
-mod words;
 
+use refusals::Refusal;
 use rules::Verdict;
-use table::Refusal;
 pub use text::Text;
 ghost use Rattle.rules.specs.Verdict.{Answers};
 ghost use Rattle.files.specs.Text.{Line};
@@ -26,7 +26,7 @@ pub fn check_file(bytes: &[u8]) -> Verdict
     }
     let mut table = [0i32; 7318];
     for i in 0..count {
-        table[i] = words::word_at(bytes, 4 * i);
+        table[i] = encoding::word_at(bytes, 4 * i);
     }
     checker::check(&table[..count])
 }
@@ -35,16 +35,16 @@ pub fn check_file(bytes: &[u8]) -> Verdict
 fn refused_line(r: Refusal) -> Text
     ensures { λ t. ⌜ Line (refusedLine r) t ⌝ }
 {
-    let number = table::refusal_number(r);
+    let number = refusals::refusal_number(r);
     let start = Text::new()
         .push_all(b"refused ")
         .push_number(number as u64)
         .push(b' ')
-        .push_number(table::refusal_place(r) as u64);
+        .push_number(refusals::refusal_place(r) as u64);
     if number == 8 {
         return start
             .push(b' ')
-            .push_number(table::refusal_pointer(r) as u64)
+            .push_number(refusals::refusal_pointer(r) as u64)
             .push(b'\n');
     }
     start.push(b'\n')

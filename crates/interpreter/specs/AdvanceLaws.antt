@@ -8,9 +8,9 @@ use borrow.Author.Tests.{eq-eqb, ne-eqb, ltb-false, leb-false}
 use lib.Dec.{leb, ltb, eqb}
 use lib.ListN.{getD, set}
 use Rattle.facts.specs.Numbers.{bias, maxValue}
-use Rattle.table.specs.declared.Condition.{Condition}
-use Rattle.table.specs.declared.Simple.{Simple}
-use Rattle.table.specs.declared.Simple.the-variants.{Literal, AddConstant, Arithmetic, Null, Address, PointerOffset, PointerIndex, Load, Store, Check as Test}
+use Rattle.conditions.specs.declared.Condition.{Condition}
+use Rattle.statements.specs.declared.Simple.{Simple}
+use Rattle.statements.specs.declared.Simple.the-variants.{Literal, AddConstant, Arithmetic, Null, Address, PointerOffset, PointerIndex, Load, Store, Check as Test}
 use Rattle.interpreter.specs.Machine.{value, address, conditionHolds, Failing, none, fails, firstOf, failing, accessFailing, arithmeticFailing, combined}
 use Rattle.interpreter.specs.Bare.{declaredIn, stepUnless, changedUnless, valuesAfter, cellsAfter, simpleMove, Moves, Assigns}
 use Rattle.interpreter.specs.declared.Check.{Check}

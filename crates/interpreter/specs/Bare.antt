@@ -8,16 +8,16 @@ use lib.IntN.{ℤ}
 use lib.ListN.{length, getD, set}
 use Rattle.facts.specs.Numbers.{bias}
 use Rattle.facts.specs.Tabulate.{tabulate}
-use Rattle.table.specs.Words.{pickNumber}
-use Rattle.table.specs.Statements.{statementAt}
-use Rattle.table.specs.Decode.{decodedAt}
-use Rattle.table.specs.declared.Sections.{Sections}
-use Rattle.table.specs.declared.End.{End}
-use Rattle.table.specs.declared.Simple.{Simple}
-use Rattle.table.specs.declared.Simple.the-variants.{Literal, AddConstant, Arithmetic, Null, Address, PointerOffset, PointerIndex, Load, Store, Check as Test}
-use Rattle.table.specs.declared.Statement.{Statement}
-use Rattle.table.specs.declared.Statement.the-variants.{Plain, If, While, Bundle}
-use Rattle.table.specs.declared.StatementRead.the-variants.{Read}
+use Rattle.fields.specs.Fields.{pickNumber}
+use Rattle.sections.specs.declared.Sections.{Sections}
+use Rattle.statements.specs.Statements.{statementAt}
+use Rattle.statements.specs.declared.Simple.{Simple}
+use Rattle.statements.specs.declared.Simple.the-variants.{Literal, AddConstant, Arithmetic, Null, Address, PointerOffset, PointerIndex, Load, Store, Check as Test}
+use Rattle.statements.specs.declared.Statement.{Statement}
+use Rattle.statements.specs.declared.Statement.the-variants.{Plain, If, While, Bundle}
+use Rattle.statements.specs.declared.StatementRead.the-variants.{Read}
+use Rattle.decode.specs.Decode.{decodedAt}
+use Rattle.variables.specs.declared.End.{End}
 use Rattle.blocks.specs.Flow.{Successors}
 use Rattle.blocks.specs.Shape.{entriesAt}
 use Rattle.rules.specs.declared.KnownEnd.the-variants.{Known}

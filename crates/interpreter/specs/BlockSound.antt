@@ -8,16 +8,16 @@ use lib.IntN.{ℤ}
 use lib.ListN.{length}
 use Rattle.chains.specs.Sound.{InRange, Holds, joined-left-holds, joined-right-holds}
 use Rattle.facts.specs.declared.FactSet.{FactSet}
-use Rattle.table.specs.Negation.{negatedOf}
-use Rattle.table.specs.Statements.{statementAt}
-use Rattle.table.specs.StatementLaws.{read-typed}
-use Rattle.table.specs.Typed.{SimpleTyped}
-use Rattle.table.specs.declared.Sections.{Sections}
-use Rattle.table.specs.declared.Condition.{Condition}
-use Rattle.table.specs.declared.Simple.{Simple}
-use Rattle.table.specs.declared.Simple.the-variants.{Literal, AddConstant, Arithmetic, Null, Address, PointerOffset, PointerIndex, Load, Store, Check}
-use Rattle.table.specs.declared.Statement.the-variants.{Plain, If, While}
-use Rattle.table.specs.declared.StatementRead.{StatementRead}
+use Rattle.sections.specs.declared.Sections.{Sections}
+use Rattle.conditions.specs.Negation.{negatedOf}
+use Rattle.conditions.specs.declared.Condition.{Condition}
+use Rattle.statements.specs.Statements.{statementAt}
+use Rattle.statements.specs.StatementLaws.{read-typed}
+use Rattle.statements.specs.Typed.{SimpleTyped}
+use Rattle.statements.specs.declared.Simple.{Simple}
+use Rattle.statements.specs.declared.Simple.the-variants.{Literal, AddConstant, Arithmetic, Null, Address, PointerOffset, PointerIndex, Load, Store, Check}
+use Rattle.statements.specs.declared.Statement.the-variants.{Plain, If, While}
+use Rattle.statements.specs.declared.StatementRead.{StatementRead}
 use Rattle.blocks.specs.Tree.{Block, nil, plain, branch, loop, bundle, unread, target, targets, assigned}
 use Rattle.blocks.specs.Flow.{Successors, successors, entry, lead}
 use Rattle.blocks.specs.Shape.{size, targetsFrom}

@@ -10,13 +10,13 @@ use lib.Dec.{ltb}
 use lib.IntN.{ℤ}
 use lib.ListN.{length, getD}
 use Rattle.facts.specs.Numbers.{maxValue}
+use Rattle.refusals.specs.declared.Refusal.{Refusal}
+use Rattle.refusals.specs.declared.Refusal.the-variants.{Length, Directory, ObjectLength, VariableRecord, StatementRecord}
+use Rattle.sections.specs.declared.Sections.{Sections}
 use Rattle.table.specs.Form.{pickForm, lengthRight, directoryRight, sectionsOf, lowestObject, lowestVariable, lowestStatement, itemsForm, formOf}
 use Rattle.table.specs.FormLaws.{well-formed}
-use Rattle.table.specs.declared.Sections.{Sections}
 use Rattle.table.specs.declared.Form.{Form}
 use Rattle.table.specs.declared.Form.the-variants.{WellFormed, Refused}
-use Rattle.table.specs.declared.Refusal.{Refusal}
-use Rattle.table.specs.declared.Refusal.the-variants.{Length, Directory, ObjectLength, VariableRecord, StatementRecord}
 use Rattle.blocks.specs.Flow.{tableFlow, written, Written}
 use Rattle.rules.specs.EnvironmentLaws.{environment-declares}
 use Rattle.checker.specs.VerdictLaws.{clear, faults-clear}

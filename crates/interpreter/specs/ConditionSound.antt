@@ -10,9 +10,9 @@ use lib.Dec.{eqb}
 use Rattle.facts.specs.Numbers.{zeroVar}
 use Rattle.chains.specs.Sound.{InRange, Holds, added-holds}
 use Rattle.facts.specs.declared.FactSet.{FactSet}
-use Rattle.table.specs.Negation.{negation, negatedOf}
-use Rattle.table.specs.SectionsLaws.{both}
-use Rattle.table.specs.declared.Condition.{Condition}
+use Rattle.sections.specs.SectionsLaws.{both}
+use Rattle.conditions.specs.Negation.{negation, negatedOf}
+use Rattle.conditions.specs.declared.Condition.{Condition}
 use Rattle.rules.specs.FactRules.{pickFacts, positive, differs, relationFacts, conditionFacts}
 use Rattle.rules.specs.FactsTrue.{equated-holds, positive-holds}
 use Rattle.interpreter.specs.Machine.{value, relates, conditionHolds}

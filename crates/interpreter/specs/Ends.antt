@@ -3,8 +3,8 @@ use Prim.Native.Nat.{ℕ, zero, suc, _-_, _/_, _%_}
 use mathlib.Core.List.{List}
 use lib.Dec.{ltb}
 use Rattle.facts.specs.Tabulate.{tabulate}
-use Rattle.table.specs.Words.{pickNumber}
-use Rattle.table.specs.declared.End.{End}
+use Rattle.fields.specs.Fields.{pickNumber}
+use Rattle.variables.specs.declared.End.{End}
 use Rattle.rules.specs.BoundsRules.{declared}
 use Rattle.rules.specs.declared.Bounds.{Bounds}
 use Rattle.rules.specs.declared.Environment.{Environment}

@@ -9,18 +9,20 @@ use lib.Dec.{leb, ltb, eqb}
 use lib.IntN.{ℤ}
 use lib.ListN.{length, getD, List·getD-eq-default}
 use Rattle.facts.specs.Tabulate.{length-tabulate, getD-tabulate}
-use Rattle.table.specs.Words.{pickNumber}
-use Rattle.table.specs.Typed.{IsIndex, missing, given, EndTyped, SimpleTyped}
-use Rattle.table.specs.SectionsLaws.{Limits}
-use Rattle.table.specs.Variables.{variableAt}
-use Rattle.table.specs.VariableLaws.{variable-read-typed, variable-read-limits}
-use Rattle.table.specs.declared.Sections.{Sections}
-use Rattle.table.specs.declared.End.{End}
-use Rattle.table.specs.declared.Simple.{Simple}
-use Rattle.table.specs.declared.Simple.the-variants.{Literal, AddConstant, Arithmetic, Null, Address, PointerOffset, PointerIndex, Load, Store, Check as Test}
-use Rattle.table.specs.declared.Variable.the-variants.{Integer, Pointer}
-use Rattle.table.specs.declared.VariableRead.{VariableRead}
-use Rattle.table.specs.declared.VariableRead.the-variants.{Read, Unread}
+use Rattle.fields.specs.Fields.{pickNumber}
+use Rattle.sections.specs.Typed.{IsIndex, missing, given}
+use Rattle.sections.specs.SectionsLaws.{Limits}
+use Rattle.sections.specs.declared.Sections.{Sections}
+use Rattle.statements.specs.Typed.{SimpleTyped}
+use Rattle.statements.specs.declared.Simple.{Simple}
+use Rattle.statements.specs.declared.Simple.the-variants.{Literal, AddConstant, Arithmetic, Null, Address, PointerOffset, PointerIndex, Load, Store, Check as Test}
+use Rattle.variables.specs.Typed.{EndTyped}
+use Rattle.variables.specs.Variables.{variableAt}
+use Rattle.variables.specs.VariableLaws.{variable-read-typed, variable-read-limits}
+use Rattle.variables.specs.declared.End.{End}
+use Rattle.variables.specs.declared.Variable.the-variants.{Integer, Pointer}
+use Rattle.variables.specs.declared.VariableRead.{VariableRead}
+use Rattle.variables.specs.declared.VariableRead.the-variants.{Read, Unread}
 use Rattle.rules.specs.BoundsRules.{nothingKnown, declared}
 use Rattle.rules.specs.Verdict.{boundsOf, environmentOf}
 use Rattle.rules.specs.declared.KnownEnd.the-variants.{Unknown}

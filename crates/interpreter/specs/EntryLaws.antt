@@ -9,9 +9,9 @@ use borrow.Author.Tests.{eqb-true, eqb-false, eq-eqb, ne-eqb}
 use lib.Dec.{leb, eqb}
 use lib.ListN.{length, getD}
 use Rattle.facts.specs.Numbers.{bias}
-use Rattle.table.specs.declared.Sections.{Sections}
-use Rattle.table.specs.declared.Refusal.{Refusal}
-use Rattle.table.specs.declared.Refusal.the-variants.{MemorySize, DirectoryPair, EntryLengths, EntryValue}
+use Rattle.refusals.specs.declared.Refusal.{Refusal}
+use Rattle.refusals.specs.declared.Refusal.the-variants.{MemorySize, DirectoryPair, EntryLengths, EntryValue}
+use Rattle.sections.specs.declared.Sections.{Sections}
 use Rattle.rules.specs.declared.Environment.{Environment}
 use Rattle.interpreter.specs.Machine.{originHolds}
 use Rattle.interpreter.specs.Entry.{memoryRight, endBefore, pairRight, lengthsRight, entryRight, failures, entryRefusals}

@@ -12,8 +12,8 @@ use lib.ListN.{length, getD, List·getD-eq-default}
 use Rattle.facts.specs.Numbers.{bias, zeroVar}
 use Rattle.facts.specs.Store.{newSet}
 use Rattle.chains.specs.Sound.{InRange, new-holds}
-use Rattle.table.specs.SectionsLaws.{both}
-use Rattle.table.specs.declared.Sections.{Sections}
+use Rattle.sections.specs.SectionsLaws.{both}
+use Rattle.sections.specs.declared.Sections.{Sections}
 use Rattle.rules.specs.BoundsRules.{declared}
 use Rattle.rules.specs.BoundsTrue.{BoundsHold}
 use Rattle.rules.specs.EnvironmentLaws.{Declares, DeclaredEnds}

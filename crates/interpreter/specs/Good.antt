@@ -14,7 +14,7 @@ use Rattle.facts.specs.Numbers.{bias, maxValue}
 use Rattle.facts.specs.Store.{newSet}
 use Rattle.chains.specs.Sound.{InRange, Holds, Except}
 use Rattle.facts.specs.declared.FactSet.{FactSet}
-use Rattle.table.specs.declared.Sections.{Sections}
+use Rattle.sections.specs.declared.Sections.{Sections}
 use Rattle.blocks.specs.Tree.{tree}
 use Rattle.blocks.specs.Layout.{layout}
 use Rattle.rules.specs.BoundsRules.{isPointer, declared, known, effectOn, boundsAfter, boundsShown, unshown}

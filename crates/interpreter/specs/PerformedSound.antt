@@ -13,10 +13,11 @@ use lib.Seq.{getD-set-other}
 use Rattle.facts.specs.Numbers.{bias, maxValue}
 use Rattle.chains.specs.Sound.{Holds}
 use Rattle.facts.specs.declared.FactSet.{FactSet}
-use Rattle.table.specs.Typed.{SimpleTyped, IsPointer}
-use Rattle.table.specs.declared.Sections.{Sections}
-use Rattle.table.specs.declared.Simple.{Simple}
-use Rattle.table.specs.declared.Simple.the-variants.{Literal, AddConstant, Arithmetic, Null, Address, PointerOffset, PointerIndex, Load, Store, Check}
+use Rattle.sections.specs.Typed.{IsPointer}
+use Rattle.sections.specs.declared.Sections.{Sections}
+use Rattle.statements.specs.Typed.{SimpleTyped}
+use Rattle.statements.specs.declared.Simple.{Simple}
+use Rattle.statements.specs.declared.Simple.the-variants.{Literal, AddConstant, Arithmetic, Null, Address, PointerOffset, PointerIndex, Load, Store, Check}
 use Rattle.blocks.specs.Tree.{target}
 use Rattle.rules.specs.FactRules.{sumInRange, factsAfter, conditionFacts}
 use Rattle.rules.specs.FactsTrue.{neither}

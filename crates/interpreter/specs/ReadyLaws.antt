@@ -5,20 +5,21 @@ use mathlib.Core.List.{List}
 use native.Mathlib.Omega.{arith}
 use lib.IntN.{ℤ}
 use lib.ListN.{getD}
-use Rattle.table.specs.Words.{pickNumber}
-use Rattle.table.specs.SectionsLaws.{Limits}
-use Rattle.table.specs.Statements.{statementAt}
-use Rattle.table.specs.Typed.{SimpleTyped, ConditionTyped, Sides, integers, pointers, literal, null, AccessTyped}
-use Rattle.table.specs.StatementLaws.{read-typed, read-limits}
-use Rattle.table.specs.Decode.{decodedAt}
-use Rattle.table.specs.DecodeLaws.{read-decoded}
-use Rattle.table.specs.declared.Sections.{Sections}
-use Rattle.table.specs.declared.Condition.{Condition}
-use Rattle.table.specs.declared.Simple.{Simple}
-use Rattle.table.specs.declared.Simple.the-variants.{Literal, AddConstant, Arithmetic, Null, Address, PointerOffset, PointerIndex, Load, Store, Check as Test}
-use Rattle.table.specs.declared.Statement.{Statement}
-use Rattle.table.specs.declared.Statement.the-variants.{Plain, If, While, Bundle}
-use Rattle.table.specs.declared.StatementRead.the-variants.{Read}
+use Rattle.fields.specs.Fields.{pickNumber}
+use Rattle.sections.specs.SectionsLaws.{Limits}
+use Rattle.sections.specs.declared.Sections.{Sections}
+use Rattle.conditions.specs.Typed.{ConditionTyped, Sides, integers, pointers, literal, null}
+use Rattle.conditions.specs.declared.Condition.{Condition}
+use Rattle.statements.specs.Statements.{statementAt}
+use Rattle.statements.specs.Typed.{SimpleTyped, AccessTyped}
+use Rattle.statements.specs.StatementLaws.{read-typed, read-limits}
+use Rattle.statements.specs.declared.Simple.{Simple}
+use Rattle.statements.specs.declared.Simple.the-variants.{Literal, AddConstant, Arithmetic, Null, Address, PointerOffset, PointerIndex, Load, Store, Check as Test}
+use Rattle.statements.specs.declared.Statement.{Statement}
+use Rattle.statements.specs.declared.Statement.the-variants.{Plain, If, While, Bundle}
+use Rattle.statements.specs.declared.StatementRead.the-variants.{Read}
+use Rattle.decode.specs.Decode.{decodedAt}
+use Rattle.decode.specs.DecodeLaws.{read-decoded}
 use Rattle.interpreter.specs.Machine.{address, conditionHolds, none, failing, accessFailing}
 use Rattle.interpreter.specs.Bare.{declaredIn, InCells, InsideSimple, Inside, Accessible, Operable, Ready, Prepared, simpleMove, statementMove, bareMove, Moves}
 use Rattle.interpreter.specs.declared.Step.{Step}

@@ -7,7 +7,7 @@ use native.Mathlib.Omega.{arith}
 use borrow.Author.Tests.{lt-ltb, le-ltb}
 use lib.IntN.{ℤ}
 use lib.ListN.{length}
-use Rattle.table.specs.declared.Sections.{Sections}
+use Rattle.sections.specs.declared.Sections.{Sections}
 use Rattle.interpreter.specs.Bare.{Result, follow, bareMove, bareRun, Onward, Ready, Prepared, SafeRun, Moves, Ends}
 use Rattle.interpreter.specs.declared.Check.{Check}
 use Rattle.interpreter.specs.declared.Step.{Step}

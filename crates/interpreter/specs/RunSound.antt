@@ -11,16 +11,16 @@ use lib.Dec.{ltb}
 use lib.IntN.{ℤ}
 use lib.ListN.{length}
 use Rattle.facts.specs.Store.{newSet}
+use Rattle.sections.specs.declared.Sections.{Sections}
+use Rattle.statements.specs.Statements.{statementAt}
+use Rattle.statements.specs.StatementLaws.{read-typed, read-within}
+use Rattle.statements.specs.declared.Simple.{Simple}
+use Rattle.statements.specs.declared.Simple.the-variants.{Literal, AddConstant, Arithmetic, Null, Address, PointerOffset, PointerIndex, Load, Store, Check}
+use Rattle.statements.specs.declared.Statement.the-variants.{Plain, If, While, Bundle}
+use Rattle.statements.specs.declared.StatementRead.{StatementRead}
+use Rattle.statements.specs.declared.StatementRead.the-variants.{Read, Unread}
 use Rattle.table.specs.Form.{formOf}
 use Rattle.table.specs.FormLaws.{well-formed}
-use Rattle.table.specs.Statements.{statementAt}
-use Rattle.table.specs.StatementLaws.{read-typed, read-within}
-use Rattle.table.specs.declared.Sections.{Sections}
-use Rattle.table.specs.declared.Simple.{Simple}
-use Rattle.table.specs.declared.Simple.the-variants.{Literal, AddConstant, Arithmetic, Null, Address, PointerOffset, PointerIndex, Load, Store, Check}
-use Rattle.table.specs.declared.Statement.the-variants.{Plain, If, While, Bundle}
-use Rattle.table.specs.declared.StatementRead.{StatementRead}
-use Rattle.table.specs.declared.StatementRead.the-variants.{Read, Unread}
 use Rattle.table.specs.declared.Form.the-variants.{WellFormed}
 use Rattle.blocks.specs.Tree.{tree, assigned}
 use Rattle.blocks.specs.Flow.{successors, tableEntry}

@@ -14,9 +14,9 @@ use Rattle.facts.specs.Numbers.{bias, maxValue}
 use Rattle.facts.specs.Store.{dropped, ranged, shifted}
 use Rattle.chains.specs.Sound.{Holds, dropped-holds, ranged-holds, shifted-holds}
 use Rattle.facts.specs.declared.FactSet.{FactSet}
-use Rattle.table.specs.Typed.{IsInteger, IsPointer}
-use Rattle.table.specs.declared.Sections.{Sections}
-use Rattle.table.specs.declared.Simple.{Simple}
+use Rattle.sections.specs.Typed.{IsInteger, IsPointer}
+use Rattle.sections.specs.declared.Sections.{Sections}
+use Rattle.statements.specs.declared.Simple.{Simple}
 use Rattle.blocks.specs.Tree.{target}
 use Rattle.rules.specs.FactRules.{pickFacts, equated, sumInRange, sumFacts, offsetFacts, factsAfter}
 use Rattle.rules.specs.FactsTrue.{Agree, among-one, equated-holds, positive-holds, sum-in-range}

@@ -7,7 +7,7 @@ use mathlib.Core.List.{List}
 use lib.IntN.{ℤ}
 use lib.ListN.{length, getD}
 use Rattle.facts.specs.Numbers.{bias, maxValue}
-use Rattle.table.specs.declared.Sections.{Sections}
+use Rattle.sections.specs.declared.Sections.{Sections}
 use Rattle.blocks.specs.Tree.{tree}
 use Rattle.rules.specs.BoundsRules.{isPointer, objectLength}
 use Rattle.rules.specs.declared.Environment.{Environment}

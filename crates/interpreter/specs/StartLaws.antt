@@ -10,11 +10,11 @@ use borrow.Author.Tests.{ltb-true, ltb-false, leb-true, eqb-true}
 use lib.Dec.{leb, ltb, eqb}
 use lib.IntN.{ℤ}
 use lib.ListN.{length, getD, List·getD-eq-default}
-use Rattle.table.specs.SectionsLaws.{both}
+use Rattle.refusals.specs.declared.Refusal.{Refusal}
+use Rattle.refusals.specs.declared.Refusal.the-variants.{MemorySize, DirectoryPair, EntryLengths, EntryValue}
+use Rattle.sections.specs.SectionsLaws.{both}
+use Rattle.sections.specs.declared.Sections.{Sections}
 use Rattle.table.specs.FormLaws.{Formed}
-use Rattle.table.specs.declared.Sections.{Sections}
-use Rattle.table.specs.declared.Refusal.{Refusal}
-use Rattle.table.specs.declared.Refusal.the-variants.{MemorySize, DirectoryPair, EntryLengths, EntryValue}
 use Rattle.blocks.specs.Tree.{tree}
 use Rattle.blocks.specs.Layout.{layout}
 use Rattle.blocks.specs.Flow.{successors, tableFlow, tableEntry, written}

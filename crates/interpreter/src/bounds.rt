@@ -5,7 +5,7 @@ use crate::numbers::value_at;
 use rules::Bounds;
 use rules::Environment;
 use rules::KnownEnd;
-use table::End;
+use variables::End;
 ghost use mathlib.Core.Path.{_≡_};
 ghost use Prim.Native.Nat.{_+_, _^_, _<_};
 ghost use lib.Dec.{leb};

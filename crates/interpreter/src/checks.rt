@@ -4,7 +4,7 @@ use crate::Step;
 use crate::numbers::BIAS;
 use crate::numbers::condition_holds;
 use crate::numbers::value_at;
-use table::Condition;
+use conditions::Condition;
 ghost use mathlib.Core.Path.{_≡_};
 ghost use mathlib.Core.Bool.{not};
 ghost use Prim.Native.Nat.{ℕ, _+_, _*_, _^_, _<_};

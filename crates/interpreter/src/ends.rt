@@ -2,7 +2,7 @@
 use rules::Bounds;
 use rules::Environment;
 use rules::KnownEnd;
-use table::End;
+use variables::End;
 ghost use mathlib.Core.Path.{_≡_};
 ghost use Prim.Native.Nat.{_-_, _<_};
 ghost use Rattle.interpreter.specs.Machine.{endOf};

@@ -8,15 +8,15 @@ mod numbers; // numbers.rt: values, sums and conditions
 mod resume; // resume.rt: the run up to a limit
 
 use blocks::write_successors;
-use rules::Verdict;
 use checker::check;
-use rules::read_environment;
 use ends::lay_ends;
 use entry::enter;
+use refusals::Refusal;
 use resume::resume;
+use rules::Verdict;
+use rules::read_environment;
+use sections::Sections;
 use table::Form;
-use table::Refusal;
-use table::Sections;
 use table::read_form;
 ghost use mathlib.Core.Path.{_≡_};
 ghost use mathlib.Core.List.{[]};

@@ -1,5 +1,5 @@
 // Values as whole numbers, sums and products modulo 2^32, and conditions.
-use table::Condition;
+use conditions::Condition;
 ghost use mathlib.Core.Path.{_≡_};
 ghost use Prim.Native.Nat.{_+_, _^_, _%_, _<_};
 ghost use lib.ListN.{getD};

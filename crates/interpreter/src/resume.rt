@@ -2,7 +2,7 @@
 use crate::Outcome;
 use crate::Step;
 use crate::advance::advance;
-use table::Sections;
+use sections::Sections;
 ghost use Rattle.interpreter.specs.Bare.{Prepared, SafeRun, bareRun, Ends};
 
 // Steps from the statement `first`, `limit` at most, with the values and cells as they are. A run that is spent goes on from the statement that it gives.

@@ -13,9 +13,9 @@ use Rattle.facts.specs.Tabulate.{getD-tabulate}
 use Rattle.facts.specs.Store.{unbounded, shown, endShown}
 use Rattle.chains.specs.Sound.{InRange, Holds, Except, end-true}
 use Rattle.facts.specs.declared.FactSet.{FactSet}
-use Rattle.table.specs.SectionsLaws.{both}
-use Rattle.table.specs.NameLaws.{either}
-use Rattle.table.specs.declared.End.{End}
+use Rattle.sections.specs.SectionsLaws.{both}
+use Rattle.sections.specs.NameLaws.{either}
+use Rattle.variables.specs.declared.End.{End}
 use Rattle.rules.specs.FactsTrue.{neither}
 use Rattle.rules.specs.BoundsRules.{pickEnd, nothingKnown, isPointer, declared, known, names, forgetEnd, shiftConstant, shiftEnd, forgetBounds, shiftBounds, objectBounds, effectOn, boundsAfter, sameEnd, endAtMost, knownAtMost, boundsShown, consIf, unshownFrom, unshown}
 use Rattle.rules.specs.declared.KnownEnd.{KnownEnd}

@@ -11,18 +11,19 @@ use lib.ListN.{length, List·getD-eq-default}
 use lib.Dec.{ltb}
 use Rattle.facts.specs.Numbers.{bias}
 use Rattle.facts.specs.Tabulate.{tabulate, getD-tabulate, length-tabulate}
-use Rattle.table.specs.Sections.{kindAt, integerAt, pointerAt}
-use Rattle.table.specs.Typed.{IsInteger, IsPointer, IsIndex, missing, given, IsSmall, EndTyped, PointerTyped}
-use Rattle.table.specs.NameLaws.{pointer-limits}
-use Rattle.table.specs.Variables.{variableAt}
-use Rattle.table.specs.VariableLaws.{variable-read-typed}
+use Rattle.sections.specs.Sections.{kindAt, integerAt, pointerAt}
+use Rattle.sections.specs.Typed.{IsInteger, IsPointer, IsIndex, missing, given, IsSmall}
+use Rattle.sections.specs.NameLaws.{pointer-limits}
+use Rattle.sections.specs.declared.Sections.{Sections}
+use Rattle.variables.specs.Typed.{EndTyped, PointerTyped}
+use Rattle.variables.specs.Variables.{variableAt}
+use Rattle.variables.specs.VariableLaws.{variable-read-typed}
+use Rattle.variables.specs.declared.End.{End}
+use Rattle.variables.specs.declared.Variable.{Variable}
+use Rattle.variables.specs.declared.Variable.the-variants.{Integer, Pointer}
+use Rattle.variables.specs.declared.VariableRead.{VariableRead}
+use Rattle.variables.specs.declared.VariableRead.the-variants.{Read}
 use Rattle.table.specs.FormLaws.{Formed}
-use Rattle.table.specs.declared.Sections.{Sections}
-use Rattle.table.specs.declared.End.{End}
-use Rattle.table.specs.declared.Variable.{Variable}
-use Rattle.table.specs.declared.Variable.the-variants.{Integer, Pointer}
-use Rattle.table.specs.declared.VariableRead.{VariableRead}
-use Rattle.table.specs.declared.VariableRead.the-variants.{Read}
 use Rattle.rules.specs.BoundsRules.{nothingKnown, isPointer, declared}
 use Rattle.rules.specs.BoundsTrue.{Proper}
 use Rattle.rules.specs.Verdict.{boundsOf, environmentOf}

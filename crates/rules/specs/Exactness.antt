@@ -17,19 +17,21 @@ use Rattle.chains.specs.Exact.{Exact}
 use Rattle.chains.specs.ExactAfter.{Another, Slight}
 use Rattle.chains.specs.History.{History, new, add, drop, range, shift, join, known, made, Legal, exact, contradicts-exactly}
 use Rattle.facts.specs.declared.FactSet.{FactSet}
-use Rattle.table.specs.Sections.{kindAt, integerAt, pointerAt}
-use Rattle.table.specs.SectionsLaws.{Limits}
-use Rattle.table.specs.Statements.{statementAt}
-use Rattle.table.specs.StatementLaws.{read-typed}
-use Rattle.table.specs.Negation.{negatedOf}
-use Rattle.table.specs.Typed.{IsInteger, IsPointer, IsSmall, Sides, integers, pointers, literal, null, SimpleTyped}
-use Rattle.table.specs.declared.Sections.{Sections}
-use Rattle.table.specs.declared.Condition.{Condition}
-use Rattle.table.specs.declared.Simple.{Simple}
-use Rattle.table.specs.declared.Simple.the-variants.{Literal, AddConstant, Arithmetic, Null, Address, PointerOffset, PointerIndex, Load, Store, Check}
-use Rattle.table.specs.declared.Statement.the-variants.{Plain, If, While, Bundle}
-use Rattle.table.specs.declared.StatementRead.{StatementRead}
-use Rattle.table.specs.declared.StatementRead.the-variants.{Read, Unread}
+use Rattle.sections.specs.Sections.{kindAt, integerAt, pointerAt}
+use Rattle.sections.specs.SectionsLaws.{Limits}
+use Rattle.sections.specs.Typed.{IsInteger, IsPointer, IsSmall}
+use Rattle.sections.specs.declared.Sections.{Sections}
+use Rattle.conditions.specs.Negation.{negatedOf}
+use Rattle.conditions.specs.Typed.{Sides, integers, pointers, literal, null}
+use Rattle.conditions.specs.declared.Condition.{Condition}
+use Rattle.statements.specs.Statements.{statementAt}
+use Rattle.statements.specs.StatementLaws.{read-typed}
+use Rattle.statements.specs.Typed.{SimpleTyped}
+use Rattle.statements.specs.declared.Simple.{Simple}
+use Rattle.statements.specs.declared.Simple.the-variants.{Literal, AddConstant, Arithmetic, Null, Address, PointerOffset, PointerIndex, Load, Store, Check}
+use Rattle.statements.specs.declared.Statement.the-variants.{Plain, If, While, Bundle}
+use Rattle.statements.specs.declared.StatementRead.{StatementRead}
+use Rattle.statements.specs.declared.StatementRead.the-variants.{Read, Unread}
 use Rattle.blocks.specs.Shape.{targetOf, targetsFrom}
 use Rattle.blocks.specs.Tree.{target}
 use Rattle.rules.specs.FactRules.{pickFacts, equated, positive, differs, relationFacts, conditionFacts, sumInRange, sumFacts, offsetFacts, factsAfter, among, droppedEach, loopFacts}

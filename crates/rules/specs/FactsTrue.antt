@@ -12,8 +12,8 @@ use Rattle.facts.specs.Numbers.{bias, maxValue, zeroVar}
 use Rattle.facts.specs.Store.{pick, shown, added, dropped}
 use Rattle.chains.specs.Sound.{InRange, True, Holds, Except, added-holds, dropped-holds}
 use Rattle.facts.specs.declared.FactSet.{FactSet}
-use Rattle.table.specs.SectionsLaws.{both}
-use Rattle.table.specs.NameLaws.{either}
+use Rattle.sections.specs.SectionsLaws.{both}
+use Rattle.sections.specs.NameLaws.{either}
 use Rattle.rules.specs.FactRules.{pickFacts, equated, positive, sumInRange, among, droppedEach, loopFacts}
 
 -- Neither of two tests holds.

@@ -4,12 +4,14 @@ use mathlib.Core.List.{List, [], _∷_, map}
 use lib.IntN.{ℤ, pos, negsuc}
 use Rattle.facts.specs.Store.{concatenated, leastSum, shown, endShown, newRow, newSet, loweredRow, lowered, marked, added, ownRow, reroutedRow, reassigned, ranged, dropped, shifted, joinedSum, joinedRow, joined}
 use Rattle.facts.specs.Tabulate.{tabulate}
+use Rattle.words.specs.Words.{fieldsAt, biased, word}
+use Rattle.fields.specs.Fields.{indexOf, isBelow, isLiteral, literalValue, isConstant}
+use Rattle.sections.specs.Sections.{inLimits, isVariable, kindAt, integerAt, pointerAt, namesInteger, namesPointer, namesIndex}
+use Rattle.conditions.specs.Negation.{negation, negatedOf}
+use Rattle.conditions.specs.Conditions.{sameKind, besideLiteral, conditionRight, rightOf, offsetOf, conditionOf}
+use Rattle.statements.specs.Statements.{unusedFrom, literalRead, addConstantRead, arithmeticRead, nullRead, addressRead, pointerOffsetRead, pointerIndexRead, loadRead, storeRead, bundleRead, checkRead, ifRead, whileRead, kindRead, statementAt}
+use Rattle.variables.specs.Variables.{endWordsAt, variableWordsAt, endRight, endZero, endOf, integerRecord, pointerRecord, variableOf, variableAt, objectAt}
 use Rattle.table.specs.Form.{lengthRight, isNumber, sectionsOf, directoryRight, objectRight, variableReads, statementReads, lowestFrom, lowestObject, lowestVariable, lowestStatement, itemsForm, formOf}
-use Rattle.table.specs.Negation.{negation, negatedOf}
-use Rattle.table.specs.Sections.{inLimits, isVariable, kindAt, integerAt, pointerAt, namesInteger, namesPointer, namesIndex}
-use Rattle.table.specs.Statements.{fieldsAt, unusedFrom, literalRead, addConstantRead, arithmeticRead, nullRead, addressRead, pointerOffsetRead, pointerIndexRead, loadRead, storeRead, sameKind, besideLiteral, conditionRight, rightOf, offsetOf, conditionOf, bundleRead, checkRead, ifRead, whileRead, kindRead, statementAt}
-use Rattle.table.specs.Variables.{endWordsAt, variableWordsAt, endRight, endZero, endOf, integerRecord, pointerRecord, variableOf, variableAt, objectAt}
-use Rattle.table.specs.Words.{biased, word, indexOf, isBelow, isLiteral, literalValue, isConstant}
 use Rattle.blocks.specs.Layout.{also, when, contents, bundleLayout, blockLayout, layout, verdict}
 use Rattle.blocks.specs.Shape.{size, targetsFrom}
 use Rattle.blocks.specs.Tree.{simples, parse, tree, targets, assigned}
@@ -17,7 +19,7 @@ use Rattle.rules.specs.BoundsRules.{forgetEnd, shiftConstant, shiftEnd, 
 use Rattle.rules.specs.FactRules.{equated, positive, differs, relationFacts, conditionFacts, sumInRange, sumFacts, offsetFacts, factsAfter, among, droppedEach, loopFacts}
 use Rattle.rules.specs.Rules.{also as checker-also, faultIf, accessAt, boundsAt, bundleFacts, bundleBounds, bundleFaults, blockFacts, blockFaults}
 use Rattle.rules.specs.Verdict.{environmentOf, sectionFaults, faults, Answers, lowestVerdict}
-use Rattle.table.specs.declared.Refusal.the-variants.{Contradiction, BoundsNotShown, BundleAccess}
+use Rattle.refusals.specs.declared.Refusal.the-variants.{Contradiction, BoundsNotShown, BundleAccess}
 use Rattle.rules.specs.declared.Verdict.{Verdict}
 use Rattle.rules.specs.declared.Verdict.the-variants.{Accepted, Refused}
 

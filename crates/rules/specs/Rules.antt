@@ -5,11 +5,11 @@ use mathlib.Core.List.{List, [], _∷_}
 use lib.IntN.{ℤ}
 use Rattle.facts.specs.Store.{contradictory, joined}
 use Rattle.facts.specs.declared.FactSet.{FactSet}
-use Rattle.table.specs.Negation.{negatedOf}
-use Rattle.table.specs.declared.Sections.{Sections}
-use Rattle.table.specs.declared.Simple.{Simple}
-use Rattle.table.specs.declared.Refusal.{Refusal}
-use Rattle.table.specs.declared.Refusal.the-variants.{StatementRecord, Contradiction, BundleAccess}
+use Rattle.refusals.specs.declared.Refusal.{Refusal}
+use Rattle.refusals.specs.declared.Refusal.the-variants.{StatementRecord, Contradiction, BundleAccess}
+use Rattle.sections.specs.declared.Sections.{Sections}
+use Rattle.conditions.specs.Negation.{negatedOf}
+use Rattle.statements.specs.declared.Simple.{Simple}
 use Rattle.blocks.specs.Tree.{Block, nil, plain, branch, loop, bundle, unread}
 use Rattle.blocks.specs.Shape.{targetsFrom}
 use Rattle.rules.specs.FactRules.{factsAfter, conditionFacts, loopFacts}

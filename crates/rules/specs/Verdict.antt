@@ -5,17 +5,17 @@ use mathlib.Core.List.{List, [], _∷_, List·Memᴰ}
 use lib.IntN.{ℤ}
 use Rattle.facts.specs.Tabulate.{tabulate}
 use Rattle.facts.specs.Store.{newSet}
-use Rattle.table.specs.Sections.{pointerAt}
-use Rattle.table.specs.Variables.{variableAt, objectAt}
+use Rattle.refusals.specs.declared.Refusal.{Refusal}
+use Rattle.refusals.specs.declared.Refusal.the-variants.{BoundsNotShown}
+use Rattle.sections.specs.Sections.{pointerAt}
+use Rattle.sections.specs.declared.Sections.{Sections}
+use Rattle.variables.specs.Variables.{variableAt, objectAt}
+use Rattle.variables.specs.declared.Variable.the-variants.{Integer, Pointer}
+use Rattle.variables.specs.declared.VariableRead.{VariableRead}
+use Rattle.variables.specs.declared.VariableRead.the-variants.{Read, Unread}
 use Rattle.table.specs.Form.{formOf}
-use Rattle.table.specs.declared.Sections.{Sections}
-use Rattle.table.specs.declared.Variable.the-variants.{Integer, Pointer}
-use Rattle.table.specs.declared.VariableRead.{VariableRead}
-use Rattle.table.specs.declared.VariableRead.the-variants.{Read, Unread}
 use Rattle.table.specs.declared.Form.{Form}
 use Rattle.table.specs.declared.Form.the-variants as form
-use Rattle.table.specs.declared.Refusal.{Refusal}
-use Rattle.table.specs.declared.Refusal.the-variants.{BoundsNotShown}
 use Rattle.blocks.specs.Tree.{tree}
 use Rattle.blocks.specs.Layout.{layout}
 use Rattle.rules.specs.BoundsRules.{nothingKnown}

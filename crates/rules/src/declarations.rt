@@ -2,14 +2,14 @@
 use crate::Bounds;
 use crate::Environment;
 use crate::KnownEnd;
-use table::Sections;
-use table::Variable;
-use table::VariableRead;
+use sections::Sections;
+use variables::Variable;
+use variables::VariableRead;
 ghost use mathlib.Core.Path.{_≡_};
 ghost use Prim.Native.Nat.{ℕ};
 ghost use Rattle.facts.specs.Tabulate.{tabulate};
-ghost use Rattle.table.specs.Sections.{pointerAt};
-ghost use Rattle.table.specs.Variables.{variableAt, objectAt};
+ghost use Rattle.sections.specs.Sections.{pointerAt};
+ghost use Rattle.variables.specs.Variables.{variableAt, objectAt};
 ghost use Rattle.rules.specs.Verdict.{boundsOf, environmentOf};
 
 // The declared bounds of a variable; an integer has none.
@@ -37,7 +37,7 @@ fn read_pointers(table: &[i32], sections: Sections) -> [bool; 17]
 {
     let mut pointers = [false; 17];
     for v in 0..17 {
-        pointers[v] = table::is_pointer(table, sections, v);
+        pointers[v] = sections::is_pointer(table, sections, v);
     }
     pointers
 }
@@ -51,7 +51,7 @@ fn read_declared(table: &[i32], sections: Sections) -> [Bounds; 16]
     };
     let mut declared = [unknown; 16];
     for v in 0..16 {
-        declared[v] = bounds_of(table::read_variable(table, sections, v));
+        declared[v] = bounds_of(variables::read_variable(table, sections, v));
     }
     declared
 }
@@ -61,7 +61,7 @@ fn read_lengths(table: &[i32], sections: Sections) -> [u64; 16]
 {
     let mut lengths = [0; 16];
     for o in 0..16 {
-        lengths[o] = table::read_object(table, sections, o);
+        lengths[o] = variables::read_object(table, sections, o);
     }
     lengths
 }

@@ -2,7 +2,7 @@
 mod declarations; // declarations.rt: what a table declares
 
 pub use declarations::read_environment;
-use table::End;
+use variables::End;
 
 // A constant, a sum or an end is kept as the number that is this much more, so that it may be negative.
 pub const BIAS: u64 = 8589934592;
@@ -43,5 +43,5 @@ pub enum Effect {
 
 pub enum Verdict {
     Accepted,
-    Refused(table::Refusal),
+    Refused(refusals::Refusal),
 }

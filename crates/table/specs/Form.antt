@@ -6,16 +6,17 @@ use lib.IntN.{ℤ}
 use lib.ListN.{length}
 use lib.Dec.{leb, ltb, eqb}
 use Rattle.facts.specs.Numbers.{bias}
-use Rattle.table.specs.Words.{word, plain, pickNumber}
-use Rattle.table.specs.Sections.{inLimits}
-use Rattle.table.specs.Variables.{variableAt, objectAt}
-use Rattle.table.specs.Statements.{statementAt}
-use Rattle.table.specs.declared.Sections.{Sections}
-use Rattle.table.specs.declared.VariableRead.{VariableRead}
-use Rattle.table.specs.declared.VariableRead.the-variants as variable
-use Rattle.table.specs.declared.StatementRead.{StatementRead}
-use Rattle.table.specs.declared.StatementRead.the-variants as statement
-use Rattle.table.specs.declared.Refusal.the-variants.{Length, Directory, ObjectLength, VariableRecord, StatementRecord}
+use Rattle.refusals.specs.declared.Refusal.the-variants.{Length, Directory, ObjectLength, VariableRecord, StatementRecord}
+use Rattle.words.specs.Words.{word}
+use Rattle.fields.specs.Fields.{plain, pickNumber}
+use Rattle.sections.specs.Sections.{inLimits}
+use Rattle.sections.specs.declared.Sections.{Sections}
+use Rattle.statements.specs.Statements.{statementAt}
+use Rattle.statements.specs.declared.StatementRead.{StatementRead}
+use Rattle.statements.specs.declared.StatementRead.the-variants as statement
+use Rattle.variables.specs.Variables.{variableAt, objectAt}
+use Rattle.variables.specs.declared.VariableRead.{VariableRead}
+use Rattle.variables.specs.declared.VariableRead.the-variants as variable
 use Rattle.table.specs.declared.Form.{Form}
 use Rattle.table.specs.declared.Form.the-variants.{WellFormed, Refused}
 

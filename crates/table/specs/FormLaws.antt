@@ -8,22 +8,22 @@ use lib.ListN.{length}
 use lib.Dec.{leb, ltb, eqb}
 use borrow.Author.Tests.{leb-true, eqb-true, ltb-false}
 use native.Mathlib.Omega.{arith}
-use Rattle.table.specs.Words.{word}
-use Rattle.table.specs.Sections.{inLimits}
-use Rattle.table.specs.SectionsLaws.{both, Limits, limits}
-use Rattle.table.specs.Variables.{variableAt, objectAt}
-use Rattle.table.specs.Statements.{statementAt}
+use Rattle.refusals.specs.declared.Refusal.{Refusal}
+use Rattle.refusals.specs.declared.Refusal.the-variants.{Length, Directory, ObjectLength, VariableRecord, StatementRecord}
+use Rattle.words.specs.Words.{word}
+use Rattle.sections.specs.Sections.{inLimits}
+use Rattle.sections.specs.SectionsLaws.{both, Limits, limits}
+use Rattle.sections.specs.declared.Sections.{Sections}
+use Rattle.statements.specs.Statements.{statementAt}
+use Rattle.statements.specs.declared.Statement.{Statement}
+use Rattle.statements.specs.declared.StatementRead.{StatementRead}
+use Rattle.statements.specs.declared.StatementRead.the-variants as statement
+use Rattle.variables.specs.Variables.{variableAt, objectAt}
+use Rattle.variables.specs.declared.Variable.{Variable}
+use Rattle.variables.specs.declared.VariableRead.{VariableRead}
+use Rattle.variables.specs.declared.VariableRead.the-variants as variable
 use Rattle.table.specs.Form.{pickForm, lengthRight, isNumber, sectionsOf, directoryRight, objectRight, isVariableRead, variableReads, isStatementRead, statementReads, lowestObject, lowestVariable, lowestStatement, itemsForm, formOf}
 use Rattle.table.specs.Searches.{holds-below}
-use Rattle.table.specs.declared.Sections.{Sections}
-use Rattle.table.specs.declared.Variable.{Variable}
-use Rattle.table.specs.declared.VariableRead.{VariableRead}
-use Rattle.table.specs.declared.VariableRead.the-variants as variable
-use Rattle.table.specs.declared.Statement.{Statement}
-use Rattle.table.specs.declared.StatementRead.{StatementRead}
-use Rattle.table.specs.declared.StatementRead.the-variants as statement
-use Rattle.table.specs.declared.Refusal.{Refusal}
-use Rattle.table.specs.declared.Refusal.the-variants.{Length, Directory, ObjectLength, VariableRecord, StatementRecord}
 use Rattle.table.specs.declared.Form.{Form}
 use Rattle.table.specs.declared.Form.the-variants.{WellFormed, Refused}
 

@@ -1,16 +1,3 @@
-pub mod Words
-pub mod Sections
-pub mod SectionsLaws
-pub mod Statements
-pub mod Typed
-pub mod NameLaws
-pub mod StatementLaws
-pub mod Negation
-pub mod Variables
-pub mod VariableLaws
-pub mod Refusals
 pub mod Form
 pub mod Searches
 pub mod FormLaws
-pub mod Decode
-pub mod DecodeLaws

@@ -5,7 +5,7 @@ use mathlib.Core.Bool.{Bool, true, false}
 use mathlib.Core.Logic.{⊎-elim}
 use native.Mathlib.Nat.{eq-or-lt-of-le}
 use native.Mathlib.Omega.{arith}
-use Rattle.table.specs.Words.{pickNumber}
+use Rattle.fields.specs.Fields.{pickNumber}
 use Rattle.table.specs.Form.{lowestFrom}
 
 -- The loop's invariant: looking from i on gives what looking from 0 on gives.

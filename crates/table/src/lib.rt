@@ -1,153 +1,17 @@
-// The routine table: words, records, and the causes of refusal 1 to 5.
-// Only `words::biased` sees a signed word; everything else works on natural numbers.
-mod causes; // causes.rt: causes 1 to 5 over a whole table
-mod decode; // decode.rt: statements of a table that has been checked
-mod kinds; // kinds.rt: the thirteen kinds of statements, a reader each
-mod names; // names.rt: what a word names
-mod refusals; // refusals.rt: number, place and pointer of a refusal
-mod variables; // variables.rt: records of variables, lengths of objects
-mod words; // words.rt: a word of the table, and the tests of one word
-
-pub use causes::read_form;
-pub use decode::decode_statement;
-use kinds::fields_at;
-use kinds::read_kind;
-use names::in_limits;
-pub use names::is_pointer;
-pub use refusals::refusal_number;
-pub use refusals::refusal_place;
-pub use refusals::refusal_pointer;
-pub use variables::read_object;
-pub use variables::read_variable;
-pub use words::word;
+// The form of a whole table: causes of refusal 1 to 5.
+use fields::plain;
+use refusals::Refusal;
+use sections::Sections;
+use sections::in_limits;
+use statements::StatementRead;
+use statements::read_statement;
+use variables::VariableRead;
+use variables::read_object;
+use variables::read_variable;
+use words::BIAS;
+use words::word;
 ghost use mathlib.Core.Path.{_≡_};
-ghost use Rattle.table.specs.Negation.{negation, negatedOf};
-ghost use Rattle.table.specs.Statements.{statementAt};
-
-// How many items each section has. The offsets follow: objects at word 6, variables at 6 + objects, statements at 6 + objects + 8 * variables.
-pub struct Sections {
-    pub objects: usize,
-    pub variables: usize,
-    pub statements: usize,
-}
-
-// An end of declared bounds: pointer + integer + constant. A missing integer is 16, the number that stands for zero. The constant is biased.
-pub struct End {
-    pub pointer: usize,
-    pub integer: usize,
-    pub constant: u64,
-}
-
-pub enum Variable {
-    Integer,
-    Pointer { lower: End, upper: End },
-}
-
-pub enum VariableRead {
-    Read(Variable),
-    Unread,
-}
-
-// left RELATION right + offset. Form 0: right is a variable, offset 0. Form 1: right is 16 (zero), offset the literal.
-pub struct Condition {
-    pub left: usize,
-    pub relation: usize,
-    pub right: usize,
-    pub offset: u64,
-}
-
-// Kinds 1 to 10, in this order. Literals are plain numbers, constants are biased. A missing index is 16.
-pub enum Simple {
-    Literal {
-        target: usize,
-        value: u64,
-    },
-    AddConstant {
-        target: usize,
-        source: usize,
-        constant: u64,
-    },
-    Arithmetic {
-        target: usize,
-        left: usize,
-        right: usize,
-        operation: usize,
-    },
-    Null {
-        target: usize,
-    },
-    Address {
-        target: usize,
-        object: usize,
-    },
-    PointerOffset {
-        target: usize,
-        source: usize,
-        constant: u64,
-    },
-    PointerIndex {
-        target: usize,
-        source: usize,
-        index: usize,
-    },
-    Load {
-        target: usize,
-        pointer: usize,
-        index: usize,
-        constant: u64,
-    },
-    Store {
-        pointer: usize,
-        index: usize,
-        constant: u64,
-        source: usize,
-    },
-    Check {
-        condition: Condition,
-    },
-}
-
-// The thirteen kinds. A bundle holds kinds 1 to 10 only, so these have a type of their own.
-pub enum Statement {
-    Plain(Simple),
-    If {
-        condition: Condition,
-        then_count: usize,
-        else_count: usize,
-    },
-    While {
-        condition: Condition,
-        count: usize,
-    },
-    Bundle {
-        count: usize,
-    },
-}
-
-pub enum StatementRead {
-    Read(Statement),
-    Unread,
-}
-
-// The negation of each relation: < and >=, > and <=, == and !=.
-const NEGATIONS: [usize; 6] = [1, 0, 3, 2, 5, 4];
-
-// The causes of refusal, each with its place.
-pub enum Refusal {
-    Length,
-    Directory,
-    ObjectLength(usize),
-    VariableRecord(usize),
-    StatementRecord(usize),
-    BlockLayout(usize),
-    Contradiction(usize),
-    BoundsNotShown { statement: usize, pointer: usize },
-    BundleAccess(usize),
-    MemorySize,
-    DirectoryPair(usize),
-    EntryLengths,
-    EntryValue(usize),
-}
+ghost use Rattle.table.specs.Form.{lengthRight, isNumber, sectionsOf, directoryRight, objectRight, variableReads, statementReads, lowestObject, lowestVariable, lowestStatement, itemsForm, formOf};
 
 // What causes 1 to 5 say of a table.
 pub enum Form {
@@ -155,34 +19,151 @@ pub enum Form {
     Refused(Refusal),
 }
 
-// A number that is no relation has 0.
-fn negation(relation: usize) -> usize
-    ensures { λ r. ⌜ r ≡ negation relation ⌝ }
+fn length_right(table: &[i32]) -> bool
+    ensures { λ r. ⌜ r ≡ lengthRight (now (table .entry)) ⌝ }
 {
-    if relation < 6 {
-        return NEGATIONS[relation];
-    }
-    0
+    (6 <= table.len()) & (table.len() <= 7318)
 }
 
-pub fn negated(c: Condition) -> Condition
-    ensures { λ r. ⌜ r ≡ negatedOf c ⌝ }
+// The word is the number n.
+fn is_number(n: usize, w: u64) -> bool
+    ensures { λ r. ⌜ r ≡ isNumber n w ⌝ }
 {
-    Condition {
-        left: c.left,
-        relation: negation(c.relation),
-        right: c.right,
-        offset: c.offset,
+    (BIAS <= w) & (plain(w) == n)
+}
+
+fn sections_of(table: &[i32]) -> Sections
+    ensures { λ r. ⌜ r ≡ sectionsOf (now (table .entry)) ⌝ }
+{
+    Sections {
+        objects: plain(word(table, 1)),
+        variables: plain(word(table, 3)) / 8,
+        statements: plain(word(table, 5)) / 7,
     }
 }
 
-// The statement of a number; one that the sections do not have is unread.
-pub fn read_statement(table: &[i32], sections: Sections, at: usize) -> StatementRead
-    ensures { λ r. ⌜ r ≡ statementAt (now (table .entry)) sections at ⌝ }
+// The six words are the ones that these sections have, and the last section ends the table.
+fn directory_right(table: &[i32], sections: Sections) -> bool
+    ensures { λ r. ⌜ r ≡ directoryRight (now (table .entry)) sections ⌝ }
 {
-    if in_limits(sections) & (at < sections.statements) {
-        let start = 6 + sections.objects + 8 * sections.variables + 7 * at;
-        return read_kind(table, sections, fields_at(table, start));
+    if !in_limits(sections) {
+        return false;
     }
-    StatementRead::Unread
+    // The lengths in words, the offsets of the second and the third section, and the end.
+    let objects = sections.objects;
+    let variables = 8 * sections.variables;
+    let statements = 7 * sections.statements;
+    let second = 6 + objects;
+    let third = second + variables;
+    let end = third + statements;
+    is_number(6, word(table, 0))
+        & is_number(objects, word(table, 1))
+        & is_number(second, word(table, 2))
+        & is_number(variables, word(table, 3))
+        & is_number(third, word(table, 4))
+        & is_number(statements, word(table, 5))
+        & (table.len() == end)
+}
+
+fn object_right(table: &[i32], sections: Sections, o: usize) -> bool
+    ensures { λ r. ⌜ r ≡ objectRight (now (table .entry)) sections o ⌝ }
+{
+    let length = read_object(table, sections, o);
+    (1 <= length) & (length <= 1000000)
+}
+
+fn variable_reads(table: &[i32], sections: Sections, v: usize) -> bool
+    ensures { λ r. ⌜ r ≡ variableReads (now (table .entry)) sections v ⌝ }
+{
+    let read = read_variable(table, sections, v);
+    let VariableRead::Read(_) = read else {
+        return false;
+    };
+    true
+}
+
+fn statement_reads(table: &[i32], sections: Sections, at: usize) -> bool
+    ensures { λ r. ⌜ r ≡ statementReads (now (table .entry)) sections at ⌝ }
+{
+    let read = read_statement(table, sections, at);
+    let StatementRead::Read(_) = read else {
+        return false;
+    };
+    true
+}
+
+// The lowest object whose length is wrong, else their number.
+fn lowest_object(table: &[i32], sections: Sections) -> usize
+    ensures { λ r. ⌜ r ≡ lowestObject (now (table .entry)) sections ⌝ }
+{
+    let n = sections.objects;
+    let mut i = 0;
+    while i < n {
+        if !object_right(table, sections, i) {
+            return i;
+        }
+        i += 1;
+    }
+    i
+}
+
+fn lowest_variable(table: &[i32], sections: Sections) -> usize
+    ensures { λ r. ⌜ r ≡ lowestVariable (now (table .entry)) sections ⌝ }
+{
+    let n = sections.variables;
+    let mut i = 0;
+    while i < n {
+        if !variable_reads(table, sections, i) {
+            return i;
+        }
+        i += 1;
+    }
+    i
+}
+
+fn lowest_statement(table: &[i32], sections: Sections) -> usize
+    ensures { λ r. ⌜ r ≡ lowestStatement (now (table .entry)) sections ⌝ }
+{
+    let n = sections.statements;
+    let mut i = 0;
+    while i < n {
+        if !statement_reads(table, sections, i) {
+            return i;
+        }
+        i += 1;
+    }
+    i
+}
+
+// Causes 3 to 5.
+fn items_form(table: &[i32], sections: Sections) -> Form
+    ensures { λ r. ⌜ r ≡ itemsForm (now (table .entry)) sections ⌝ }
+{
+    let object = lowest_object(table, sections);
+    if object < sections.objects {
+        return Form::Refused(Refusal::ObjectLength(object));
+    }
+    let variable = lowest_variable(table, sections);
+    if variable < sections.variables {
+        return Form::Refused(Refusal::VariableRecord(variable));
+    }
+    let statement = lowest_statement(table, sections);
+    if statement < sections.statements {
+        return Form::Refused(Refusal::StatementRecord(statement));
+    }
+    Form::WellFormed(sections)
+}
+
+// The first of the causes 1 to 5, in this order, each with its lowest place; else the sections.
+pub fn read_form(table: &[i32]) -> Form
+    ensures { λ r. ⌜ r ≡ formOf (now (table .entry)) ⌝ }
+{
+    if !length_right(table) {
+        return Form::Refused(Refusal::Length);
+    }
+    let sections = sections_of(table);
+    if !directory_right(table, sections) {
+        return Form::Refused(Refusal::Directory);
+    }
+    items_form(table, sections)
 }

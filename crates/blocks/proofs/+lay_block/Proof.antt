@@ -12,7 +12,7 @@ use Rattle.blocks.proofs.lay_block.Reads as lay-block
 use Rattle.blocks.proofs.lay_block.Kinds as lay-block-kinds
 use Rattle.blocks.proofs.+lay_block.Lts-lay_block as lay-block-lts
 use Rattle.blocks.proofs.lay_bundle.Reads as lay-bundle-reads
-use Rattle.table.proofs.read_statement.Reads as read-statement-reads
+use Rattle.statements.proofs.read_statement.Reads as read-statement-reads
 use Rattle.blocks.proofs.+lay_block.{statement}
 use Rattle.blocks.proofs.+lay_block.Tie.{close}
 

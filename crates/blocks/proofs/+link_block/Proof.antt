@@ -7,7 +7,7 @@ use denote.Ref.{now}
 use lib.ListN.{length}
 use borrow.Fn.Kinds.{In}
 use borrow.Fn.PlainCycle.{Measures, is, falls, and}
-use Rattle.table.specs.StatementLaws.{read-counts-if, read-counts-while, read-counts-bundle}
+use Rattle.statements.specs.StatementLaws.{read-counts-if, read-counts-while, read-counts-bundle}
 use Rattle.blocks.specs.Tree.{parse}
 use Rattle.blocks.specs.Flow.{flow, written}
 use Rattle.blocks.specs.FlowLaws.{Kept, Turn, arm, placed, falls as left-falls, room-put, room-if, room-bundle, link-none, link-end, link-unread, link-plain, link-if, link-while, link-bundle}
@@ -19,7 +19,7 @@ use Rattle.blocks.proofs.first_due.Reads as first-due-reads
 use Rattle.blocks.proofs.first_simple.Reads as first-simple-reads
 use Rattle.blocks.proofs.link_bundle.Reads as link-bundle-reads
 use Rattle.blocks.proofs.put_successors.Reads as put-successors-reads
-use Rattle.table.proofs.read_statement.Reads as read-statement-reads
+use Rattle.statements.proofs.read_statement.Reads as read-statement-reads
 use Rattle.blocks.proofs.+link_block.{statement}
 use Rattle.blocks.proofs.+link_block.Tie.{close}
 

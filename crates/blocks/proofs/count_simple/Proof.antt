@@ -4,8 +4,8 @@ use mathlib.Core.Path.{_≡_, sym, ap, _∙_}
 use native.Mathlib.Omega.{arith}
 use borrow.Author.Needs.{needs}
 use lib.ListN.{length}
-use Rattle.table.specs.declared.StatementRead.the-variants.{Read}
-use Rattle.table.specs.StatementLaws.{read-within}
+use Rattle.statements.specs.declared.StatementRead.the-variants.{Read}
+use Rattle.statements.specs.StatementLaws.{read-within}
 use Rattle.blocks.specs.Tree.{simples}
 use Rattle.blocks.specs.FlowLaws.{simples-none, simples-unread, simples-plain, simples-other}
 use Rattle.blocks.proofs.Variants.{not-plain}

@@ -2,8 +2,8 @@
 use mathlib.Core.Path.{_≡_, refl, sym, ap, _∙_}
 use native.Mathlib.Omega.{arith}
 use borrow.Author.Needs.{needs}
-use Rattle.table.specs.declared.StatementRead.the-variants.{Read}
-use Rattle.table.specs.StatementLaws.{read-within}
+use Rattle.statements.specs.declared.StatementRead.the-variants.{Read}
+use Rattle.statements.specs.StatementLaws.{read-within}
 use Rattle.blocks.specs.Layout.{contents, verdict}
 use Rattle.blocks.specs.LayoutLaws.{laid-out, contents-none, contents-unread, contents-plain, contents-other}
 use Rattle.blocks.proofs.Variants.{not-plain}

@@ -19,8 +19,8 @@ use Rattle.effects.proofs.lose.Reads as lose-reads
 use Rattle.checker.proofs.walk.walk_bundle.Reads as walk-bundle-reads
 use Rattle.facts.proofs.FactSet.contradicts.Reads as contradicts-reads
 use Rattle.facts.proofs.FactSet.join.Reads as join-reads
-use Rattle.table.proofs.negated.Reads as negated-reads
-use Rattle.table.proofs.read_statement.Reads as read-statement-reads
+use Rattle.conditions.proofs.negated.Reads as negated-reads
+use Rattle.statements.proofs.read_statement.Reads as read-statement-reads
 use Rattle.checker.proofs.walk.+walk.{statement}
 use Rattle.checker.proofs.walk.+walk.Tie.{close}
 

@@ -3,8 +3,8 @@ use borrow.Author.Needs.{needs}
 use mathlib.Core.Path.{refl, ap, sym, _∙_}
 use borrow.Author.Tests.{not-true, not-false}
 use native.Mathlib.Omega.{arith}
-use Rattle.table.specs.declared.StatementRead.the-variants.{Read}
-use Rattle.table.specs.StatementLaws.{read-within, read-limits}
+use Rattle.statements.specs.declared.StatementRead.the-variants.{Read}
+use Rattle.statements.specs.StatementLaws.{read-within, read-limits}
 use Rattle.effects.specs.FactRulesLaws.{read-ranged}
 use Rattle.checker.specs.BundleLaws.{Held, held-none, held-done, held-unread, held-other, held-contrary, held-access, held-more, applied-facts, applied-effect, applied-short}
 use Rattle.effects.proofs.Variants.{not-plain}

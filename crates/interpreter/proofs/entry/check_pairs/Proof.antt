@@ -4,7 +4,7 @@ use mathlib.Core.Path.{_≡_, sym, ap, _∙_}
 use native.Mathlib.Omega.{arith}
 use borrow.Author.Needs.{needs}
 use borrow.Author.Tests.{not-true, not-false}
-use Rattle.table.specs.declared.Refusal.the-variants.{DirectoryPair}
+use Rattle.refusals.specs.declared.Refusal.the-variants.{DirectoryPair}
 use Rattle.interpreter.specs.Entry.{pairRight, failures}
 use Rattle.interpreter.specs.Entered.{entered}
 use Rattle.interpreter.specs.EntryLaws.{failures-none, failures-first, failures-next}

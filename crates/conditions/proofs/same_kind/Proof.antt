@@ -1,0 +1,14 @@
+use Rattle.conditions.specs.Conditions.{sameKind}
+use Rattle.conditions.proofs.same_kind.Statement.{statement}
+use Rattle.conditions.proofs.same_kind.Tie as tie
+
+pub same-kind-spec : {M : Type 1} → statement M
+unfolding sameKind
+same-kind-spec =
+    tie.close
+    (tie.spec
+    (λ c κs. tt)
+    (λ c κs. tt)
+    (λ c κs. tt)
+    (λ c κs. tt)
+    (λ c. simp (c .names-pointer2 .ensures, c .before .names-pointer .ensures, c .before .before .names-integer2 .ensures, c .before .before .before .names-integer .ensures)))

@@ -1,0 +1,59 @@
+-- What the tests of a condition say.
+use Prim.Native.Nat.{ℕ, _+_}
+use mathlib.Core.Path.{_≡_, refl}
+use mathlib.Core.Bool.{Bool, true, false, _&&_, _||_}
+use mathlib.Core.List.{List}
+use mathlib.Core.Logic.{⊎-elim}
+use lib.IntN.{ℤ}
+use lib.Dec.{eqb}
+use borrow.Author.Tests.{eqb-true}
+use native.Mathlib.Omega.{arith}
+use Rattle.facts.specs.Numbers.{bias, zeroVar}
+use Rattle.words.specs.declared.Fields.{Fields}
+use Rattle.fields.specs.Fields.{plain, pickNumber, literalValue, isZero, isBelow, isLiteral}
+use Rattle.sections.specs.Sections.{namesInteger, namesPointer}
+use Rattle.sections.specs.SectionsLaws.{both}
+use Rattle.sections.specs.NameLaws.{either, below-holds, literal-small, integer-named, pointer-named}
+use Rattle.sections.specs.declared.Sections.{Sections}
+use Rattle.conditions.specs.Conditions.{sameKind, besideLiteral, conditionRight, conditionOf, rightOf, offsetOf}
+use Rattle.conditions.specs.Typed.{Sides, integers, pointers, literal, null, ConditionTyped}
+
+module _ (table : List ℤ) (h : Sections) where
+  same-sides : (v w : ℕ) → sameKind table h v w ≡ true → Sides table h (plain v) (plain w) 0
+  unfolding sameKind
+  same-sides v w e =
+      ⊎-elim
+      (λ (i : (namesInteger table h v && namesInteger table h w) ≡ true).
+      let p = both (namesInteger table h v) (namesInteger table h w) i in integers (integer-named table h v (p .0)) (integer-named table h w (p .1)) refl)
+      (λ (i : (namesPointer table h v && namesPointer table h w) ≡ true).
+      let p = both (namesPointer table h v) (namesPointer table h w) i in pointers (pointer-named table h v (p .0)) (pointer-named table h w (p .1)) refl)
+      (either (namesInteger table h v && namesInteger table h w) (namesPointer table h v && namesPointer table h w) e)
+
+  literal-sides : (v w : ℕ) → besideLiteral table h v w ≡ true → Sides table h (plain v) zeroVar (literalValue w)
+  unfolding besideLiteral literalValue
+  literal-sides v w e =
+      ⊎-elim
+      (λ (i : (namesInteger table h v && isLiteral w) ≡ true).
+      let p = both (namesInteger table h v) (isLiteral w) i in literal (integer-named table h v (p .0)) refl (literal-small w (p .1)))
+      (λ (i : (namesPointer table h v && isZero w) ≡ true).
+      let p = both (namesPointer table h v) (isZero w) i in
+      let z : w ≡ bias = eqb-true w bias (p .1) in null (pointer-named table h v (p .0)) refl (omega arith))
+      (either (namesInteger table h v && isLiteral w) (namesPointer table h v && isZero w) e)
+
+  pub condition-typed : (f : Fields) → conditionRight table h f ≡ true → ConditionTyped table h (conditionOf f)
+  unfolding conditionRight conditionOf rightOf offsetOf
+  condition-typed f e =
+      let p = both (isBelow 6 (f .second)) (isZero (f .third) && sameKind table h (f .first) (f .fourth) || eqb (f .third) (bias + 1) && besideLiteral table h (f .first) (f .fourth)) e in
+      record { relation = below-holds 6 (f .second) (p .0); sides = go (eqb (f .third) bias) refl (p .1) }
+    where
+      go : (b : Bool) → eqb (f .third) bias ≡ b →
+          (b && sameKind table h (f .first) (f .fourth) || eqb (f .third) (bias + 1) && besideLiteral table h (f .first) (f .fourth)) ≡ true →
+          Sides table h (plain (f .first)) (pickNumber b (plain (f .fourth)) zeroVar) (pickNumber b 0 (literalValue (f .fourth)))
+      go true q g =
+          ⊎-elim (λ (s : sameKind table h (f .first) (f .fourth) ≡ true). same-sides (f .first) (f .fourth) s)
+          (λ (s : (eqb (f .third) (bias + 1) && besideLiteral table h (f .first) (f .fourth)) ≡ true).
+          let i : f .third ≡ bias = eqb-true (f .third) bias q in
+          let j : f .third ≡ bias + 1 = eqb-true (f .third) (bias + 1) (both (eqb (f .third) (bias + 1)) (besideLiteral table h (f .first) (f .fourth)) s .0) in
+          absurd (omega arith))
+          (either (sameKind table h (f .first) (f .fourth)) (eqb (f .third) (bias + 1) && besideLiteral table h (f .first) (f .fourth)) g)
+      go false q g = literal-sides (f .first) (f .fourth) (both (eqb (f .third) (bias + 1)) (besideLiteral table h (f .first) (f .fourth)) g .1)

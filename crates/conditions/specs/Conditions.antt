@@ -1,0 +1,37 @@
+-- The condition of a record: "A condition is left variable, relation, form, right".
+use Prim.Native.Nat.{ℕ, _+_}
+use mathlib.Core.Bool.{Bool, _&&_, _||_}
+use mathlib.Core.List.{List}
+use lib.IntN.{ℤ}
+use lib.Dec.{eqb}
+use Rattle.facts.specs.Numbers.{bias, zeroVar}
+use Rattle.words.specs.declared.Fields.{Fields}
+use Rattle.fields.specs.Fields.{plain, pickNumber, literalValue, isZero, isBelow, isLiteral}
+use Rattle.sections.specs.Sections.{namesInteger, namesPointer}
+use Rattle.sections.specs.declared.Sections.{Sections}
+use Rattle.conditions.specs.declared.Condition.{Condition}
+
+module _ (table : List ℤ) (h : Sections) where
+  -- "form 0 a variable of the same kind"
+  unfoldable pub sameKind : ℕ → ℕ → Bool
+  sameKind v w = namesInteger table h v && namesInteger table h w || namesPointer table h v && namesPointer table h w
+
+  -- "form 1 a literal as in kind 1 (only 0 beside a pointer)"
+  unfoldable pub besideLiteral : ℕ → ℕ → Bool
+  besideLiteral v w = namesInteger table h v && isLiteral w || namesPointer table h v && isZero w
+
+  -- "Relations: 0 <, 1 >=, 2 >, 3 <=, 4 ==, 5 !="; "A condition is left variable, relation, form, right": the first four fields.
+  unfoldable pub conditionRight : Fields → Bool
+  conditionRight f =
+      isBelow 6 (f .second) && (isZero (f .third) && sameKind (f .first) (f .fourth) || eqb (f .third) (bias + 1) && besideLiteral (f .first) (f .fourth))
+
+-- The right side of a condition is a variable and an offset: the variable and 0, or zero and the literal.
+unfoldable pub rightOf : ℕ → ℕ → ℕ
+rightOf form w = pickNumber (isZero form) (plain w) zeroVar
+
+unfoldable pub offsetOf : ℕ → ℕ → ℕ
+offsetOf form w = pickNumber (isZero form) 0 (literalValue w)
+
+unfoldable pub conditionOf : Fields → Condition
+conditionOf f =
+    record { left = plain (f .first); relation = plain (f .second); right = rightOf (f .third) (f .fourth); offset = offsetOf (f .third) (f .fourth) }

@@ -1,0 +1,4 @@
+pub mod Conditions
+pub mod Negation
+pub mod Typed
+pub mod ConditionLaws

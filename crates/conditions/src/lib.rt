@@ -1,0 +1,100 @@
+// A condition, which stands in the first four fields of a record: left variable, relation, form, right; and its negation.
+use fields::is_below;
+use fields::is_literal;
+use fields::is_zero;
+use fields::literal_value;
+use fields::plain;
+use sections::Sections;
+use sections::names_integer;
+use sections::names_pointer;
+use words::BIAS;
+use words::Fields;
+ghost use mathlib.Core.Path.{_≡_};
+ghost use Rattle.conditions.specs.Conditions.{sameKind, besideLiteral, conditionRight, rightOf, offsetOf, conditionOf};
+ghost use Rattle.conditions.specs.Negation.{negation, negatedOf};
+
+// left RELATION right + offset. Form 0: right is a variable, offset 0. Form 1: right is 16 (zero), offset the literal.
+pub struct Condition {
+    pub left: usize,
+    pub relation: usize,
+    pub right: usize,
+    pub offset: u64,
+}
+
+// The negation of each relation: < and >=, > and <=, == and !=.
+const NEGATIONS: [usize; 6] = [1, 0, 3, 2, 5, 4];
+
+// Form 0: two variables of one kind.
+fn same_kind(table: &[i32], sections: Sections, v: u64, w: u64) -> bool
+    ensures { λ r. ⌜ r ≡ sameKind (now (table .entry)) sections v w ⌝ }
+{
+    (names_integer(table, sections, v) & names_integer(table, sections, w))
+        | (names_pointer(table, sections, v) & names_pointer(table, sections, w))
+}
+
+// Form 1: a literal beside an integer, only 0 beside a pointer.
+fn beside_literal(table: &[i32], sections: Sections, v: u64, w: u64) -> bool
+    ensures { λ r. ⌜ r ≡ besideLiteral (now (table .entry)) sections v w ⌝ }
+{
+    (names_integer(table, sections, v) & is_literal(w))
+        | (names_pointer(table, sections, v) & is_zero(w))
+}
+
+// A condition stands in the first four fields: left, relation, form, right.
+pub fn condition_right(table: &[i32], sections: Sections, f: Fields) -> bool
+    ensures { λ r. ⌜ r ≡ conditionRight (now (table .entry)) sections f ⌝ }
+{
+    is_below(6, f.second)
+        & ((is_zero(f.third) & same_kind(table, sections, f.first, f.fourth))
+            | ((f.third == BIAS + 1) & beside_literal(table, sections, f.first, f.fourth)))
+}
+
+fn right_of(form: u64, w: u64) -> usize
+    ensures { λ r. ⌜ r ≡ rightOf form w ⌝ }
+{
+    if is_zero(form) {
+        return plain(w);
+    }
+    16
+}
+
+fn offset_of(form: u64, w: u64) -> u64
+    ensures { λ r. ⌜ r ≡ offsetOf form w ⌝ }
+{
+    if is_zero(form) {
+        return 0;
+    }
+    literal_value(w)
+}
+
+pub fn condition_of(f: Fields) -> Condition
+    ensures { λ r. ⌜ r ≡ conditionOf f ⌝ }
+{
+    Condition {
+        left: plain(f.first),
+        relation: plain(f.second),
+        right: right_of(f.third, f.fourth),
+        offset: offset_of(f.third, f.fourth),
+    }
+}
+
+// A number that is no relation has 0.
+fn negation(relation: usize) -> usize
+    ensures { λ r. ⌜ r ≡ negation relation ⌝ }
+{
+    if relation < 6 {
+        return NEGATIONS[relation];
+    }
+    0
+}
+
+pub fn negated(c: Condition) -> Condition
+    ensures { λ r. ⌜ r ≡ negatedOf c ⌝ }
+{
+    Condition {
+        left: c.left,
+        relation: negation(c.relation),
+        right: c.right,
+        offset: c.offset,
+    }
+}

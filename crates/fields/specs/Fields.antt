@@ -1,0 +1,44 @@
+-- What the word of one field is, and what it may be.
+use Prim.Native.Nat.{ℕ, _+_, _-_, _^_}
+use mathlib.Core.Bool.{Bool, true, false, _&&_}
+use lib.Dec.{leb, ltb, eqb}
+use Rattle.facts.specs.Numbers.{bias, zeroVar}
+
+-- A word that is 0 or more, as it is. A negative word, which no field of this sort may be, gives 0.
+abbrev pub plain : ℕ → ℕ
+plain w = w - bias
+
+abbrev pub pickNumber : Bool → ℕ → ℕ → ℕ
+pickNumber true a b = a
+pickNumber false a b = b
+
+-- "an integer variable or -1": a missing integer has the number that stands for zero.
+unfoldable pub indexOf : ℕ → ℕ
+indexOf w = pickNumber (eqb w (bias - 1)) zeroVar (plain w)
+
+-- An unused field is 0.
+abbrev pub isZero : ℕ → Bool
+isZero w = eqb w bias
+
+-- A word of 0 to n - 1.
+unfoldable pub isBelow : ℕ → ℕ → Bool
+isBelow n w = leb bias w && ltb (plain w) n
+
+-- "A count below 0 at an if or while is refusal 5."
+abbrev pub isCount : ℕ → Bool
+isCount w = isBelow (2 ^ 31) w
+
+-- "literal, 0 to 2,147,483,647": one more than the greatest value of a literal.
+abbrev pub literalLimit : ℕ
+literalLimit = 2 ^ 31
+
+unfoldable pub isLiteral : ℕ → Bool
+isLiteral w = isBelow literalLimit w
+
+-- The value of a literal's word.
+unfoldable pub literalValue : ℕ → ℕ
+literalValue w = w - bias
+
+-- "Each k, in ends too, is -65,536 to 65,536."
+unfoldable pub isConstant : ℕ → Bool
+isConstant w = leb (bias - 65536) w && leb w (bias + 65536)

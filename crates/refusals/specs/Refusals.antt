@@ -1,0 +1,52 @@
+-- The paper's number and place of each refusal.
+use Prim.Native.Nat.{ℕ}
+use Rattle.refusals.specs.declared.Refusal.{Refusal}
+use Rattle.refusals.specs.declared.Refusal.the-variants.{Length, Directory, ObjectLength, VariableRecord, StatementRecord, BlockLayout, Contradiction, BoundsNotShown, BundleAccess, MemorySize, DirectoryPair, EntryLengths, EntryValue}
+
+-- "Causes of refusal", the column "No."
+abbrev pub number : Refusal → ℕ
+number Length = 1
+number Directory = 2
+number (ObjectLength o) = 3
+number (VariableRecord v) = 4
+number (StatementRecord s) = 5
+number (BlockLayout s) = 6
+number (Contradiction s) = 7
+number (BoundsNotShown s p) = 8
+number (BundleAccess s) = 9
+number MemorySize = 10
+number (DirectoryPair i) = 10
+number EntryLengths = 11
+number (EntryValue v) = 12
+
+-- The column "Returned": object, variable, statement, pair, or 0.
+abbrev pub place : Refusal → ℕ
+place Length = 0
+place Directory = 0
+place (ObjectLength o) = o
+place (VariableRecord v) = v
+place (StatementRecord s) = s
+place (BlockLayout s) = s
+place (Contradiction s) = s
+place (BoundsNotShown s p) = s
+place (BundleAccess s) = s
+place MemorySize = 0
+place (DirectoryPair i) = i
+place EntryLengths = 0
+place (EntryValue v) = v
+
+-- Refusal 8 also returns "some pointer not shown"; the others return none, for which 0 stands.
+abbrev pub pointer : Refusal → ℕ
+pointer Length = 0
+pointer Directory = 0
+pointer (ObjectLength o) = 0
+pointer (VariableRecord v) = 0
+pointer (StatementRecord s) = 0
+pointer (BlockLayout s) = 0
+pointer (Contradiction s) = 0
+pointer (BoundsNotShown s p) = p
+pointer (BundleAccess s) = 0
+pointer MemorySize = 0
+pointer (DirectoryPair i) = 0
+pointer EntryLengths = 0
+pointer (EntryValue v) = 0

@@ -1,0 +1,7 @@
+use Rattle.sections.specs.Sections.{integerAt}
+use Rattle.sections.proofs.is_integer.Statement.{statement}
+use Rattle.sections.proofs.is_integer.Tie as tie
+
+pub is-integer-spec : {M : Type 1} → statement M
+unfolding integerAt
+is-integer-spec = tie.close (tie.spec (λ c κs. tt) (λ c. simp (c .kind-at .ensures)))

@@ -1,0 +1,49 @@
+-- The sections of a table, and what a word of a record names.
+use Prim.Native.Nat.{ℕ, _+_, _-_, _*_}
+use mathlib.Core.Bool.{Bool, _&&_, _||_}
+use mathlib.Core.List.{List}
+use lib.IntN.{ℤ}
+use lib.Dec.{leb, ltb, eqb}
+use Rattle.facts.specs.Numbers.{bias}
+use Rattle.words.specs.Words.{word}
+use Rattle.fields.specs.Fields.{plain, pickNumber}
+use Rattle.sections.specs.declared.Sections.{Sections}
+
+-- "At most 16" objects, "1 to 16" variables, "at most 1,024" statements.
+unfoldable pub inLimits : Sections → Bool
+inLimits h = leb (h .objects) 16 && leb 1 (h .variables) && leb (h .variables) 16 && leb (h .statements) 1024
+
+-- "Objects: one word each", "Variables: 8 words each", "Statements: 7 words each", the sections one after the other from word 6.
+abbrev pub objectStart : ℕ → ℕ
+objectStart o = 6 + o
+
+abbrev pub variableStart : Sections → ℕ → ℕ
+variableStart h v = 6 + h .objects + 8 * v
+
+abbrev pub statementStart : Sections → ℕ → ℕ
+statementStart h a = 6 + h .objects + 8 * h .variables + 7 * a
+
+-- Whether there is a variable of this number.
+unfoldable pub isVariable : Sections → ℕ → Bool
+isVariable h v = inLimits h && ltb v (h .variables)
+
+-- "Kind (0 integer, 1 array_ptr)": the kind word alone decides. There is no kind 2, which stands for no variable.
+unfoldable pub kindAt : List ℤ → Sections → ℕ → ℕ
+kindAt table h v = pickNumber (isVariable h v) (word table (variableStart h v)) (bias + 2)
+
+unfoldable pub integerAt : List ℤ → Sections → ℕ → Bool
+integerAt table h v = eqb (kindAt table h v) bias
+
+unfoldable pub pointerAt : List ℤ → Sections → ℕ → Bool
+pointerAt table h v = eqb (kindAt table h v) (bias + 1)
+
+-- What a field names.
+unfoldable pub namesInteger : List ℤ → Sections → ℕ → Bool
+namesInteger table h w = leb bias w && integerAt table h (plain w)
+
+unfoldable pub namesPointer : List ℤ → Sections → ℕ → Bool
+namesPointer table h w = leb bias w && pointerAt table h (plain w)
+
+-- "i may be -1"; "an integer variable or -1"
+unfoldable pub namesIndex : List ℤ → Sections → ℕ → Bool
+namesIndex table h w = eqb w (bias - 1) || namesInteger table h w

@@ -1,0 +1,43 @@
+-- Laws of the sections.
+use Prim.Native.Nat.{ℕ, _≤_, _<_}
+use mathlib.Core.Path.{_≡_, refl}
+use mathlib.Core.Bool.{Bool, true, false, _&&_, false≢true}
+use lib.Dec.{leb, ltb}
+use borrow.Author.Tests.{leb-true, ltb-true}
+use Rattle.sections.specs.Sections.{inLimits, isVariable}
+use Rattle.sections.specs.declared.Sections.{Sections}
+
+-- Two tests that hold together.
+pub both : (a b : Bool) → (a && b) ≡ true → (a ≡ true) × (b ≡ true)
+both true b e = (refl, e)
+both false b e = absurd (false≢true e)
+
+pub record Limits (h : Sections) : Type 0 where
+  pub objects : h .objects ≤ 16
+  pub some : 1 ≤ h .variables
+  pub variables : h .variables ≤ 16
+  pub statements : h .statements ≤ 1024
+
+pub limits : (h : Sections) → inLimits h ≡ true → Limits h
+unfolding inLimits
+limits h e =
+    let e₃ = both (leb (h .objects) 16 && leb 1 (h .variables) && leb (h .variables) 16) (leb (h .statements) 1024) e in
+    let e₂ = both (leb (h .objects) 16 && leb 1 (h .variables)) (leb (h .variables) 16) (e₃ .0) in
+    let e₁ = both (leb (h .objects) 16) (leb 1 (h .variables)) (e₂ .0) in
+    record { objects = leb-true _ _ (e₁ .0); some = leb-true _ _ (e₁ .1); variables = leb-true _ _ (e₂ .1); statements = leb-true _ _ (e₃ .1) }
+
+-- An item's number below the size of its section.
+item-limits : (h : Sections) (n i : ℕ) → (inLimits h && ltb i n) ≡ true → Limits h × (i < n)
+item-limits h n i e =
+    let p = both (inLimits h) (ltb i n) e in
+    (limits h (p .0), ltb-true i n (p .1))
+
+pub variable-limits : (h : Sections) (v : ℕ) → isVariable h v ≡ true → Limits h × (v < h .variables)
+unfolding isVariable
+variable-limits h v e = item-limits h (h .variables) v e
+
+pub object-limits : (h : Sections) (o : ℕ) → (inLimits h && ltb o (h .objects)) ≡ true → Limits h × (o < h .objects)
+object-limits h o e = item-limits h (h .objects) o e
+
+pub statement-limits : (h : Sections) (a : ℕ) → (inLimits h && ltb a (h .statements)) ≡ true → Limits h × (a < h .statements)
+statement-limits h a e = item-limits h (h .statements) a e

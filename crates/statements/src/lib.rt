@@ -1,0 +1,94 @@
+// The statements of a table: seven words each, read with every test that cause 5 asks for.
+mod kinds; // kinds.rt: the thirteen kinds of statements, a reader each
+
+use conditions::Condition;
+use kinds::read_kind;
+use sections::Sections;
+use sections::in_limits;
+use words::fields_at;
+ghost use mathlib.Core.Path.{_≡_};
+ghost use Rattle.statements.specs.Statements.{statementAt};
+
+// Kinds 1 to 10, in this order. Literals are plain numbers, constants are biased. A missing index is 16.
+pub enum Simple {
+    Literal {
+        target: usize,
+        value: u64,
+    },
+    AddConstant {
+        target: usize,
+        source: usize,
+        constant: u64,
+    },
+    Arithmetic {
+        target: usize,
+        left: usize,
+        right: usize,
+        operation: usize,
+    },
+    Null {
+        target: usize,
+    },
+    Address {
+        target: usize,
+        object: usize,
+    },
+    PointerOffset {
+        target: usize,
+        source: usize,
+        constant: u64,
+    },
+    PointerIndex {
+        target: usize,
+        source: usize,
+        index: usize,
+    },
+    Load {
+        target: usize,
+        pointer: usize,
+        index: usize,
+        constant: u64,
+    },
+    Store {
+        pointer: usize,
+        index: usize,
+        constant: u64,
+        source: usize,
+    },
+    Check {
+        condition: Condition,
+    },
+}
+
+// The thirteen kinds. A bundle holds kinds 1 to 10 only, so these have a type of their own.
+pub enum Statement {
+    Plain(Simple),
+    If {
+        condition: Condition,
+        then_count: usize,
+        else_count: usize,
+    },
+    While {
+        condition: Condition,
+        count: usize,
+    },
+    Bundle {
+        count: usize,
+    },
+}
+
+pub enum StatementRead {
+    Read(Statement),
+    Unread,
+}
+
+// The statement of a number; one that the sections do not have is unread.
+pub fn read_statement(table: &[i32], sections: Sections, at: usize) -> StatementRead
+    ensures { λ r. ⌜ r ≡ statementAt (now (table .entry)) sections at ⌝ }
+{
+    if in_limits(sections) & (at < sections.statements) {
+        let start = 6 + sections.objects + 8 * sections.variables + 7 * at;
+        return read_kind(table, sections, fields_at(table, start));
+    }
+    StatementRead::Unread
+}

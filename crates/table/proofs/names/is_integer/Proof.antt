@@ -1,7 +1,0 @@
-use Rattle.table.specs.Sections.{integerAt}
-use Rattle.table.proofs.names.is_integer.Statement.{statement}
-use Rattle.table.proofs.names.is_integer.Tie as tie
-
-pub is-integer-spec : {M : Type 1} → statement M
-unfolding integerAt
-is-integer-spec = tie.close (tie.spec (λ c κs. tt) (λ c. simp (c .kind-at .ensures)))

@@ -1,8 +1,0 @@
-use borrow.Author.Needs.{needs}
-use Rattle.table.specs.Sections.{pointerAt}
-use Rattle.table.proofs.names.is_pointer.Statement.{statement}
-use Rattle.table.proofs.names.is_pointer.Tie as tie
-
-pub is-pointer-spec : {M : Type 1} → statement M
-unfolding pointerAt
-is-pointer-spec = tie.close (tie.spec (λ c κs. tt) (λ c. search needs) (λ c. simp (c .kind-at .ensures)))

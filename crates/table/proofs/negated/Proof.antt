@@ -1,7 +1,0 @@
-use Rattle.table.specs.Negation.{negatedOf}
-use Rattle.table.proofs.negated.Statement.{statement}
-use Rattle.table.proofs.negated.Tie as tie
-
-pub negated-spec : {M : Type 1} → statement M
-unfolding negatedOf
-negated-spec = tie.close (tie.spec (λ c κs. tt) (λ c. simp (c .negation .ensures)))

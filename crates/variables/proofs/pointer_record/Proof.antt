@@ -1,0 +1,15 @@
+use borrow.Author.Needs.{needs}
+use Rattle.variables.specs.Variables.{pointerRecord}
+use Rattle.variables.proofs.pointer_record.Statement.{statement}
+use Rattle.variables.proofs.pointer_record.Tie as tie
+
+pub pointer-record-spec : {M : Type 1} → statement M
+unfolding pointerRecord
+pointer-record-spec =
+    tie.close
+    (tie.spec
+    (λ c. search needs)
+    (λ c κs. tt)
+    (λ c κs. tt)
+    (λ c κs. tt)
+    (λ c. simp (c .end-right2 .ensures, c .before .end-right .ensures, c .before .before .is-zero .ensures)))

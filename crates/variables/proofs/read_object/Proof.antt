@@ -1,0 +1,17 @@
+use native.Mathlib.Omega.{arith}
+use Rattle.sections.specs.SectionsLaws.{object-limits}
+use Rattle.variables.specs.Variables.{objectAt}
+use Rattle.variables.proofs.read_object.Statement.{statement}
+use Rattle.variables.proofs.read_object.Tie as tie
+
+pub read-object-spec : {M : Type 1} → statement M
+unfolding objectAt
+read-object-spec =
+    tie.close
+    (tie.spec
+    (λ c κs. tt)
+    (λ c. let l = object-limits _ _ (simp (c .before .before .in-limits .ensures) at (c .if1 .taken)) in omega arith)
+    (λ c κs. tt)
+    (λ c κs. tt)
+    (λ c. simp (c .plain .ensures, c .before .word .ensures, simp (c .before .before .before .before .in-limits .ensures) at (c .before .before .if1 .taken)))
+    (λ c. simp (simp (c .before .before .in-limits .ensures) at (c .if1 .left))))

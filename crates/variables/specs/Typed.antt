@@ -1,0 +1,27 @@
+-- What holds of a variable that was read: what its ends name, and their ranges.
+use Prim.Native.Nat.{ℕ}
+use mathlib.Core.Path.{_≡_}
+use mathlib.Core.Bool.{true}
+use mathlib.Core.List.{List}
+use lib.IntN.{ℤ}
+use Rattle.sections.specs.Sections.{integerAt, pointerAt}
+use Rattle.sections.specs.Typed.{IsPointer, IsIndex, IsSmall}
+use Rattle.sections.specs.declared.Sections.{Sections}
+use Rattle.variables.specs.declared.End.{End}
+use Rattle.variables.specs.declared.Variable.{Variable}
+use Rattle.variables.specs.declared.Variable.the-variants.{Integer, Pointer}
+
+pub record EndTyped (table : List ℤ) (h : Sections) (e : End) : Type 0 where
+  pub pointer : IsPointer table h (e .pointer)
+  pub integer : IsIndex table h (e .integer)
+  pub constant : IsSmall (e .constant)
+
+-- A pointer's record: its kind, and what its ends name.
+pub record PointerTyped (table : List ℤ) (h : Sections) (v : ℕ) (low high : End) : Type 0 where
+  pub kind : pointerAt table h v ≡ true
+  pub lower : EndTyped table h low
+  pub upper : EndTyped table h high
+
+abbrev pub VariableTyped : List ℤ → Sections → ℕ → Variable → Type 0
+VariableTyped table h v Integer = integerAt table h v ≡ true
+VariableTyped table h v (Pointer lower upper) = PointerTyped table h v lower upper

@@ -1,0 +1,94 @@
+-- Laws of the reading of variables.
+use Prim.Native.Nat.{ℕ, _+_, _<_}
+use mathlib.Core.Path.{_≡_, refl, ap, _∙_}
+use mathlib.Core.Bool.{Bool, true, false, _&&_}
+use mathlib.Core.List.{List}
+use lib.IntN.{ℤ}
+use lib.Dec.{eqb}
+use native.Mathlib.Omega.{arith}
+use Rattle.facts.specs.Numbers.{bias}
+use Rattle.fields.specs.Fields.{isZero, isConstant}
+use Rattle.sections.specs.Sections.{isVariable, variableStart, kindAt, integerAt, pointerAt, namesPointer, namesIndex}
+use Rattle.sections.specs.SectionsLaws.{both, Limits, variable-limits}
+use Rattle.sections.specs.NameLaws.{constant-small, pointer-named, index-named}
+use Rattle.sections.specs.declared.Sections.{Sections}
+use Rattle.variables.specs.Variables.{pickVariable, variableWordsAt, endZero, endRight, endOf, integerRecord, pointerRecord, variableOf, variableAt}
+use Rattle.variables.specs.Typed.{EndTyped, PointerTyped, VariableTyped}
+use Rattle.variables.specs.declared.Variable.{Variable}
+use Rattle.variables.specs.declared.Variable.the-variants.{Integer, Pointer}
+use Rattle.variables.specs.declared.VariableRead.{VariableRead}
+use Rattle.variables.specs.declared.VariableRead.the-variants.{Read, Unread}
+use Rattle.variables.specs.declared.EndWords.{EndWords}
+
+module _ (table : List ℤ) (h : Sections) where
+  abbrev TypedRead : ℕ → VariableRead → Type 0
+  TypedRead v (Read x) = VariableTyped table h v x
+  TypedRead v Unread = Unit {0}
+
+  end-typed : (e : EndWords) → endRight table h e ≡ true → EndTyped table h (endOf e)
+  unfolding endRight endOf
+  end-typed e t =
+      let p = both (namesPointer table h (e .pointer) && namesIndex table h (e .integer)) (isConstant (e .constant)) t in
+      let q = both (namesPointer table h (e .pointer)) (namesIndex table h (e .integer)) (p .0) in
+      record { pointer = pointer-named table h (e .pointer) (q .0); integer = index-named table h (e .integer) (q .1); constant = constant-small (e .constant) (p .1) }
+
+  -- The kind word of a variable is the first word of its record.
+  kind-word : (v : ℕ) → isVariable h v ≡ true → kindAt table h v ≡ variableWordsAt table (variableStart h v) .kind
+  unfolding kindAt variableWordsAt
+  kind-word v e = simp e
+
+  integer-kind : (v : ℕ) → isVariable h v ≡ true → integerRecord (variableWordsAt table (variableStart h v)) ≡ true → integerAt table h v ≡ true
+  unfolding integerAt integerRecord
+  integer-kind v e t =
+      let w = variableWordsAt table (variableStart h v) in
+      let p = both (isZero (w .kind) && isZero (w .second) && endZero (w .lower)) (endZero (w .upper)) t in
+      let q = both (isZero (w .kind) && isZero (w .second)) (endZero (w .lower)) (p .0) in
+      ap (λ (k : ℕ). eqb k bias) (kind-word v e) ∙ both (isZero (w .kind)) (isZero (w .second)) (q .0) .0
+
+  pointer-kind : (v : ℕ) → isVariable h v ≡ true → pointerRecord table h (variableWordsAt table (variableStart h v)) ≡ true →
+      PointerTyped table h v (endOf (variableWordsAt table (variableStart h v) .lower)) (endOf (variableWordsAt table (variableStart h v) .upper))
+  unfolding pointerAt pointerRecord
+  pointer-kind v e t =
+      let w = variableWordsAt table (variableStart h v) in
+      let p = both (eqb (w .kind) (bias + 1) && isZero (w .second) && endRight table h (w .lower)) (endRight table h (w .upper)) t in
+      let q = both (eqb (w .kind) (bias + 1) && isZero (w .second)) (endRight table h (w .lower)) (p .0) in
+      record {
+        kind = ap (λ (k : ℕ). eqb k (bias + 1)) (kind-word v e) ∙ both (eqb (w .kind) (bias + 1)) (isZero (w .second)) (q .0) .0;
+        lower = end-typed (w .lower) (q .1);
+        upper = end-typed (w .upper) (p .1);
+      }
+
+  record-typed : (v : ℕ) → isVariable h v ≡ true → TypedRead v (variableOf table h (variableWordsAt table (variableStart h v)))
+  unfolding variableOf
+  record-typed v e =
+      let w = variableWordsAt table (variableStart h v) in
+      go (integerRecord w) (pointerRecord table h w) (integer-kind v e) (pointer-kind v e)
+    where
+      go : (a b : Bool) →
+          (a ≡ true → integerAt table h v ≡ true) →
+          (b ≡ true → PointerTyped table h v (endOf (variableWordsAt table (variableStart h v) .lower)) (endOf (variableWordsAt table (variableStart h v) .upper))) →
+          TypedRead v (pickVariable a (Read Integer) (pickVariable b (Read (Pointer (endOf (variableWordsAt table (variableStart h v) .lower)) (endOf (variableWordsAt table (variableStart h v) .upper)))) Unread))
+      go true b i p = i refl
+      go false true i p = p refl
+      go false false i p = tt
+
+  variable-typed : (v : ℕ) → TypedRead v (variableAt table h v)
+  unfolding variableAt
+  variable-typed v = go (isVariable h v) (record-typed v)
+    where
+      go : (b : Bool) → (b ≡ true → TypedRead v (variableOf table h (variableWordsAt table (variableStart h v)))) →
+          TypedRead v (pickVariable b (variableOf table h (variableWordsAt table (variableStart h v))) Unread)
+      go true k = k refl
+      go false k = tt
+
+-- A variable that was read is an integer, or a pointer whose ends name existing variables of the right kinds with constants in range.
+pub variable-read-typed : (table : List ℤ) (h : Sections) (v : ℕ) (x : Variable) → variableAt table h v ≡ Read x → VariableTyped table h v x
+variable-read-typed table h v x e = rw e at (variable-typed table h v)
+
+pub variable-read-limits : (table : List ℤ) (h : Sections) (v : ℕ) (x : Variable) → variableAt table h v ≡ Read x → Limits h × (v < h .variables)
+unfolding variableAt
+variable-read-limits table h v x e = go (isVariable h v) refl e
+  where
+    go : (b : Bool) → isVariable h v ≡ b → pickVariable b (variableOf table h (variableWordsAt table (variableStart h v))) Unread ≡ Read x → Limits h × (v < h .variables)
+    go true q g = variable-limits h v q
+    go false q g = let z : _≡_ {A = ℕ} 0 1 = cc in absurd (omega arith)

@@ -1,0 +1,58 @@
+-- What the record of a variable reads as, and the length of an object.
+use Prim.Native.Nat.{ℕ, _+_}
+use mathlib.Core.Bool.{Bool, true, false, _&&_}
+use mathlib.Core.List.{List}
+use lib.IntN.{ℤ}
+use lib.Dec.{ltb, eqb}
+use Rattle.facts.specs.Numbers.{bias}
+use Rattle.words.specs.Words.{word}
+use Rattle.fields.specs.Fields.{plain, pickNumber, indexOf, isZero, isConstant}
+use Rattle.sections.specs.Sections.{inLimits, isVariable, objectStart, variableStart, namesPointer, namesIndex}
+use Rattle.sections.specs.declared.Sections.{Sections}
+use Rattle.variables.specs.declared.End.{End}
+use Rattle.variables.specs.declared.Variable.the-variants.{Integer, Pointer}
+use Rattle.variables.specs.declared.VariableRead.{VariableRead}
+use Rattle.variables.specs.declared.VariableRead.the-variants.{Read, Unread}
+use Rattle.variables.specs.declared.EndWords.{EndWords}
+use Rattle.variables.specs.declared.VariableWords.{VariableWords}
+
+abbrev pub pickVariable : Bool → VariableRead → VariableRead → VariableRead
+pickVariable true a b = a
+pickVariable false a b = b
+
+-- "An end is three words."
+unfoldable pub endWordsAt : List ℤ → ℕ → EndWords
+endWordsAt table i = record { pointer = word table i; integer = word table (i + 1); constant = word table (i + 2) }
+
+-- "Kind, a 0, then the lower end and the upper end": eight words.
+unfoldable pub variableWordsAt : List ℤ → ℕ → VariableWords
+variableWordsAt table i = record { kind = word table i; second = word table (i + 1); lower = endWordsAt table (i + 2); upper = endWordsAt table (i + 5) }
+
+-- "an array_ptr variable, an integer variable or -1, a constant k"
+unfoldable pub endRight : List ℤ → Sections → EndWords → Bool
+endRight table h e = namesPointer table h (e .pointer) && namesIndex table h (e .integer) && isConstant (e .constant)
+
+unfoldable pub endZero : EndWords → Bool
+endZero e = isZero (e .pointer) && isZero (e .integer) && isZero (e .constant)
+
+unfoldable pub endOf : EndWords → End
+endOf e = record { pointer = plain (e .pointer); integer = indexOf (e .integer); constant = e .constant }
+
+-- "An integer has zeros after its kind."
+unfoldable pub integerRecord : VariableWords → Bool
+integerRecord w = isZero (w .kind) && isZero (w .second) && endZero (w .lower) && endZero (w .upper)
+
+unfoldable pub pointerRecord : List ℤ → Sections → VariableWords → Bool
+pointerRecord table h w = eqb (w .kind) (bias + 1) && isZero (w .second) && endRight table h (w .lower) && endRight table h (w .upper)
+
+unfoldable pub variableOf : List ℤ → Sections → VariableWords → VariableRead
+variableOf table h w =
+    pickVariable (integerRecord w) (Read Integer) (pickVariable (pointerRecord table h w) (Read (Pointer (endOf (w .lower)) (endOf (w .upper)))) Unread)
+
+-- The variable of a number; a number that no variable has does not read.
+unfoldable pub variableAt : List ℤ → Sections → ℕ → VariableRead
+variableAt table h v = pickVariable (isVariable h v) (variableOf table h (variableWordsAt table (variableStart h v))) Unread
+
+-- "Objects: one word each, its length in cells": 0 for a negative word, and for a number that no object has.
+unfoldable pub objectAt : List ℤ → Sections → ℕ → ℕ
+objectAt table h o = pickNumber (inLimits h && ltb o (h .objects)) (plain (word table (objectStart o))) 0

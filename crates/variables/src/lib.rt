@@ -1,0 +1,147 @@
+// The variables of a table, eight words each, read with every test that cause 4 asks for; and the lengths of the objects.
+use fields::index_of;
+use fields::is_constant;
+use fields::is_zero;
+use fields::plain;
+use sections::Sections;
+use sections::in_limits;
+use sections::names_index;
+use sections::names_pointer;
+use words::BIAS;
+use words::word;
+ghost use mathlib.Core.Path.{_≡_};
+ghost use Prim.Native.Nat.{_<_};
+ghost use Rattle.variables.specs.Variables.{endWordsAt, endRight, endZero, endOf, variableWordsAt, integerRecord, pointerRecord, variableOf, variableAt, objectAt};
+
+// An end of declared bounds: pointer + integer + constant. A missing integer is 16, the number that stands for zero. The constant is biased.
+pub struct End {
+    pub pointer: usize,
+    pub integer: usize,
+    pub constant: u64,
+}
+
+pub enum Variable {
+    Integer,
+    Pointer { lower: End, upper: End },
+}
+
+pub enum VariableRead {
+    Read(Variable),
+    Unread,
+}
+
+// The three words of an end.
+struct EndWords {
+    pointer: u64,
+    integer: u64,
+    constant: u64,
+}
+
+// The eight words of a variable record.
+struct VariableWords {
+    kind: u64,
+    second: u64,
+    lower: EndWords,
+    upper: EndWords,
+}
+
+fn end_words_at(table: &[i32], start: usize) -> EndWords
+    requires { ⌜ start < 65536 ⌝ }
+    ensures { λ r. ⌜ r ≡ endWordsAt (now (table .entry)) start ⌝ }
+{
+    EndWords {
+        pointer: word(table, start),
+        integer: word(table, start + 1),
+        constant: word(table, start + 2),
+    }
+}
+
+fn variable_words_at(table: &[i32], start: usize) -> VariableWords
+    requires { ⌜ start < 65000 ⌝ }
+    ensures { λ r. ⌜ r ≡ variableWordsAt (now (table .entry)) start ⌝ }
+{
+    VariableWords {
+        kind: word(table, start),
+        second: word(table, start + 1),
+        lower: end_words_at(table, start + 2),
+        upper: end_words_at(table, start + 5),
+    }
+}
+
+fn end_right(table: &[i32], sections: Sections, e: EndWords) -> bool
+    ensures { λ r. ⌜ r ≡ endRight (now (table .entry)) sections e ⌝ }
+{
+    names_pointer(table, sections, e.pointer)
+        & names_index(table, sections, e.integer)
+        & is_constant(e.constant)
+}
+
+fn end_zero(e: EndWords) -> bool
+    ensures { λ r. ⌜ r ≡ endZero e ⌝ }
+{
+    is_zero(e.pointer) & is_zero(e.integer) & is_zero(e.constant)
+}
+
+fn end_of(e: EndWords) -> End
+    ensures { λ r. ⌜ r ≡ endOf e ⌝ }
+{
+    End {
+        pointer: plain(e.pointer),
+        integer: index_of(e.integer),
+        constant: e.constant,
+    }
+}
+
+fn integer_record(w: VariableWords) -> bool
+    ensures { λ r. ⌜ r ≡ integerRecord w ⌝ }
+{
+    is_zero(w.kind) & is_zero(w.second) & end_zero(w.lower) & end_zero(w.upper)
+}
+
+fn pointer_record(table: &[i32], sections: Sections, w: VariableWords) -> bool
+    ensures { λ r. ⌜ r ≡ pointerRecord (now (table .entry)) sections w ⌝ }
+{
+    (w.kind == BIAS + 1)
+        & is_zero(w.second)
+        & end_right(table, sections, w.lower)
+        & end_right(table, sections, w.upper)
+}
+
+fn variable_of(table: &[i32], sections: Sections, w: VariableWords) -> VariableRead
+    ensures { λ r. ⌜ r ≡ variableOf (now (table .entry)) sections w ⌝ }
+{
+    if integer_record(w) {
+        return VariableRead::Read(Variable::Integer);
+    }
+    if pointer_record(table, sections, w) {
+        return VariableRead::Read(Variable::Pointer {
+            lower: end_of(w.lower),
+            upper: end_of(w.upper),
+        });
+    }
+    VariableRead::Unread
+}
+
+// The record of a variable; a variable that the sections do not have is unread.
+pub fn read_variable(table: &[i32], sections: Sections, v: usize) -> VariableRead
+    ensures { λ r. ⌜ r ≡ variableAt (now (table .entry)) sections v ⌝ }
+{
+    if in_limits(sections) & (v < sections.variables) {
+        return variable_of(
+            table,
+            sections,
+            variable_words_at(table, 6 + sections.objects + 8 * v),
+        );
+    }
+    VariableRead::Unread
+}
+
+// The length of an object; 0 where its word is negative or there is no such object.
+pub fn read_object(table: &[i32], sections: Sections, o: usize) -> u64
+    ensures { λ r. ⌜ r ≡ objectAt (now (table .entry)) sections o ⌝ }
+{
+    if in_limits(sections) & (o < sections.objects) {
+        return plain(word(table, 6 + o)) as u64;
+    }
+    0
+}

@@ -1,0 +1,71 @@
+// The words of a table as natural numbers, 2^33 more than the signed words. Only `biased` sees a signed word; everything else works on natural numbers.
+ghost use mathlib.Core.Path.{_≡_};
+ghost use Prim.Native.Nat.{_<_, _%_};
+ghost use lib.ListN.{length};
+ghost use Rattle.words.specs.Words.{biased, word, fieldsAt};
+
+// The word 0.
+pub const BIAS: u64 = 8589934592;
+
+// The seven words of a statement record.
+pub struct Fields {
+    pub kind: u64,
+    pub first: u64,
+    pub second: u64,
+    pub third: u64,
+    pub fourth: u64,
+    pub fifth: u64,
+    pub sixth: u64,
+}
+
+fn biased(w: i32) -> u64
+    ensures { λ r. ⌜ r ≡ biased w ⌝ }
+{
+    ((w as i64) + 8589934592) as u64
+}
+
+// The word at an index of the table.
+fn word_within(table: &[i32], i: usize) -> u64
+    requires { ⌜ i < length (now table) ⌝ }
+    ensures { λ r. ⌜ r ≡ word (now (table .entry)) i ⌝ }
+{
+    biased(table[i])
+}
+
+// The word at an index; past the table's end the word 0.
+pub fn word(table: &[i32], i: usize) -> u64
+    ensures { λ r. ⌜ r ≡ word (now (table .entry)) i ⌝ }
+{
+    if i < table.len() {
+        return word_within(table, i);
+    }
+    BIAS
+}
+
+// The seven words from `start` on: one test for all of them where the record lies in the table. No record starts at 65,536 or later; so that no index wraps, `start` is
+// taken modulo 65,536.
+pub fn fields_at(table: &[i32], start: usize) -> Fields
+    ensures { λ r. ⌜ r ≡ fieldsAt (now (table .entry)) (start % 65536) ⌝ }
+{
+    let at = start % 65536;
+    if at + 7 <= table.len() {
+        return Fields {
+            kind: word_within(table, at),
+            first: word_within(table, at + 1),
+            second: word_within(table, at + 2),
+            third: word_within(table, at + 3),
+            fourth: word_within(table, at + 4),
+            fifth: word_within(table, at + 5),
+            sixth: word_within(table, at + 6),
+        };
+    }
+    Fields {
+        kind: word(table, at),
+        first: word(table, at + 1),
+        second: word(table, at + 2),
+        third: word(table, at + 3),
+        fourth: word(table, at + 4),
+        fifth: word(table, at + 5),
+        sixth: word(table, at + 6),
+    }
+}
