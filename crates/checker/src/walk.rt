@@ -9,13 +9,13 @@ use effects::apply;
 use effects::assume;
 use effects::lose;
 use facts::FactSet;
+use reader::read_due;
 use refusals::Refusal;
 use rules::Environment;
 use rules::Verdict;
 use sections::Sections;
 use statements::Statement;
 use statements::StatementRead;
-use statements::read_statement;
 ghost use Prim.Native.Nat.{ℕ, _+_, _^_, _<_};
 ghost use Rattle.blocks.specs.Tree.{simples, parse};
 ghost use Rattle.rules.specs.BoundsRules.{unshown};
@@ -58,7 +58,7 @@ fn walk_bundle(
     let mut at = head + 1;
     let mut left = count;
     while left > 0 {
-        let got = read_statement(table, sections, at);
+        let got = read_due(table, sections, at);
         let StatementRead::Read(statement) = got else {
             return end_bundle(environment, head, facts, known);
         };
@@ -110,7 +110,7 @@ pub(crate) fn walk(
             break;
         }
         left -= 1;
-        let got = read_statement(table, sections, at);
+        let got = read_due(table, sections, at);
         let StatementRead::Read(statement) = got else {
             return Walked {
                 verdict: Verdict::Refused(Refusal::StatementRecord(at)),

@@ -1,10 +1,10 @@
 // The variables that a loop's body assigns are dropped before the loop.
 use facts::FactSet;
+use reader::read_due;
 use sections::Sections;
 use statements::Simple;
 use statements::Statement;
 use statements::StatementRead;
-use statements::read_statement;
 ghost use mathlib.Core.Path.{_≡_};
 ghost use mathlib.Core.Bool.{false};
 ghost use Prim.Native.Nat.{ℕ, _+_, _^_, _<_};
@@ -89,7 +89,7 @@ fn mark_targets(table: &[i32], sections: Sections, first: usize, count: usize) -
     let mut at = first;
     let mut left = count;
     while left > 0 {
-        marks = mark_target(marks, read_statement(table, sections, at));
+        marks = mark_target(marks, read_due(table, sections, at));
         at += 1;
         left -= 1;
     }

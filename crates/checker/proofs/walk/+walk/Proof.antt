@@ -20,7 +20,7 @@ use Rattle.checker.proofs.walk.walk_bundle.Reads as walk-bundle-reads
 use Rattle.facts.proofs.FactSet.contradicts.Reads as contradicts-reads
 use Rattle.facts.proofs.FactSet.join.Reads as join-reads
 use Rattle.conditions.proofs.negated.Reads as negated-reads
-use Rattle.statements.proofs.read_statement.Reads as read-statement-reads
+use Rattle.reader.proofs.read_due.Reads as read-due-reads
 use Rattle.checker.proofs.walk.+walk.{statement}
 use Rattle.checker.proofs.walk.+walk.Tie.{close}
 
@@ -34,7 +34,7 @@ abbrev walk-below : ℕ → In 1 walk-kinds.ps
 walk-below t = and 1 walk-kinds.ps (falls 1 walk-kinds.ps _<_ μ-walk t) walk.Pre
 
 abbrev callees : ℕ → walk-lts.Claims
-callees t = (read-statement-reads.Asked, read-statement-reads.Learnt, contradicts-reads.Asked, contradicts-reads.Learnt, apply-reads.Asked, apply-reads.Learnt, check-effect-reads.Asked, check-effect-reads.Learnt, assume-reads.Asked, assume-reads.Learnt, walk-below t, walk.Post, negated-reads.Asked, negated-reads.Learnt, join-reads.Asked, join-reads.Learnt, lose-reads.Asked, lose-reads.Learnt, walk-bundle-reads.Asked, walk-bundle-reads.Learnt)
+callees t = (read-due-reads.Asked, read-due-reads.Learnt, contradicts-reads.Asked, contradicts-reads.Learnt, apply-reads.Asked, apply-reads.Learnt, check-effect-reads.Asked, check-effect-reads.Learnt, assume-reads.Asked, assume-reads.Learnt, walk-below t, walk.Post, negated-reads.Asked, negated-reads.Learnt, join-reads.Asked, join-reads.Learnt, lose-reads.Asked, lose-reads.Learnt, walk-bundle-reads.Asked, walk-bundle-reads.Learnt)
 
 abbrev Inv : walk-lts.InvT-loop
 Inv table sections environment first end allowed lengths pointers at₀ left₀ facts₀ at left facts = Kept table sections environment end allowed (parse allowed table sections first end) facts₀ at left facts
@@ -51,14 +51,14 @@ turn t d = record {
   so-far = d .before .before .before .before .before .before .before .loop .inv;
   some = d .before .before .before .before .before .before .loop-test .taken;
   within = d .before .before .before .before .before .if1 .left;
-  read = sym (d .before .before .before .before .read-statement .ensures) ∙ d .before .before .got .given .1;
+  read = sym (d .before .before .before .before .read-due .ensures) ∙ d .before .before .got .given .1;
 }
 
 pub +walk-spec : {M : Type 1} → statement M
 +walk-spec = close μ-walk λ t. walk-lts.spec (callees t) (walk-at t) walk.Post Inv μ
     (λ c. kept-none _ _ _ _ _ _ _)
     (λ c. search needs) (λ c κs. search needs) (λ c. search needs) (λ c. search needs)
-    (λ c. kept-unread (c .before .before .before .before .before .loop .inv) (c .before .before .before .before .loop-test .taken) (c .before .before .before .if1 .left) (sym (c .before .before .read-statement .ensures) ∙ c .enum-told .given .1) refl)
+    (λ c. kept-unread (c .before .before .before .before .before .loop .inv) (c .before .before .before .before .loop-test .taken) (c .before .before .before .if1 .left) (sym (c .before .before .read-due .ensures) ∙ c .enum-told .given .1) refl)
     (λ c κs. search needs)
     (λ c. turn-contrary _ (turn t (c .before)) (sym (c .before .contradicts .ensures) ∙ c .if2 .taken) refl)
     (λ c. omega (arith, placed (turn t (c .before))))

@@ -21,5 +21,5 @@ mark-targets-spec =
     Inv-loop μ-loop
     (λ c. (refl, refl))
     (λ c κs. search needs) (λ c κs. search needs) (λ c. search needs) (λ c. search needs) (λ c. search needs)
-    (λ c. let at = c .before .before .before .loop in (at .inv .0 ∙ mark-more _ _ _ _ _ (c .before .before .loop-test .taken) (c .before .read-statement .ensures) (c .mark-target .ensures), search needs))
+    (λ c. let at = c .before .before .before .loop in (at .inv .0 ∙ mark-more _ _ _ _ _ (c .before .before .loop-test .taken) (c .before .read-due .ensures) (c .mark-target .ensures), search needs))
     (λ c. sym (c .before .loop .inv .0 ∙ mark-none _ _ _ _ _ (c .loop-test .left))))
