@@ -1,34 +1,14 @@
-//! The proved implementation, linked as a static library: the only module with unsafe code.
-//!
-//! Nothing checks these declarations against the library's source; they follow `include/mizzengrape.h`.
-
-#![allow(unsafe_code)]
+//! The proved implementation behind the seam, through the wrapper that Rust programs use.
 
 use crate::answer::RunInput;
 use crate::proved::{CheckWords, Implementation, RunWords};
-
-extern "C" {
-    fn mizzengrape_check(table: *const i32, table_len: usize, answer: *mut u32, answer_len: usize) -> bool;
-
-    #[allow(clippy::too_many_arguments)]
-    fn mizzengrape_run(
-        table: *const i32,
-        table_len: usize,
-        directory: *const u32,
-        directory_len: usize,
-        cells: *mut u32,
-        cells_len: usize,
-        values: *mut u32,
-        values_len: usize,
-        origins: *const u32,
-        origins_len: usize,
-        limit: u32,
-        answer: *mut u32,
-        answer_len: usize,
-    ) -> bool;
-}
+use mizzengrape::{Outcome, Refusal, Verdict};
 
 pub struct Proved;
+
+fn refusal_words(refusal: Refusal) -> CheckWords {
+    [refusal.number, refusal.place, refusal.pointer.unwrap_or(0)]
+}
 
 impl Implementation for Proved {
     fn name(&self) -> &'static str {
@@ -36,35 +16,22 @@ impl Implementation for Proved {
     }
 
     fn check(&self, table: &[i32]) -> CheckWords {
-        let mut answer = [0; 3];
-        // SAFETY: each pointer comes with the length of the slice it was taken from, and the library keeps none of them.
-        let answered =
-            unsafe { mizzengrape_check(table.as_ptr(), table.len(), answer.as_mut_ptr(), answer.len()) };
-        assert!(answered, "three words are enough for an answer");
-        answer
+        match mizzengrape::check(table) {
+            Verdict::Accepted => [0; 3],
+            Verdict::Refused(refusal) => refusal_words(refusal),
+        }
     }
 
     fn run(&self, table: &[i32], input: &mut RunInput) -> RunWords {
-        let mut answer = [0; 4];
-        // SAFETY: as above; the slices that are written, `cells`, `values` and `answer`, overlap no other.
-        let answered = unsafe {
-            mizzengrape_run(
-                table.as_ptr(),
-                table.len(),
-                input.directory.as_ptr(),
-                input.directory.len(),
-                input.cells.as_mut_ptr(),
-                input.cells.len(),
-                input.values.as_mut_ptr(),
-                input.values.len(),
-                input.origins.as_ptr(),
-                input.origins.len(),
-                input.allowance,
-                answer.as_mut_ptr(),
-                answer.len(),
-            )
-        };
-        assert!(answered, "four words are enough for an answer");
-        answer
+        let RunInput { directory, cells, values, origins, allowance } = input;
+        match mizzengrape::run(table, directory, cells, values, origins, *allowance) {
+            Outcome::Done { steps } => [0, steps, 0, 0],
+            Outcome::Spent { steps, statement } => [1, steps, statement, 0],
+            Outcome::Stopped { steps, statement, check } => [2, steps, statement, check as u32],
+            Outcome::Refused(refusal) => {
+                let [number, place, pointer] = refusal_words(refusal);
+                [3, number, place, pointer]
+            }
+        }
     }
 }

@@ -13,6 +13,8 @@ mod fast_run;
 mod generate;
 mod linked;
 mod machine;
+#[cfg(test)]
+mod notation;
 mod proved;
 mod rng;
 mod shrink;

@@ -1,6 +1,7 @@
 -- The parts of a line put together, and the verdict on a file.
-use Prim.Native.Nat.{ℕ, _+_, _*_, _/_, _%_, _≤_, _<_}
-use mathlib.Core.Path.{_≡_, refl, _∙_}
+use Prim.Native.Nat.{ℕ, _+_, _*_, _/_, _%_, _≤_, _<_, min}
+use mathlib.Core.Path.{_≡_, refl, ap, subst, _∙_}
+use native.Mathlib.Omega.{arith}
 use mathlib.Core.Bool.{Bool, true, false, _&&_}
 use mathlib.Core.Logic.{_≢_}
 use mathlib.Core.List.{List, [], _∷_, _++_, append-assoc}
@@ -17,9 +18,9 @@ use Rattle.rules.specs.Rules.{refusal}
 use Rattle.rules.specs.Verdict.{faults, Answers}
 use Rattle.rules.specs.declared.Verdict.{Verdict}
 use Rattle.rules.specs.declared.Verdict.the-variants.{Refused}
-use Rattle.files.specs.Text.{textOf, decimal, Grown}
+use Rattle.files.specs.Text.{bytesOf, textOf, decimal, Grown}
 use Rattle.files.specs.Words.{wordAt}
-use Rattle.files.specs.Files.{space, lineFeed, refusedWord, spaced, refusedLine, wordsOf, fileFaults}
+use Rattle.files.specs.Files.{space, lineFeed, refusedWord, spaced, refusedLine, wordsOf, WordsRead, fileFaults}
 use Rattle.files.specs.declared.text.Text.{Text}
 
 -- "refused ", the number, a space, the place.
@@ -28,14 +29,21 @@ started n p = (((([] ++ (refusedWord ++ (space ∷ []))) ++ decimal 20 n) ++ (sp
 
 pub line-of-eight : (r : Refusal) {n p q : ℕ} {t : Text} → n ≡ number r → p ≡ place r → q ≡ pointer r → n ≡ 8
     → Grown [] (((started n p ++ (space ∷ [])) ++ decimal 20 q) ++ (lineFeed ∷ [])) 0 t → textOf t ≡ refusedLine r
-unfolding refusedLine spaced refusedWord
+unfolding refusedLine spaced refusedWord bytesOf
 line-of-eight r {n} {p} {q} en ep eq e g = g .text ∙ rw (← en, ← ep, ← eq, eq-eqb n 8 e) (simp append-assoc)
 
 pub line-of-other : (r : Refusal) {n p : ℕ} {t : Text} → n ≡ number r → p ≡ place r → (n ≡ 8 → ⊥) → Grown [] (started n p ++ (lineFeed ∷ [])) 0 t → textOf t ≡ refusedLine r
-unfolding refusedLine spaced refusedWord
+unfolding refusedLine spaced refusedWord bytesOf
 line-of-other r {n} {p} en ep e g = g .text ∙ rw (← en, ← ep, ne-eqb n 8 e) (simp append-assoc)
 
 -- ---- the verdict on a file
+
+-- The loop over the words has ended.
+pub words-read : {bytes : List ℕ} {old table : List ℤ} {count i : ℕ} → Filled table old (length old) (λ j. wordAt bytes (4 * j)) i → i ≤ count → count ≤ i
+    → count ≡ min (length bytes / 4) (length old) → WordsRead bytes old count table
+words-read {bytes} {old} {table} {count} {i} p h g e =
+    let q : i ≡ count = omega arith in
+    record { many = e; filled = subst (λ (n : ℕ). Filled table old (length old) (λ j. wordAt bytes (4 * j)) n) q p }
 
 and-false : (a : Bool) → (a && false) ≡ false
 and-false true = refl
@@ -54,9 +62,10 @@ pub long-refused : (bytes : List ℕ) → length bytes % 4 ≡ 0 → 7318 < leng
 unfolding fileFaults Answers wordsOf
 long-refused bytes e h = rw (eq-eqb (length bytes % 4) 0 e, faults-long (tabulate (length bytes / 4) (λ i. wordAt bytes (4 * i))) (rw (length-tabulate (length bytes / 4) (λ i. wordAt bytes (4 * i))) h)) refl
 
-pub file-answered : (bytes : List ℕ) {table old : List ℤ} {n i : ℕ} (v : Verdict) → length bytes % 4 ≡ 0 → Filled table old n (λ j. wordAt bytes (4 * j)) i → i ≡ length bytes / 4
-    → Answers (faults (take (length bytes / 4) table)) v → Answers (fileFaults bytes) v
+pub file-answered : (bytes : List ℕ) {table old : List ℤ} {count : ℕ} (v : Verdict) → length bytes % 4 ≡ 0 → length bytes / 4 ≤ length old → WordsRead bytes old count table
+    → Answers (faults (take count table)) v → Answers (fileFaults bytes) v
 unfolding fileFaults wordsOf
-file-answered bytes {table} {i = i} v e p q a =
-    let t : take (length bytes / 4) table ≡ tabulate (length bytes / 4) (λ j. wordAt bytes (4 * j)) = rw q at (p .front) in
+file-answered bytes {table} {count = count} v e h p a =
+    let q : count ≡ length bytes / 4 = omega (arith, p .many) in
+    let t : take count table ≡ tabulate (length bytes / 4) (λ j. wordAt bytes (4 * j)) = p .filled .front ∙ ap (λ (n : ℕ). tabulate n (λ j. wordAt bytes (4 * j))) q in
     rw (eq-eqb (length bytes % 4) 0 e, ← t) a

@@ -1,11 +1,18 @@
 -- Text as a list of bytes.
 use Prim.Native.Nat.{ℕ, zero, suc, _+_, _/_, _%_, _≤_}
+use Prim.Native.Char.{code}
+use Prim.Native.String as string
 use mathlib.Core.Path.{_≡_}
 use mathlib.Core.Bool.{Bool, true, false}
 use mathlib.Core.List.{List, [], _∷_, _++_}
 use lib.Dec.{ltb}
 use lib.ListN.{length, take}
 use Rattle.files.specs.declared.text.Text.{Text}
+
+-- Text in quotes as bytes; a letter's code is its byte.
+unfoldable pub bytesOf : string.String → List ℕ
+bytesOf string.[] = []
+bytesOf (string._∷_ c s) = code c ∷ bytesOf s
 
 abbrev pub textOf : Text → List ℕ
 textOf t = take (t .len) (t .bytes)
@@ -27,4 +34,4 @@ pub record Grown (before more : List ℕ) (len : ℕ) (after : Text) : Type 0 wh
 -- The text `t` is the bytes `line`, and fits its array.
 pub record Line (line : List ℕ) (t : Text) : Type 0 where
   pub text : textOf t ≡ line
-  pub fits : t .len ≤ 80
+  pub fits : t .len ≤ 120

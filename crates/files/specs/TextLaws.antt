@@ -50,7 +50,7 @@ module _ {before : List ℕ} {len d n : ℕ} (h : d ≡ 0 → ⊥) where
     long = omega (arith, k .long, g .long, length-append (decimal (d - 1) (n / 10)) ((48 + n % 10) ∷ []));
   })
 
-pub room : {before : List ℕ} {len d : ℕ} (n : ℕ) {u : Text} → (d ≡ 0 → ⊥) → len + d ≤ 80 → Grown before (decimal (d - 1) n) len u → u .len < 80
+pub room : {before : List ℕ} {len d : ℕ} (n : ℕ) {u : Text} → (d ≡ 0 → ⊥) → len + d ≤ 120 → Grown before (decimal (d - 1) n) len u → u .len < 120
 room {d = d} n h l g = omega (arith, g .long, length-decimal (d - 1) n, some d h)
 
 -- The bytes of a slice, one after the other.

@@ -5,12 +5,35 @@ mod text;
 use refusals::Refusal;
 use rules::Verdict;
 pub use text::Text;
+ghost use mathlib.Core.Path.{_≡_};
+ghost use Prim.Native.Nat.{_/_, min};
 ghost use Rattle.rules.specs.Verdict.{Answers};
 ghost use Rattle.files.specs.Text.{Line};
-ghost use Rattle.files.specs.Files.{fileFaults, lineOf, refusedLine};
+ghost use Rattle.files.specs.Files.{WordsRead, fileFaults, lineOf, refusedLine};
 
 // The largest table, in words.
 const MAX_WORDS: usize = 7318;
+
+// The words of so many bytes, but no more than there is room for.
+fn word_count(size: usize, room: usize) -> usize
+    ensures { λ r. ⌜ r ≡ min (size / 4) room ⌝ }
+{
+    if size / 4 > room {
+        return room;
+    }
+    size / 4
+}
+
+// Puts the words of a file at the front of a table, as many as it has room for, and answers how many. The words behind them stay.
+pub fn read_words(bytes: &[u8], table: &mut [i32]) -> usize
+    ensures { λ r. ⌜ WordsRead (now (bytes .entry)) (now (table .entry)) r (now (table .exit)) ⌝ }
+{
+    let count = word_count(bytes.len(), table.len());
+    for i in 0..count {
+        table[i] = encoding::word_at(bytes, 4 * i);
+    }
+    count
+}
 
 // The verdict on a file.
 pub fn check_file(bytes: &[u8]) -> Verdict
@@ -20,14 +43,11 @@ pub fn check_file(bytes: &[u8]) -> Verdict
     if size % 4 != 0 {
         return Verdict::Refused(Refusal::Length);
     }
-    let count = size / 4;
-    if count > MAX_WORDS {
+    if size / 4 > MAX_WORDS {
         return Verdict::Refused(Refusal::Length);
     }
     let mut table = [0i32; 7318];
-    for i in 0..count {
-        table[i] = encoding::word_at(bytes, 4 * i);
-    }
+    let count = read_words(bytes, &mut table);
     checker::check(&table[..count])
 }
 

@@ -6,7 +6,7 @@ ghost use lib.ListN.{length};
 ghost use Rattle.files.specs.Text.{textOf, decimal, Grown};
 
 pub struct Text {
-    pub bytes: [u8; 80],
+    pub bytes: [u8; 120],
     pub len: usize,
 }
 
@@ -15,14 +15,14 @@ impl Text {
         ensures { λ r. ⌜ Grown [] [] 0 r ⌝ }
     {
         Text {
-            bytes: [0; 80],
+            bytes: [0; 120],
             len: 0,
         }
     }
 
     // One byte more.
     pub fn push(mut self, b: u8) -> Text
-        requires { ⌜ self .len < 80 ⌝ }
+        requires { ⌜ self .len < 120 ⌝ }
         ensures { λ r. ⌜ Grown (textOf self) (b ∷ []) (self .len) r ⌝ }
     {
         let at = self.len;
@@ -33,7 +33,7 @@ impl Text {
 
     // All bytes of a slice.
     pub fn push_all(self, more: &[u8]) -> Text
-        requires { ⌜ self .len + length (now more) ≤ 80 ⌝ }
+        requires { ⌜ self .len + length (now more) ≤ 120 ⌝ }
         ensures { λ r. ⌜ Grown (textOf self) (now (more .entry)) (self .len) r ⌝ }
     {
         let mut text = self;
@@ -47,7 +47,7 @@ impl Text {
 
     // A number in decimal, of at most so many digits.
     fn push_digits(self, n: u64, digits: usize) -> Text
-        requires { ⌜ self .len + digits ≤ 80 ⌝ }
+        requires { ⌜ self .len + digits ≤ 120 ⌝ }
         ensures { λ r. ⌜ Grown (textOf self) (decimal digits n) (self .len) r ⌝ }
     {
         if digits == 0 {
@@ -62,7 +62,7 @@ impl Text {
 
     // A number in decimal: of 64 bits, so of at most 20 digits.
     pub fn push_number(self, n: u64) -> Text
-        requires { ⌜ self .len + 20 ≤ 80 ⌝ }
+        requires { ⌜ self .len + 20 ≤ 120 ⌝ }
         ensures { λ r. ⌜ Grown (textOf self) (decimal 20 n) (self .len) r ⌝ }
     {
         self.push_digits(n, 20)

@@ -1,6 +1,7 @@
 -- `files::refused_line` meets its contract: each call adds its part to the line.
 use native.Mathlib.Omega.{arith}
 use borrow.Author.Needs.{needs}
+use Rattle.files.specs.Text.{bytesOf}
 use Rattle.files.specs.TextLaws.{grown-both, within}
 use Rattle.files.specs.Files.{refusedWord}
 use Rattle.files.specs.FileLaws.{line-of-eight, line-of-other}
@@ -8,7 +9,7 @@ use Rattle.files.proofs.refused_line.Statement.{statement}
 use Rattle.files.proofs.refused_line.Tie as tie
 
 pub refused-line-spec : {M : Type 1} → statement M
-unfolding refusedWord
+unfolding bytesOf refusedWord
 refused-line-spec =
     tie.close
     (tie.spec (λ c κs. search needs) (λ c κs. search needs) (λ c. search needs) (λ c κs. search needs) (λ c. search needs) (λ c κs. search needs)

@@ -2,13 +2,14 @@
 use mathlib.Core.Path.{_≡_, sym, ap, _∙_}
 use native.Mathlib.Omega.{arith}
 use borrow.Author.Needs.{needs}
+use Rattle.files.specs.Text.{bytesOf}
 use Rattle.files.specs.TextLaws.{grown-both}
 use Rattle.files.specs.Files.{acceptedWord, lineOf}
 use Rattle.files.proofs.verdict_line.Statement.{statement}
 use Rattle.files.proofs.verdict_line.Tie as tie
 
 pub verdict-line-spec : {M : Type 1} → statement M
-unfolding acceptedWord lineOf
+unfolding bytesOf acceptedWord lineOf
 verdict-line-spec =
     tie.close
     (tie.spec

@@ -3,7 +3,7 @@
 use std::path::Path;
 
 fn main() {
-    let folder = Path::new(env!("CARGO_MANIFEST_DIR")).join("../target/staticlib");
+    let folder = Path::new(env!("CARGO_MANIFEST_DIR")).join("../../target/staticlib");
     let archive = folder.join("libexports.a");
     println!("cargo:rerun-if-changed={}", archive.display());
     assert!(archive.exists(), "no {}: run `rt staticlib exports` in the repository first", archive.display());

@@ -1,0 +1,95 @@
+// The incident replayed with the blocks touching: rows 1 to 4 of the memory are this laptop's block, rows 5 to 8 the other laptop's, rows 9 to 12 the
+// block that the scorer opens next. The routines for late entries of both clubs stand in data/ as files.
+use libc::STDOUT_FILENO;
+ghost use Prim.Native.Nat.{_≤_};
+ghost use lib.ListN.{length};
+
+const FIRST_ROW: u32 = 1; // of this laptop's block
+
+const OTHER_ROW: usize = 5; // the other laptop's first row
+
+const NEXT_ROW: u32 = 9; // of the block that the scorer opens
+
+const ROWS: u32 = 4; // of each block
+
+const LIMIT: u32 = 1000;
+
+// Prints the verdict on the routine in a file and answers its words.
+fn read_routine(name: &[u8], table: &mut [i32]) -> usize
+    ensures { λ r. ⌜ r ≤ length (now (table .exit)) ⌝ }
+{
+    let file = os::open_read(name);
+    if file < 0 {
+        os::fail(name);
+        return 0;
+    }
+    let mut bytes = io::large_buffer();
+    let size = io::read_full(file, &mut bytes);
+    libc::close(file);
+    console::write_text(files::verdict_line(files::check_file(&bytes[..size])));
+    files::read_words(&bytes[..size], table)
+}
+
+// Runs the routine for one late boat; the values are row pointer, count of rows and boat.
+fn register(table: &[i32], cells: &mut [u32], values: &mut [u32], origins: &[u32])
+    requires { ⌜ 3 ≤ length (now values) ⌝ }
+{
+    let directory = [1, 4, 5, 4, 9, 4];
+    let row = values[0];
+    let boat = values[2];
+    let outcome = interpreter::run(table, &directory, cells, values, origins, LIMIT);
+    console::write_text(report::entry_line(boat, row, outcome));
+}
+
+fn show_first_row(before: u32, after: u32) {
+    console::write_text(report::first_row_line(before, after));
+}
+
+// The entry table, row by row.
+fn show_rows(cells: &[u32])
+    requires { ⌜ 13 ≤ length (now cells) ⌝ }
+{
+    for row in 1usize..13 {
+        console::write_text(report::row_line(row as u32, cells[row]));
+    }
+}
+
+fn first_club() {
+    let mut table = [0i32; 7318];
+    let count = read_routine(b"first_club", &mut table);
+    let mut cells = [0u32; 13];
+    cells[OTHER_ROW] = 201;
+    let mut values = [FIRST_ROW, ROWS, 0];
+    for boat in 101..106 {
+        values[2] = boat;
+        register(&table[..count], &mut cells, &mut values, &[1, 0, 0]);
+    }
+    console::write_text(report::left_line(values[1]));
+    show_first_row(201, cells[OTHER_ROW]);
+    io::write_all(STDOUT_FILENO, b"The scorer opens another block.\n");
+    let mut next = [NEXT_ROW, ROWS, 105];
+    register(&table[..count], &mut cells, &mut next, &[3, 0, 0]);
+    show_rows(&cells);
+}
+
+fn second_club() {
+    let mut table = [0i32; 7318];
+    let count = read_routine(b"second_club", &mut table);
+    let mut cells = [0, 101, 102, 103, 104, 201, 0, 0, 0, 0, 0, 0, 0];
+    let mut values = [FIRST_ROW, ROWS, 105];
+    register(&table[..count], &mut cells, &mut values, &[1, 0, 0]);
+    show_first_row(201, cells[OTHER_ROW]);
+}
+
+fn main() {
+    io::write_all(
+        STDOUT_FILENO,
+        b"First club: row pointer and count of rows are stepped together, in one bundle.\n",
+    );
+    first_club();
+    io::write_all(
+        STDOUT_FILENO,
+        b"Second club: the count is raised before anything allows it, and the block is full.\n",
+    );
+    second_club();
+}

@@ -1,0 +1,17 @@
+-- `report::left_line` meets its contract.
+use borrow.Author.Needs.{needs}
+use Rattle.files.specs.Text.{bytesOf}
+use Rattle.files.specs.TextLaws.{grown-both}
+use Rattle.report.specs.ReportLaws.{full, some-left}
+use Rattle.report.proofs.left_line.Statement.{statement}
+use Rattle.report.proofs.left_line.Tie as tie
+
+pub left-line-spec : {M : Type 1} → statement M
+unfolding bytesOf
+left-line-spec =
+    tie.close
+    (tie.spec
+    (λ c κs. search needs) (λ c. search needs) (λ c κs. search needs)
+    (λ c. full (search needs) (c .before .before .before .if1 .taken) (grown-both (c .before .before .new .ensures) (c .push-all .ensures)))
+    (λ c κs. search needs) (λ c. search needs) (λ c κs. search needs) (λ c κs. search needs)
+    (λ c. some-left (search needs) (c .before .before .before .before .if1 .left) (grown-both (grown-both (c .before .before .before .new2 .ensures) (c .before .put .ensures .0)) (c .push .ensures))))

@@ -1,0 +1,69 @@
+//! The boundary to the static library: the only module with unsafe code.
+//!
+//! Nothing checks these declarations against the library's source; they follow `include/mizzengrape.h`. What its caller has to promise of
+//! each slice holds of every Rust slice: its pointer is not null, also of an empty one, is aligned and has its elements behind it, and what is
+//! borrowed as `&mut` overlaps nothing else.
+
+#![allow(unsafe_code)]
+
+extern "C" {
+    fn mizzengrape_check(table: *const i32, table_len: usize, answer: *mut u32, answer_len: usize) -> bool;
+
+    fn mizzengrape_run(
+        table: *const i32,
+        table_len: usize,
+        directory: *const u32,
+        directory_len: usize,
+        cells: *mut u32,
+        cells_len: usize,
+        values: *mut u32,
+        values_len: usize,
+        origins: *const u32,
+        origins_len: usize,
+        limit: u32,
+        answer: *mut u32,
+        answer_len: usize,
+    ) -> bool;
+}
+
+/// The answer words of a check.
+pub fn check_words(table: &[i32]) -> [u32; 3] {
+    let mut answer = [0; 3];
+    // SAFETY: each pointer comes with the length of the slice it was taken from, and the library keeps none of them.
+    let answered =
+        unsafe { mizzengrape_check(table.as_ptr(), table.len(), answer.as_mut_ptr(), answer.len()) };
+    assert!(answered, "three words are enough for an answer");
+    answer
+}
+
+/// The answer words of a run.
+pub fn run_words(
+    table: &[i32],
+    directory: &[u32],
+    cells: &mut [u32],
+    values: &mut [u32],
+    origins: &[u32],
+    limit: u32,
+) -> [u32; 4] {
+    let mut answer = [0; 4];
+    // SAFETY: as above; the slices that are written, `cells`, `values` and `answer`, overlap no other.
+    let answered = unsafe {
+        mizzengrape_run(
+            table.as_ptr(),
+            table.len(),
+            directory.as_ptr(),
+            directory.len(),
+            cells.as_mut_ptr(),
+            cells.len(),
+            values.as_mut_ptr(),
+            values.len(),
+            origins.as_ptr(),
+            origins.len(),
+            limit,
+            answer.as_mut_ptr(),
+            answer.len(),
+        )
+    };
+    assert!(answered, "four words are enough for an answer");
+    answer
+}

@@ -1,0 +1,124 @@
+//! The proved routine checker and interpreter for Rust programs: `check` and `run` on slices, answers as enums.
+
+mod extern_c;
+
+use std::fmt;
+
+/// Why a routine, or a run of it, is refused.
+#[derive(Clone, Copy, Debug, PartialEq, Eq)]
+pub struct Refusal {
+    /// The paper's number, 1 to 12.
+    pub number: u32,
+    /// Object, variable, statement or pair, by the number; 0 where there is none.
+    pub place: u32,
+    /// For refusal 8 a pointer variable whose declared bounds are not shown there.
+    pub pointer: Option<u32>,
+}
+
+#[derive(Clone, Copy, Debug, PartialEq, Eq)]
+pub enum Verdict {
+    Accepted,
+    Refused(Refusal),
+}
+
+/// The named checks, with the paper's numbers.
+#[derive(Clone, Copy, Debug, PartialEq, Eq)]
+pub enum Check {
+    ConditionFalse = 1,
+    NullAccess = 2,
+    OutOfBounds = 3,
+    NullArithmetic = 4,
+    AddressRange = 5,
+}
+
+#[derive(Clone, Copy, Debug, PartialEq, Eq)]
+pub enum Outcome {
+    Done {
+        steps: u32,
+    },
+    /// The allowance is used and a statement is due.
+    Spent {
+        steps: u32,
+        statement: u32,
+    },
+    Stopped {
+        steps: u32,
+        statement: u32,
+        check: Check,
+    },
+    /// Nothing was begun: no cell and no value is changed.
+    Refused(Refusal),
+}
+
+fn refusal([number, place, pointer]: [u32; 3]) -> Refusal {
+    Refusal { number, place, pointer: (number == 8).then_some(pointer) }
+}
+
+fn check_of(number: u32) -> Check {
+    match number {
+        1 => Check::ConditionFalse,
+        2 => Check::NullAccess,
+        3 => Check::OutOfBounds,
+        4 => Check::NullArithmetic,
+        5 => Check::AddressRange,
+        _ => unreachable!("the library's checks are 1 to 5"),
+    }
+}
+
+/// Checks a routine table.
+pub fn check(table: &[i32]) -> Verdict {
+    match extern_c::check_words(table) {
+        [0, ..] => Verdict::Accepted,
+        words => Verdict::Refused(refusal(words)),
+    }
+}
+
+/// Runs a routine table on lent cells and values, `limit` steps at most. Only these two are written, and by a refusal neither.
+pub fn run(
+    table: &[i32],
+    directory: &[u32],
+    cells: &mut [u32],
+    values: &mut [u32],
+    origins: &[u32],
+    limit: u32,
+) -> Outcome {
+    match extern_c::run_words(table, directory, cells, values, origins, limit) {
+        [0, steps, ..] => Outcome::Done { steps },
+        [1, steps, statement, _] => Outcome::Spent { steps, statement },
+        [2, steps, statement, check] => Outcome::Stopped { steps, statement, check: check_of(check) },
+        [3, number, place, pointer] => Outcome::Refused(refusal([number, place, pointer])),
+        _ => unreachable!("the library's outcomes are 0 to 3"),
+    }
+}
+
+impl fmt::Display for Refusal {
+    fn fmt(&self, f: &mut fmt::Formatter) -> fmt::Result {
+        write!(f, "refused {} {}", self.number, self.place)?;
+        match self.pointer {
+            Some(pointer) => write!(f, " {pointer}"),
+            None => Ok(()),
+        }
+    }
+}
+
+impl fmt::Display for Verdict {
+    fn fmt(&self, f: &mut fmt::Formatter) -> fmt::Result {
+        match self {
+            Verdict::Accepted => write!(f, "accepted"),
+            Verdict::Refused(refusal) => refusal.fmt(f),
+        }
+    }
+}
+
+impl fmt::Display for Outcome {
+    fn fmt(&self, f: &mut fmt::Formatter) -> fmt::Result {
+        match *self {
+            Outcome::Done { steps } => write!(f, "done {steps}"),
+            Outcome::Spent { steps, statement } => write!(f, "spent {steps} {statement}"),
+            Outcome::Stopped { steps, statement, check } => {
+                write!(f, "stopped {steps} {statement} {}", check as u32)
+            }
+            Outcome::Refused(refusal) => refusal.fmt(f),
+        }
+    }
+}

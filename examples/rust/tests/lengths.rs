@@ -1,0 +1,62 @@
+//! Wrong lengths and empty slices: each is refused by its number, and nothing is changed.
+
+use mizzengrape::{check, run, Check, Outcome, Refusal, Verdict};
+
+/// check n > 0, p[0] := x; variables p with count(n), n, x; one object of two cells.
+#[rustfmt::skip]
+const ROUTINE: [i32; 45] = [
+    6, 1, 7, 24, 31, 14, 2, 1, 0, 0, -1, 0, 0, 1, 0, 0, 0, 0, 0, 0, 0, 0, 0, 0, 0, 0, 0, 0, 0, 0, 0,
+    10, 1, 2, 1, 0, 0, 0, 9, 0, -1, 0, 2, 0, 0,
+];
+
+fn refused(number: u32, place: u32) -> Refusal {
+    Refusal { number, place, pointer: None }
+}
+
+#[test]
+fn wrong_tables_are_refused() {
+    assert_eq!(check(&ROUTINE), Verdict::Accepted);
+    assert_eq!(check(&[]), Verdict::Refused(refused(1, 0)));
+    assert_eq!(check(&ROUTINE[..5]), Verdict::Refused(refused(1, 0)));
+    assert_eq!(check(&ROUTINE[..44]), Verdict::Refused(refused(2, 0)));
+    assert_eq!(check(&[0; 7319]), Verdict::Refused(refused(1, 0)));
+}
+
+#[test]
+fn refusal_8_has_its_pointer() {
+    let mut table = ROUTINE;
+    // n := n - 1 in place of the check.
+    table[31..38].copy_from_slice(&[2, 1, 1, -1, 0, 0, 0]);
+    assert_eq!(check(&table), Verdict::Refused(Refusal { number: 8, place: 0, pointer: Some(0) }));
+}
+
+#[test]
+fn runs_end_done_spent_and_stopped() {
+    let mut cells = [0, 0, 0];
+    let mut values = [1, 2, 7];
+    assert_eq!(run(&ROUTINE, &[1, 2], &mut cells, &mut values, &[1, 0, 0], 9), Outcome::Done { steps: 2 });
+    assert_eq!((cells, values), ([0, 7, 0], [1, 2, 7]));
+    let spent = Outcome::Spent { steps: 1, statement: 1 };
+    assert_eq!(run(&ROUTINE, &[1, 2], &mut cells, &mut values, &[1, 0, 0], 1), spent);
+    values = [3, 0, 8];
+    let stopped = Outcome::Stopped { steps: 1, statement: 0, check: Check::ConditionFalse };
+    assert_eq!(run(&ROUTINE, &[1, 2], &mut cells, &mut values, &[1, 0, 0], 9), stopped);
+    assert_eq!((cells, values), ([0, 7, 0], [3, 0, 8]));
+}
+
+#[test]
+fn wrong_lengths_are_refused_and_change_nothing() {
+    let mut cells = [5, 6, 7];
+    let mut values = [1, 2, 9];
+    let not_begun = |number, place| Outcome::Refused(refused(number, place));
+    assert_eq!(run(&[], &[], &mut [], &mut [], &[], 9), not_begun(1, 0));
+    assert_eq!(run(&ROUTINE, &[], &mut cells, &mut values, &[1, 0, 0], 9), not_begun(10, 0));
+    assert_eq!(run(&ROUTINE, &[1, 2, 3], &mut cells, &mut values, &[1, 0, 0], 9), not_begun(10, 0));
+    assert_eq!(run(&ROUTINE, &[1, 2], &mut [], &mut values, &[1, 0, 0], 9), not_begun(10, 0));
+    assert_eq!(run(&ROUTINE, &[1, 2], &mut cells[..2], &mut values, &[1, 0, 0], 9), not_begun(10, 0));
+    assert_eq!(run(&ROUTINE, &[1, 2], &mut cells, &mut [], &[1, 0, 0], 9), not_begun(11, 0));
+    assert_eq!(run(&ROUTINE, &[1, 2], &mut cells, &mut values[..2], &[1, 0, 0], 9), not_begun(11, 0));
+    assert_eq!(run(&ROUTINE, &[1, 2], &mut cells, &mut values, &[], 9), not_begun(11, 0));
+    assert_eq!(run(&ROUTINE, &[1, 2], &mut cells, &mut values, &[2, 0, 0], 9), not_begun(12, 0));
+    assert_eq!((cells, values), ([5, 6, 7], [1, 2, 9]));
+}
