@@ -2,9 +2,3 @@ pub mod Tree
 pub mod TreeLaws
 pub mod Layout
 pub mod LayoutLaws
-pub mod Flow
-pub mod FlowLaws
-pub mod Along
-pub mod Shape
-pub mod ShapeLaws
-pub mod SuccessorLaws

@@ -30,7 +30,7 @@ use Rattle.variables.specs.declared.Variable.the-variants.{Integer, Pointer}
 use Rattle.variables.specs.declared.VariableRead.{VariableRead}
 use Rattle.variables.specs.declared.VariableRead.the-variants.{Read, Unread}
 use Rattle.table.specs.FormLaws.{Formed}
-use Rattle.blocks.specs.Shape.{ReadsLine}
+use Rattle.flow.specs.Shape.{ReadsLine}
 use Rattle.rules.specs.FactRules.{sumInRange, factsAfter}
 use Rattle.rules.specs.BoundsRules.{pickEnd, pickBounds, pickEffect, nothingKnown, declared, known, names, objectLength, forgetEnd, shiftConstant, shiftEnd, forgetBounds, shiftBounds, objectBounds, effectOn, boundsAfter, effect, knownAtMost, boundsShown}
 use Rattle.rules.specs.Rules.{bundleBounds}

@@ -24,8 +24,8 @@ use Rattle.table.specs.Form.{formOf}
 use Rattle.table.specs.FormLaws.{well-formed}
 use Rattle.table.specs.declared.Form.the-variants as form
 use Rattle.blocks.specs.Layout.{layout}
-use Rattle.blocks.specs.Shape.{size, ReadsLine, Reads, targetsFrom}
-use Rattle.blocks.specs.ShapeLaws.{table-laid}
+use Rattle.flow.specs.Shape.{size, ReadsLine, Reads, targetsFrom}
+use Rattle.flow.specs.ShapeLaws.{table-laid}
 use Rattle.blocks.specs.Tree.{Block, nil, plain, branch, loop, bundle, unread, tree}
 use Rattle.rules.specs.FactRules.{conditionFacts, factsAfter, loopFacts}
 use Rattle.rules.specs.BoundsRules.{sameEnd, endAtMost}

@@ -20,7 +20,7 @@ use Rattle.statements.specs.Statements.{statementAt}
 use Rattle.statements.specs.StatementLaws.{read-typed, read-limits, read-counts-if, read-counts-while, read-counts-bundle}
 use Rattle.blocks.specs.Tree.{Block, nil, unread, simples, node, parse}
 use Rattle.blocks.specs.TreeLaws.{parse-none, parse-end, parse-some}
-use Rattle.blocks.specs.Shape.{targetsFrom}
+use Rattle.flow.specs.Shape.{targetsFrom}
 use Rattle.rules.specs.FactRules.{factsAfter, conditionFacts, loopFacts}
 use Rattle.rules.specs.BoundsRules.{isPointer, effect, boundsAfter, unshown}
 use Rattle.rules.specs.Rules.{Fault, also, faultIf, boundsAt, bundleFacts, bundleBounds, bundleFaults, blockFacts, blockFaults}

@@ -28,7 +28,7 @@ use Rattle.statements.specs.Statements.{statementAt}
 use Rattle.statements.specs.Typed.{SimpleTyped}
 use Rattle.statements.specs.StatementLaws.{read-typed, read-limits}
 use Rattle.blocks.specs.Tree.{target}
-use Rattle.blocks.specs.Shape.{targetOf, targetsFrom}
+use Rattle.flow.specs.Shape.{targetOf, targetsFrom}
 use Rattle.rules.specs.FactRules.{pickFacts, equated, positive, differs, relationFacts, conditionFacts, sumInRange, sumFacts, offsetFacts, factsAfter, among, droppedEach, loopFacts}
 use Rattle.rules.specs.BoundsRules.{effect}
 use Rattle.rules.specs.Ranges.{InRange}

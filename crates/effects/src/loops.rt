@@ -9,7 +9,7 @@ ghost use mathlib.Core.Path.{_≡_};
 ghost use mathlib.Core.Bool.{false};
 ghost use Prim.Native.Nat.{ℕ, _+_, _^_, _<_};
 ghost use lib.ListN.{getD};
-ghost use Rattle.blocks.specs.Shape.{targetOf, targetsFrom};
+ghost use Rattle.flow.specs.Shape.{targetOf, targetsFrom};
 ghost use Rattle.rules.specs.FactRules.{droppedEach, loopFacts};
 ghost use Rattle.effects.specs.Applied.{targetNumber, noMarks, marked};
 

@@ -10,7 +10,7 @@ use Rattle.sections.specs.declared.Sections.{Sections}
 use Rattle.statements.specs.Statements.{statementAt}
 use Rattle.statements.specs.declared.Statement.{Statement}
 use Rattle.statements.specs.declared.StatementRead.the-variants.{Read}
-use Rattle.blocks.specs.Shape.{entriesAt}
+use Rattle.flow.specs.Shape.{entriesAt}
 use Rattle.rules.specs.declared.Environment.{Environment}
 use Rattle.interpreter.specs.Machine.{high, Status, going, stopped, stuck, Point, successorsOf, pointAfter}
 use Rattle.interpreter.specs.Checks.{checkOf}

@@ -23,8 +23,8 @@ use Rattle.statements.specs.declared.StatementRead.{StatementRead}
 use Rattle.statements.specs.declared.StatementRead.the-variants.{Read}
 use Rattle.decode.specs.Decode.{decodedAt}
 use Rattle.decode.specs.DecodeLaws.{read-decoded}
-use Rattle.blocks.specs.Flow.{Successors}
-use Rattle.blocks.specs.Shape.{entriesAt}
+use Rattle.flow.specs.Flow.{Successors}
+use Rattle.flow.specs.Shape.{entriesAt}
 use Rattle.rules.specs.declared.Environment.{Environment}
 use Rattle.interpreter.specs.Machine.{low, high, address, inOrigin, conditionHolds, Failing, none, fails, failing, Status, going, stopped, stuck, Point, Memory, Performed, done, no-step, stepIf, performed, memoryOf, afterChecks, branched, statementStep, stepIfDue, nextPoint, pointAfter}
 use Rattle.interpreter.specs.Bare.{valuesAfter, cellsAfter, stepUnless, changedUnless, Move, move, simpleMove, statementMove, bareMove, Result, result, pickResult, follow, bareRun, InCells, InsideSimple, Inside, Ready, IfTrue, Onward, SafeRun}

@@ -18,8 +18,8 @@ use Rattle.statements.specs.declared.Statement.the-variants.{Plain, If, While, 
 use Rattle.statements.specs.declared.StatementRead.the-variants.{Read}
 use Rattle.decode.specs.Decode.{decodedAt}
 use Rattle.variables.specs.declared.End.{End}
-use Rattle.blocks.specs.Flow.{Successors}
-use Rattle.blocks.specs.Shape.{entriesAt}
+use Rattle.flow.specs.Flow.{Successors}
+use Rattle.flow.specs.Shape.{entriesAt}
 use Rattle.rules.specs.declared.KnownEnd.the-variants.{Known}
 use Rattle.rules.specs.declared.Bounds.{Bounds}
 use Rattle.rules.specs.declared.Environment.{Environment}

@@ -19,8 +19,8 @@ use Rattle.statements.specs.declared.Simple.the-variants.{Literal, AddConstant,
 use Rattle.statements.specs.declared.Statement.the-variants.{Plain, If, While}
 use Rattle.statements.specs.declared.StatementRead.{StatementRead}
 use Rattle.blocks.specs.Tree.{Block, nil, plain, branch, loop, bundle, unread, target, targets, assigned}
-use Rattle.blocks.specs.Flow.{Successors, successors, entry, lead}
-use Rattle.blocks.specs.Shape.{size, targetsFrom}
+use Rattle.flow.specs.Flow.{Successors, successors, entry, lead}
+use Rattle.flow.specs.Shape.{size, targetsFrom}
 use Rattle.rules.specs.FactRules.{factsAfter, conditionFacts, loopFacts}
 use Rattle.rules.specs.FactsTrue.{Agree, among-left, among-right, loop-facts-hold}
 use Rattle.rules.specs.BoundsRules.{isPointer, declared, known, effect, boundsAfter, accessShown, unshown}

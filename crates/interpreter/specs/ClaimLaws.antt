@@ -17,7 +17,7 @@ use Rattle.table.specs.Form.{pickForm, lengthRight, directoryRight, sectionsOf,
 use Rattle.table.specs.FormLaws.{well-formed}
 use Rattle.table.specs.declared.Form.{Form}
 use Rattle.table.specs.declared.Form.the-variants.{WellFormed, Refused}
-use Rattle.blocks.specs.Flow.{tableFlow, written, Written}
+use Rattle.flow.specs.Flow.{tableFlow, written, Written}
 use Rattle.rules.specs.EnvironmentLaws.{environment-declares}
 use Rattle.checker.specs.VerdictLaws.{clear, faults-clear}
 use Rattle.rules.specs.Rules.{Fault, refusal, notShown, also}

@@ -15,7 +15,7 @@ use Rattle.statements.specs.declared.Statement.the-variants.{Plain, If, While, 
 use Rattle.statements.specs.declared.StatementRead.{StatementRead}
 use Rattle.statements.specs.declared.StatementRead.the-variants.{Read, Unread}
 use Rattle.variables.specs.declared.End.{End}
-use Rattle.blocks.specs.Flow.{Successors, successors, tableFlow, tableEntry}
+use Rattle.flow.specs.Flow.{Successors, successors, tableFlow, tableEntry}
 use Rattle.rules.specs.BoundsRules.{declared}
 use Rattle.rules.specs.declared.KnownEnd.{KnownEnd}
 use Rattle.rules.specs.declared.KnownEnd.the-variants.{Known, Unknown}

@@ -14,9 +14,9 @@ use Rattle.statements.specs.declared.Simple.{Simple}
 use Rattle.statements.specs.declared.Statement.the-variants.{Plain, If, While, Bundle}
 use Rattle.statements.specs.declared.StatementRead.the-variants.{Read}
 use Rattle.blocks.specs.Tree.{Block, nil, plain, branch, loop, bundle, unread, assigned}
-use Rattle.blocks.specs.Flow.{Successors, successors, entry, lead}
-use Rattle.blocks.specs.Shape.{size, Numbered, Formed, ReadsLine, Reads, RightLine, Right, targetsFrom}
-use Rattle.blocks.specs.ShapeLaws.{body-targets}
+use Rattle.flow.specs.Flow.{Successors, successors, entry, lead}
+use Rattle.flow.specs.Shape.{size, Numbered, Formed, ReadsLine, Reads, RightLine, Right, targetsFrom}
+use Rattle.flow.specs.ShapeLaws.{body-targets}
 use Rattle.rules.specs.FactRules.{factsAfter, conditionFacts, loopFacts}
 use Rattle.rules.specs.FactsTrue.{Agree}
 use Rattle.rules.specs.BoundsRules.{effect, boundsAfter}

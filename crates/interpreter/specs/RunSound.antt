@@ -23,9 +23,9 @@ use Rattle.table.specs.Form.{formOf}
 use Rattle.table.specs.FormLaws.{well-formed}
 use Rattle.table.specs.declared.Form.the-variants.{WellFormed}
 use Rattle.blocks.specs.Tree.{tree, assigned}
-use Rattle.blocks.specs.Flow.{successors, tableEntry}
-use Rattle.blocks.specs.ShapeLaws.{table-laid}
-use Rattle.blocks.specs.SuccessorLaws.{flow-right}
+use Rattle.flow.specs.Flow.{successors, tableEntry}
+use Rattle.flow.specs.ShapeLaws.{table-laid}
+use Rattle.flow.specs.SuccessorLaws.{flow-right}
 use Rattle.rules.specs.FactsTrue.{Agree}
 use Rattle.rules.specs.BoundsRules.{isPointer, declared}
 use Rattle.rules.specs.EnvironmentLaws.{Declares, environment-declares}

@@ -19,8 +19,8 @@ use Rattle.statements.specs.declared.Statement.{Statement}
 use Rattle.statements.specs.declared.Statement.the-variants.{Plain, If, While, Bundle}
 use Rattle.statements.specs.declared.StatementRead.the-variants.{Read}
 use Rattle.blocks.specs.Tree.{Block, nil, plain, branch, loop, bundle, unread}
-use Rattle.blocks.specs.Flow.{Successors, entry}
-use Rattle.blocks.specs.Shape.{size, Numbered}
+use Rattle.flow.specs.Flow.{Successors, entry}
+use Rattle.flow.specs.Shape.{size, Numbered}
 use Rattle.rules.specs.FactRules.{factsAfter, conditionFacts}
 use Rattle.rules.specs.FactsTrue.{neither, nor}
 use Rattle.rules.specs.BoundsRules.{effect, boundsAfter, accessShown}

@@ -17,9 +17,9 @@ use Rattle.sections.specs.declared.Sections.{Sections}
 use Rattle.table.specs.FormLaws.{Formed}
 use Rattle.blocks.specs.Tree.{tree}
 use Rattle.blocks.specs.Layout.{layout}
-use Rattle.blocks.specs.Flow.{successors, tableFlow, tableEntry, written}
-use Rattle.blocks.specs.FlowLaws.{begins, length-written}
-use Rattle.blocks.specs.SuccessorLaws.{written-at}
+use Rattle.flow.specs.Flow.{successors, tableFlow, tableEntry, written}
+use Rattle.flow.specs.FlowLaws.{begins, length-written}
+use Rattle.flow.specs.SuccessorLaws.{written-at}
 use Rattle.rules.specs.BoundsRules.{isPointer, objectLength}
 use Rattle.rules.specs.Verdict.{environmentOf}
 use Rattle.rules.specs.declared.Environment.{Environment}

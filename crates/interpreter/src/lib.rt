@@ -7,10 +7,10 @@ mod entry; // entry.rt: causes 10 to 12
 mod numbers; // numbers.rt: values, sums and conditions
 mod resume; // resume.rt: the run up to a limit
 
-use blocks::write_successors;
 use checker::check;
 use ends::lay_ends;
 use entry::enter;
+use flow::write_successors;
 use refusals::Refusal;
 use resume::resume;
 use rules::Verdict;

@@ -32,7 +32,7 @@ use Rattle.statements.specs.declared.Simple.the-variants.{Literal, AddConstant,
 use Rattle.statements.specs.declared.Statement.the-variants.{Plain, If, While, Bundle}
 use Rattle.statements.specs.declared.StatementRead.{StatementRead}
 use Rattle.statements.specs.declared.StatementRead.the-variants.{Read, Unread}
-use Rattle.blocks.specs.Shape.{targetOf, targetsFrom}
+use Rattle.flow.specs.Shape.{targetOf, targetsFrom}
 use Rattle.blocks.specs.Tree.{target}
 use Rattle.rules.specs.FactRules.{pickFacts, equated, positive, differs, relationFacts, conditionFacts, sumInRange, sumFacts, offsetFacts, factsAfter, among, droppedEach, loopFacts}
 use Rattle.rules.specs.BoundsRules.{isPointer}

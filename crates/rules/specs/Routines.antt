@@ -13,7 +13,7 @@ use Rattle.statements.specs.Statements.{unusedFrom, literalRead, addConstantRea
 use Rattle.variables.specs.Variables.{endWordsAt, variableWordsAt, endRight, endZero, endOf, integerRecord, pointerRecord, variableOf, variableAt, objectAt}
 use Rattle.table.specs.Form.{lengthRight, isNumber, sectionsOf, directoryRight, objectRight, variableReads, statementReads, lowestFrom, lowestObject, lowestVariable, lowestStatement, itemsForm, formOf}
 use Rattle.blocks.specs.Layout.{also, when, contents, bundleLayout, blockLayout, layout, verdict}
-use Rattle.blocks.specs.Shape.{size, targetsFrom}
+use Rattle.flow.specs.Shape.{size, targetsFrom}
 use Rattle.blocks.specs.Tree.{simples, parse, tree, targets, assigned}
 use Rattle.rules.specs.BoundsRules.{forgetEnd, shiftConstant, shiftEnd, forgetBounds, shiftBounds, objectBounds, effectOn, boundsAfter, effect, endAtMost, knownAtMost, boundsShown, unshownFrom, unshown, accessShown}
 use Rattle.rules.specs.FactRules.{equated, positive, differs, relationFacts, conditionFacts, sumInRange, sumFacts, offsetFacts, factsAfter, among, droppedEach, loopFacts}

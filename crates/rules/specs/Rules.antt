@@ -11,7 +11,7 @@ use Rattle.sections.specs.declared.Sections.{Sections}
 use Rattle.conditions.specs.Negation.{negatedOf}
 use Rattle.statements.specs.declared.Simple.{Simple}
 use Rattle.blocks.specs.Tree.{Block, nil, plain, branch, loop, bundle, unread}
-use Rattle.blocks.specs.Shape.{targetsFrom}
+use Rattle.flow.specs.Shape.{targetsFrom}
 use Rattle.rules.specs.FactRules.{factsAfter, conditionFacts, loopFacts}
 use Rattle.rules.specs.BoundsRules.{isPointer, effect, boundsAfter, unshown, accessShown}
 use Rattle.rules.specs.declared.Bounds.{Bounds}

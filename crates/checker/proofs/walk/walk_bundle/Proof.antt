@@ -7,7 +7,7 @@ use Rattle.statements.specs.declared.StatementRead.the-variants.{Read}
 use Rattle.statements.specs.StatementLaws.{read-within, read-limits}
 use Rattle.effects.specs.FactRulesLaws.{read-ranged}
 use Rattle.checker.specs.BundleLaws.{Held, held-none, held-done, held-unread, held-other, held-contrary, held-access, held-more, applied-facts, applied-effect, applied-short}
-use Rattle.effects.proofs.Variants.{not-plain}
+use Rattle.blocks.proofs.Variants.{not-plain}
 use Rattle.checker.proofs.walk.walk_bundle.Statement.{statement}
 use Rattle.checker.proofs.walk.walk_bundle.Tie as tie
 

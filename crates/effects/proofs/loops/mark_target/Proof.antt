@@ -2,7 +2,7 @@
 use borrow.Author.Needs.{needs}
 use Rattle.effects.specs.Applied.{marked}
 use Rattle.effects.specs.FactRulesLaws.{read-target, read-past, read-other}
-use Rattle.effects.proofs.Variants.{not-plain}
+use Rattle.blocks.proofs.Variants.{not-plain}
 use Rattle.effects.proofs.loops.mark_target.Statement.{statement}
 use Rattle.effects.proofs.loops.mark_target.Tie as tie
 

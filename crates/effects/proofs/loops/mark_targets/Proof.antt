@@ -4,7 +4,7 @@ use Prim.Native.Nat.{_+_}
 use mathlib.Core.Path.{_≡_, refl, sym, _∙_}
 use Rattle.effects.specs.Applied.{noMarks, marked}
 use Rattle.effects.specs.FactRulesLaws.{mark-more, mark-none}
-use Rattle.blocks.specs.Shape.{targetsFrom}
+use Rattle.flow.specs.Shape.{targetsFrom}
 use Rattle.effects.proofs.loops.mark_targets.Statement.{statement}
 use Rattle.effects.proofs.loops.mark_targets.Tie as tie
 

@@ -8,13 +8,13 @@ use lib.ListN.{length, getD, set, length-append, length-set}
 use lib.Seq.{getD-set-same, getD-set-other}
 use Rattle.sections.specs.declared.Sections.{Sections}
 use Rattle.statements.specs.declared.Simple.{Simple}
 use Rattle.blocks.specs.Tree.{Block, nil, plain, branch, loop, bundle, unread, tree}
 use Rattle.blocks.specs.Layout.{layout}
-use Rattle.blocks.specs.Flow.{Successors, successors, entry, lead, line, flow, tableFlow, tableEntry, put, written}
-use Rattle.blocks.specs.FlowLaws.{length-put}
-use Rattle.blocks.specs.Along.{Along, along-left, along-right, along-at, along-getD}
-use Rattle.blocks.specs.Shape.{size, Numbered, RightLine, Right, Bounded, Consecutive, entriesAt}
-use Rattle.blocks.specs.ShapeLaws.{table-laid}
+use Rattle.flow.specs.Flow.{Successors, successors, entry, lead, line, flow, tableFlow, tableEntry, put, written}
+use Rattle.flow.specs.FlowLaws.{length-put}
+use Rattle.flow.specs.Along.{Along, along-left, along-right, along-at, along-getD}
+use Rattle.flow.specs.Shape.{size, Numbered, RightLine, Right, Bounded, Consecutive, entriesAt}
+use Rattle.flow.specs.ShapeLaws.{table-laid}
 
 -- The flow has each statement once, in table order.
 pub length-line : (a n after : ℕ) → length (line a n after) ≡ n

@@ -6,11 +6,11 @@ use borrow.Author.Needs.{needs}
 use lib.ListN.{length}
 use Rattle.statements.specs.declared.StatementRead.the-variants.{Read}
 use Rattle.statements.specs.StatementLaws.{read-within}
 use Rattle.blocks.specs.Tree.{simples}
-use Rattle.blocks.specs.FlowLaws.{simples-none, simples-unread, simples-plain, simples-other}
+use Rattle.flow.specs.FlowLaws.{simples-none, simples-unread, simples-plain, simples-other}
 use Rattle.blocks.proofs.Variants.{not-plain}
-use Rattle.blocks.proofs.count_simple.Statement.{statement}
-use Rattle.blocks.proofs.count_simple.Tie as tie
+use Rattle.flow.proofs.count_simple.Statement.{statement}
+use Rattle.flow.proofs.count_simple.Tie as tie
 
 abbrev Inv-loop : tie.InvT-loop
 Inv-loop table sections first count at₀ left₀ at left =

@@ -8,20 +8,20 @@ use lib.ListN.{length}
 use borrow.Fn.Kinds.{In}
 use borrow.Fn.PlainCycle.{Measures, is, falls, and}
 use Rattle.statements.specs.StatementLaws.{read-counts-if, read-counts-while, read-counts-bundle}
 use Rattle.blocks.specs.Tree.{parse}
-use Rattle.blocks.specs.Flow.{flow, written}
-use Rattle.blocks.specs.FlowLaws.{Kept, Turn, arm, placed, falls as left-falls, room-put, room-if, room-bundle, link-none, link-end, link-unread, link-plain, link-if, link-while, link-bundle}
-use Rattle.blocks.proofs.link_block.Reads as link-block
-use Rattle.blocks.proofs.link_block.Kinds as link-block-kinds
-use Rattle.blocks.proofs.+link_block.Lts-link_block as link-block-lts
-use Rattle.blocks.proofs.count_simple.Reads as count-simple-reads
-use Rattle.blocks.proofs.first_due.Reads as first-due-reads
-use Rattle.blocks.proofs.first_simple.Reads as first-simple-reads
-use Rattle.blocks.proofs.link_bundle.Reads as link-bundle-reads
-use Rattle.blocks.proofs.put_successors.Reads as put-successors-reads
+use Rattle.flow.specs.Flow.{flow, written}
+use Rattle.flow.specs.FlowLaws.{Kept, Turn, arm, placed, falls as left-falls, room-put, room-if, room-bundle, link-none, link-end, link-unread, link-plain, link-if, link-while, link-bundle}
+use Rattle.flow.proofs.link_block.Reads as link-block
+use Rattle.flow.proofs.link_block.Kinds as link-block-kinds
+use Rattle.flow.proofs.+link_block.Lts-link_block as link-block-lts
+use Rattle.flow.proofs.count_simple.Reads as count-simple-reads
+use Rattle.flow.proofs.first_due.Reads as first-due-reads
+use Rattle.flow.proofs.first_simple.Reads as first-simple-reads
+use Rattle.flow.proofs.link_bundle.Reads as link-bundle-reads
+use Rattle.flow.proofs.put_successors.Reads as put-successors-reads
 use Rattle.statements.proofs.read_statement.Reads as read-statement-reads
-use Rattle.blocks.proofs.+link_block.{statement}
-use Rattle.blocks.proofs.+link_block.Tie.{close}
+use Rattle.flow.proofs.+link_block.{statement}
+use Rattle.flow.proofs.+link_block.Tie.{close}
 
 abbrev μ-link-block : Measures 2 link-block-kinds.ps ℕ
 μ-link-block κs a = a .1 .1 .1 .1 .1 .0

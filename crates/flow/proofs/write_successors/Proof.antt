@@ -1,8 +1,8 @@
 use native.Mathlib.Omega.{arith}
 use borrow.Author.Needs.{needs}
-use Rattle.blocks.specs.FlowLaws.{too-short, long-enough}
-use Rattle.blocks.proofs.write_successors.Statement.{statement}
-use Rattle.blocks.proofs.write_successors.Tie as tie
+use Rattle.flow.specs.FlowLaws.{too-short, long-enough}
+use Rattle.flow.proofs.write_successors.Statement.{statement}
+use Rattle.flow.proofs.write_successors.Tie as tie
 
 pub write-successors-spec : {M : Type 1} → statement M
 write-successors-spec =

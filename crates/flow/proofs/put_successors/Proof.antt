@@ -1,8 +1,8 @@
 use mathlib.Core.Path.{refl}
 use borrow.Author.Needs.{needs}
-use Rattle.blocks.specs.Flow.{put}
-use Rattle.blocks.proofs.put_successors.Statement.{statement}
-use Rattle.blocks.proofs.put_successors.Tie as tie
+use Rattle.flow.specs.Flow.{put}
+use Rattle.flow.proofs.put_successors.Statement.{statement}
+use Rattle.flow.proofs.put_successors.Tie as tie
 
 returns : tie.Need-returns
 unfolding put

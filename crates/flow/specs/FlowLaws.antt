@@ -18,9 +18,9 @@ use Rattle.statements.specs.declared.StatementRead.{StatementRead}
 use Rattle.statements.specs.declared.StatementRead.the-variants.{Read, Unread}
 use Rattle.statements.specs.Statements.{statementAt}
 use Rattle.statements.specs.StatementLaws.{read-within}
 use Rattle.blocks.specs.Tree.{Block, plain, branch, loop, bundle, simples, simplesFrom, node, parse, tree}
 use Rattle.blocks.specs.TreeLaws.{parse-none, parse-end, parse-some}
-use Rattle.blocks.specs.Flow.{Successors, successors, entry, Begins, lead, line, flow, tableFlow, put, written, Written}
+use Rattle.flow.specs.Flow.{Successors, successors, entry, Begins, lead, line, flow, tableFlow, put, written, Written}
 
 -- Where a block of a to b - 1 begins.
 pub begins : (l : ℕ) (T : List ℤ) (h : Sections) (a b : ℕ) {after r : ℕ} → Begins l a b after r → r ≡ entry (parse l T h a b) after

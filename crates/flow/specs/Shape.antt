@@ -10,9 +10,9 @@ use Rattle.statements.specs.declared.Statement.the-variants.{Plain, If, While, 
 use Rattle.statements.specs.declared.StatementRead.{StatementRead}
 use Rattle.statements.specs.declared.StatementRead.the-variants.{Read, Unread}
 use Rattle.statements.specs.Statements.{statementAt}
 use Rattle.blocks.specs.Tree.{Block, nil, plain, branch, loop, bundle, unread, target}
 use Rattle.blocks.specs.Layout.{maxDepth, maxBundle}
-use Rattle.blocks.specs.Flow.{Successors, successors, entry, lead}
+use Rattle.flow.specs.Flow.{Successors, successors, entry, lead}
 
 -- How many statements a block has, nested ones and those of bundles too.
 unfoldable pub size : Block → ℕ

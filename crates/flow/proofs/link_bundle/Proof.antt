@@ -4,10 +4,10 @@ use mathlib.Core.Path.{_≡_, refl, sym, ap, _∙_}
 use native.Mathlib.Omega.{arith}
 use borrow.Author.Needs.{needs}
 use lib.ListN.{length}
-use Rattle.blocks.specs.Flow.{line, written}
-use Rattle.blocks.specs.FlowLaws.{line-none, line-some, length-put}
-use Rattle.blocks.proofs.link_bundle.Statement.{statement}
-use Rattle.blocks.proofs.link_bundle.Tie as tie
+use Rattle.flow.specs.Flow.{line, written}
+use Rattle.flow.specs.FlowLaws.{line-none, line-some, length-put}
+use Rattle.flow.proofs.link_bundle.Statement.{statement}
+use Rattle.flow.proofs.link_bundle.Tie as tie
 
 abbrev Inv-loop : tie.InvT-loop
 Inv-loop first count after entries₀ at₀ left₀ entries at left =

@@ -1,0 +1,6 @@
+pub mod Flow
+pub mod FlowLaws
+pub mod Along
+pub mod Shape
+pub mod ShapeLaws
+pub mod SuccessorLaws
