@@ -6,13 +6,13 @@ ghost use Prim.Native.Nat.{min};
 
 // Hands the text to standard output and answers how many bytes that were.
 pub fn write_text(text: Text) -> usize
-    ensures { λ r. ⌜ r ≡ min (text .len) 80 ⌝ }
+    ensures { λ r. ⌜ r ≡ min (text .len) 120 ⌝ }
 {
     let bytes = text.bytes;
     let len = text.len;
-    if 80 < len {
+    if 120 < len {
         io::write_all(STDOUT_FILENO, &bytes);
-        return 80;
+        return 120;
     }
     io::write_all(STDOUT_FILENO, &bytes[..len]);
     len

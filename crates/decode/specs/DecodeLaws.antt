@@ -1,27 +1,137 @@
 -- A record that reads is decoded as the statement that it reads as.
-use Prim.Native.Nat.{ℕ, _^_}
-use mathlib.Core.Path.{_≡_, ap, _∙_}
-use mathlib.Core.Bool.{Bool, true, false, _&&_}
+use Prim.Native.Nat.{ℕ, _+_, _-_, _^_, _≤_, _<_}
+use mathlib.Core.Path.{_≡_, refl, ap, _∙_}
+use mathlib.Core.Bool.{Bool, true, false, _&&_, _||_, false≢true}
 use mathlib.Core.List.{List}
+use mathlib.Core.Logic.{_⊎_, inl, inr, ⊎-elim}
 use lib.IntN.{ℤ}
-use lib.Dec.{ltb, eqb}
+use lib.Dec.{leb, ltb, eqb}
+use borrow.Author.Tests.{leb-true, ltb-true, eqb-true}
 use native.Mathlib.Omega.{arith}
+use Rattle.facts.specs.Numbers.{bias, zeroVar}
 use Rattle.words.specs.Words.{fieldsAt}
 use Rattle.words.specs.declared.Fields.{Fields}
-use Rattle.fields.specs.Fields.{plain, isCount, isBelow, isLiteral, isConstant}
-use Rattle.sections.specs.Sections.{inLimits, statementStart, namesInteger, namesPointer, namesIndex}
+use Rattle.fields.specs.Fields.{plain, pickNumber, indexOf, literalLimit, literalValue, isZero, isCount, isBelow, isLiteral, isConstant}
+use Rattle.sections.specs.Sections.{inLimits, statementStart, integerAt, pointerAt, namesInteger, namesPointer, namesIndex}
+use Rattle.sections.specs.SectionsLaws.{both}
+use Rattle.sections.specs.NameLaws.{either, integer-limits, pointer-limits}
 use Rattle.sections.specs.declared.Sections.{Sections}
-use Rattle.conditions.specs.Conditions.{conditionRight}
+use Rattle.conditions.specs.Conditions.{sameKind, besideLiteral, conditionRight, rightOf, offsetOf, conditionOf}
+use Rattle.conditions.specs.declared.Condition.{Condition}
 use Rattle.statements.specs.Statements.{pickRead, readIf, unusedFrom, literalRead, addConstantRead, arithmeticRead, nullRead, addressRead, pointerOffsetRead, pointerIndexRead, loadRead, storeRead, checkRead, ifRead, whileRead, bundleRead, kindRead, statementAt}
 use Rattle.statements.specs.StatementLaws.{read-limits}
 use Rattle.statements.specs.declared.Statement.{Statement}
 use Rattle.statements.specs.declared.StatementRead.{StatementRead}
 use Rattle.statements.specs.declared.StatementRead.the-variants.{Read, Unread}
-use Rattle.decode.specs.Decode.{pickStatement, decoded, decodeStart, decodedAt}
+use Rattle.decode.specs.Decode.{unsigned, decodedIndex, decodedRight, decodedOffset, decodedCondition, pickStatement, decodedAs, decoded, decodeStart, decodedAt}
+
+-- ---- a field that the readers let pass is its 32 bits
+
+below-unsigned : (n w : ℕ) → n ≤ 2 ^ 32 → isBelow n w ≡ true → unsigned w ≡ plain w
+unfolding isBelow
+below-unsigned n w l e =
+    let p = both (leb bias w) (ltb (plain w) n) e in
+    let a : bias ≤ w = leb-true bias w (p .0) in
+    let b : plain w < n = ltb-true (plain w) n (p .1) in
+    omega arith
+
+literal-unsigned : (w : ℕ) → isLiteral w ≡ true → unsigned w ≡ literalValue w
+unfolding isLiteral literalValue
+literal-unsigned w e = below-unsigned literalLimit w (omega arith) e
+
+zero-unsigned : (w : ℕ) → isZero w ≡ true → unsigned w ≡ literalValue w
+unfolding literalValue
+zero-unsigned w e = let a : w ≡ bias = eqb-true w bias e in omega arith
+
+condition-same : (a b c d x y z u : ℕ) → a ≡ x → b ≡ y → c ≡ z → d ≡ u →
+    _≡_ {A = Condition} (record { left = a; relation = b; right = c; offset = d }) (record { left = x; relation = y; right = z; offset = u })
+condition-same a b c d x y z u p q r s = rw (p, q, r, s)
+
+module _ (table : List ℤ) (h : Sections) where
+  integer-unsigned : (w : ℕ) → namesInteger table h w ≡ true → unsigned w ≡ plain w
+  unfolding namesInteger
+  integer-unsigned w e =
+      let p = both (leb bias w) (integerAt table h (plain w)) e in
+      let a : bias ≤ w = leb-true bias w (p .0) in
+      let l = integer-limits table h (plain w) (p .1) in
+      omega (arith, a, l .1, l .0 .variables)
+
+  pointer-unsigned : (w : ℕ) → namesPointer table h w ≡ true → unsigned w ≡ plain w
+  unfolding namesPointer
+  pointer-unsigned w e =
+      let p = both (leb bias w) (pointerAt table h (plain w)) e in
+      let a : bias ≤ w = leb-true bias w (p .0) in
+      let l = pointer-limits table h (plain w) (p .1) in
+      omega (arith, a, l .1, l .0 .variables)
+
+  -- An object, beside a pointer.
+  object-unsigned : (v w : ℕ) → namesPointer table h v ≡ true → isBelow (h .objects) w ≡ true → unsigned w ≡ plain w
+  unfolding namesPointer
+  object-unsigned v w e i =
+      let l = pointer-limits table h (plain v) (both (leb bias v) (pointerAt table h (plain v)) e .1) in
+      below-unsigned (h .objects) w (omega (arith, l .0 .objects)) i
+
+  index-unsigned : (w : ℕ) → namesIndex table h w ≡ true → decodedIndex w ≡ indexOf w
+  unfolding namesIndex indexOf decodedIndex
+  index-unsigned w e = go (eqb w (bias - 1)) e
+    where
+      go : (b : Bool) → (b || namesInteger table h w) ≡ true → pickNumber b zeroVar (unsigned w) ≡ pickNumber b zeroVar (plain w)
+      go true g = refl
+      go false g = integer-unsigned w g
+
+  same-unsigned : (v w : ℕ) → sameKind table h v w ≡ true → (unsigned v ≡ plain v) × (unsigned w ≡ plain w)
+  unfolding sameKind
+  same-unsigned v w e =
+      ⊎-elim
+      (λ (i : (namesInteger table h v && namesInteger table h w) ≡ true).
+      let p = both (namesInteger table h v) (namesInteger table h w) i in (integer-unsigned v (p .0), integer-unsigned w (p .1)))
+      (λ (i : (namesPointer table h v && namesPointer table h w) ≡ true).
+      let p = both (namesPointer table h v) (namesPointer table h w) i in (pointer-unsigned v (p .0), pointer-unsigned w (p .1)))
+      (either (namesInteger table h v && namesInteger table h w) (namesPointer table h v && namesPointer table h w) e)
+
+  beside-unsigned : (v w : ℕ) → besideLiteral table h v w ≡ true → (unsigned v ≡ plain v) × (unsigned w ≡ literalValue w)
+  unfolding besideLiteral
+  beside-unsigned v w e =
+      ⊎-elim
+      (λ (i : (namesInteger table h v && isLiteral w) ≡ true).
+      let p = both (namesInteger table h v) (isLiteral w) i in (integer-unsigned v (p .0), literal-unsigned w (p .1)))
+      (λ (i : (namesPointer table h v && isZero w) ≡ true).
+      let p = both (namesPointer table h v) (isZero w) i in (pointer-unsigned v (p .0), zero-unsigned w (p .1)))
+      (either (namesInteger table h v && isLiteral w) (namesPointer table h v && isZero w) e)
+
+  -- The left variable, and the right side by its form.
+  sides-unsigned : (form v w : ℕ) → (isZero form && sameKind table h v w || eqb form (bias + 1) && besideLiteral table h v w) ≡ true →
+      (unsigned v ≡ plain v) × (decodedRight form w ≡ rightOf form w) × (decodedOffset form w ≡ offsetOf form w)
+  unfolding decodedRight decodedOffset rightOf offsetOf
+  sides-unsigned form v w e = go (isZero form) (eqb form (bias + 1)) (eqb-true form bias) (eqb-true form (bias + 1)) (either _ _ e)
+    where
+      go : (z l : Bool) → (z ≡ true → form ≡ bias) → (l ≡ true → form ≡ bias + 1) →
+          ((z && sameKind table h v w) ≡ true) ⊎ ((l && besideLiteral table h v w) ≡ true) →
+          (unsigned v ≡ plain v) × (pickNumber z (unsigned w) zeroVar ≡ pickNumber z (plain w) zeroVar) × (pickNumber z 0 (unsigned w) ≡ pickNumber z 0 (literalValue w))
+      go true l p q (inl i) = let s = same-unsigned v w i in (s .0, s .1, refl)
+      go true true p q (inr i) = let a = p refl in let b = q refl in absurd (omega arith)
+      go true false p q (inr i) = absurd (false≢true i)
+      go false l p q (inl i) = absurd (false≢true i)
+      go false true p q (inr i) = let s = beside-unsigned v w i in (s .0, refl, s .1)
+      go false false p q (inr i) = absurd (false≢true i)
+
+  condition-unsigned : (f : Fields) → conditionRight table h f ≡ true → decodedCondition f ≡ conditionOf f
+  unfolding conditionRight decodedCondition conditionOf
+  condition-unsigned f e =
+      let p = both (isBelow 6 (f .second)) (isZero (f .third) && sameKind table h (f .first) (f .fourth) || eqb (f .third) (bias + 1) && besideLiteral table h (f .first) (f .fourth)) e in
+      let s = sides-unsigned (f .third) (f .first) (f .fourth) (p .1) in
+      condition-same _ _ _ _ _ _ _ _ (s .0) (below-unsigned 6 (f .second) (omega arith) (p .0)) (s .1) (s .2)
+
+-- ---- records
 
 read-if : (b : Bool) (s t : Statement) → readIf b s ≡ Read t → s ≡ t
 read-if true s t e = cc
 read-if false s t e = let z : _≡_ {A = ℕ} 0 1 = cc in absurd (omega arith)
+
+-- A record that is read where its tests hold, and decoded as the same then.
+read-as : (b : Bool) (s u t : Statement) → (b ≡ true → u ≡ s) → readIf b s ≡ Read t → u ≡ t
+read-as true s u t g e = g refl ∙ read-if true s t e
+read-as false s u t g e = let z : _≡_ {A = ℕ} 0 1 = cc in absurd (omega arith)
 
 unread : (s t : Statement) → Unread ≡ Read t → s ≡ t
 unread s t e = let z : _≡_ {A = ℕ} 0 1 = cc in absurd (omega arith)
@@ -40,6 +150,21 @@ last : (b : Bool) (r : StatementRead) (s t : Statement) → (r ≡ Read t → s 
 last true r s t f e = f e
 last false r s t f e = unread s t e
 
+-- Tests that hold together.
+both₃ : (a b c : Bool) → (a && b && c) ≡ true → (a ≡ true) × (b ≡ true)
+both₃ a b c e = both a b (both (a && b) c e .0)
+
+both₄ : (a b c d : Bool) → (a && b && c && d) ≡ true → (a ≡ true) × (b ≡ true) × (c ≡ true)
+both₄ a b c d e = let p = both₃ (a && b) c d e in let q = both a b (p .0) in (q .0, q .1, p .1)
+
+both₅ : (a b c d f : Bool) → (a && b && c && d && f) ≡ true → (a ≡ true) × (b ≡ true) × (c ≡ true) × (d ≡ true)
+both₅ a b c d f e = let p = both₄ (a && b) c d f e in let q = both a b (p .0) in (q .0, q .1, p .1, p .2)
+
+-- A kind by which a record reads is its 32 bits.
+known : (b : Bool) (r q : StatementRead) (t : Statement) (A : Type 0) → (b ≡ true → A) → (q ≡ Read t → A) → pickRead b r q ≡ Read t → A
+known true r q t A f g e = f refl
+known false r q t A f g e = g e
+
 module _ (table : List ℤ) (h : Sections) (f : Fields) (t : Statement) where
   abbrev kind : ℕ
   kind = plain (f .kind)
@@ -50,21 +175,42 @@ module _ (table : List ℤ) (h : Sections) (f : Fields) (t : Statement) where
   abbrev pointer : ℕ → Bool
   pointer w = namesPointer table h w
 
-  kind-decoded : kindRead table h f ≡ Read t → decoded f ≡ t
-  unfolding kindRead decoded literalRead addConstantRead arithmeticRead nullRead addressRead pointerOffsetRead pointerIndexRead loadRead storeRead checkRead ifRead whileRead bundleRead
+  kind-is : (n : ℕ) → 1 ≤ n → n ≤ 13 → eqb kind n ≡ true → unsigned (f .kind) ≡ kind
+  kind-is n l u e = let a : kind ≡ n = eqb-true kind n e in omega arith
+
+  kind-unsigned : kindRead table h f ≡ Read t → unsigned (f .kind) ≡ kind
+  unfolding kindRead
+  kind-unsigned =
+      known (eqb kind 1) _ _ t _ (kind-is 1 (omega arith) (omega arith))
+      (known (eqb kind 2) _ _ t _ (kind-is 2 (omega arith) (omega arith))
+      (known (eqb kind 3) _ _ t _ (kind-is 3 (omega arith) (omega arith))
+      (known (eqb kind 4) _ _ t _ (kind-is 4 (omega arith) (omega arith))
+      (known (eqb kind 5) _ _ t _ (kind-is 5 (omega arith) (omega arith))
+      (known (eqb kind 6) _ _ t _ (kind-is 6 (omega arith) (omega arith))
+      (known (eqb kind 7) _ _ t _ (kind-is 7 (omega arith) (omega arith))
+      (known (eqb kind 8) _ _ t _ (kind-is 8 (omega arith) (omega arith))
+      (known (eqb kind 9) _ _ t _ (kind-is 9 (omega arith) (omega arith))
+      (known (eqb kind 10) _ _ t _ (kind-is 10 (omega arith) (omega arith))
+      (known (eqb kind 11) _ _ t _ (kind-is 11 (omega arith) (omega arith))
+      (known (eqb kind 12) _ _ t _ (kind-is 12 (omega arith) (omega arith))
+      (known (eqb kind 13) _ _ t _ (kind-is 13 (omega arith) (omega arith))
+      (λ e. let z : _≡_ {A = ℕ} 0 1 = cc in absurd (omega arith))))))))))))))
+
+  kind-decoded : kindRead table h f ≡ Read t → decodedAs kind f ≡ t
+  unfolding kindRead decodedAs literalRead addConstantRead arithmeticRead nullRead addressRead pointerOffsetRead pointerIndexRead loadRead storeRead checkRead ifRead whileRead bundleRead
   kind-decoded =
-      either-record (eqb kind 1) _ _ _ _ t (read-if (integer (f .first) && isLiteral (f .second) && unusedFrom 3 f) _ t)
-      (either-record (eqb kind 2) _ _ _ _ t (read-if (integer (f .first) && integer (f .second) && isConstant (f .third) && unusedFrom 4 f) _ t)
-      (either-record (eqb kind 3) _ _ _ _ t (read-if (integer (f .first) && integer (f .second) && integer (f .third) && isBelow 3 (f .fourth) && unusedFrom 5 f) _ t)
-      (either-record (eqb kind 4) _ _ _ _ t (read-if (pointer (f .first) && unusedFrom 2 f) _ t)
-      (either-record (eqb kind 5) _ _ _ _ t (read-if (pointer (f .first) && isBelow (h .objects) (f .second) && unusedFrom 3 f) _ t)
-      (either-record (eqb kind 6) _ _ _ _ t (read-if (pointer (f .first) && pointer (f .second) && isConstant (f .third) && unusedFrom 4 f) _ t)
-      (either-record (eqb kind 7) _ _ _ _ t (read-if (pointer (f .first) && pointer (f .second) && integer (f .third) && unusedFrom 4 f) _ t)
-      (either-record (eqb kind 8) _ _ _ _ t (read-if (integer (f .first) && pointer (f .second) && namesIndex table h (f .third) && isConstant (f .fourth) && unusedFrom 5 f) _ t)
-      (either-record (eqb kind 9) _ _ _ _ t (read-if (pointer (f .first) && namesIndex table h (f .second) && isConstant (f .third) && integer (f .fourth) && unusedFrom 5 f) _ t)
-      (either-record (eqb kind 10) _ _ _ _ t (read-if (conditionRight table h f && unusedFrom 5 f) _ t)
-      (either-record (eqb kind 11) _ _ _ _ t (read-if (conditionRight table h f && isCount (f .fifth) && isCount (f .sixth)) _ t)
-      (either-record (eqb kind 12) _ _ _ _ t (read-if (conditionRight table h f && isCount (f .fifth) && unusedFrom 6 f) _ t)
+      either-record (eqb kind 1) _ _ _ _ t (read-as (integer (f .first) && isLiteral (f .second) && unusedFrom 3 f) _ _ t (λ e. let p = both₃ (integer (f .first)) (isLiteral (f .second)) (unusedFrom 3 f) e in rw (integer-unsigned table h (f .first) (p .0), literal-unsigned (f .second) (p .1))))
+      (either-record (eqb kind 2) _ _ _ _ t (read-as (integer (f .first) && integer (f .second) && isConstant (f .third) && unusedFrom 4 f) _ _ t (λ e. let p = both₄ (integer (f .first)) (integer (f .second)) (isConstant (f .third)) (unusedFrom 4 f) e in rw (integer-unsigned table h (f .first) (p .0), integer-unsigned table h (f .second) (p .1))))
+      (either-record (eqb kind 3) _ _ _ _ t (read-as (integer (f .first) && integer (f .second) && integer (f .third) && isBelow 3 (f .fourth) && unusedFrom 5 f) _ _ t (λ e. let p = both₅ (integer (f .first)) (integer (f .second)) (integer (f .third)) (isBelow 3 (f .fourth)) (unusedFrom 5 f) e in rw (integer-unsigned table h (f .first) (p .0), integer-unsigned table h (f .second) (p .1), integer-unsigned table h (f .third) (p .2), below-unsigned 3 (f .fourth) (omega arith) (p .3))))
+      (either-record (eqb kind 4) _ _ _ _ t (read-as (pointer (f .first) && unusedFrom 2 f) _ _ t (λ e. let p = both (pointer (f .first)) (unusedFrom 2 f) e in rw (pointer-unsigned table h (f .first) (p .0))))
+      (either-record (eqb kind 5) _ _ _ _ t (read-as (pointer (f .first) && isBelow (h .objects) (f .second) && unusedFrom 3 f) _ _ t (λ e. let p = both₃ (pointer (f .first)) (isBelow (h .objects) (f .second)) (unusedFrom 3 f) e in rw (pointer-unsigned table h (f .first) (p .0), object-unsigned table h (f .first) (f .second) (p .0) (p .1))))
+      (either-record (eqb kind 6) _ _ _ _ t (read-as (pointer (f .first) && pointer (f .second) && isConstant (f .third) && unusedFrom 4 f) _ _ t (λ e. let p = both₄ (pointer (f .first)) (pointer (f .second)) (isConstant (f .third)) (unusedFrom 4 f) e in rw (pointer-unsigned table h (f .first) (p .0), pointer-unsigned table h (f .second) (p .1))))
+      (either-record (eqb kind 7) _ _ _ _ t (read-as (pointer (f .first) && pointer (f .second) && integer (f .third) && unusedFrom 4 f) _ _ t (λ e. let p = both₄ (pointer (f .first)) (pointer (f .second)) (integer (f .third)) (unusedFrom 4 f) e in rw (pointer-unsigned table h (f .first) (p .0), pointer-unsigned table h (f .second) (p .1), integer-unsigned table h (f .third) (p .2))))
+      (either-record (eqb kind 8) _ _ _ _ t (read-as (integer (f .first) && pointer (f .second) && namesIndex table h (f .third) && isConstant (f .fourth) && unusedFrom 5 f) _ _ t (λ e. let p = both₅ (integer (f .first)) (pointer (f .second)) (namesIndex table h (f .third)) (isConstant (f .fourth)) (unusedFrom 5 f) e in rw (integer-unsigned table h (f .first) (p .0), pointer-unsigned table h (f .second) (p .1), index-unsigned table h (f .third) (p .2))))
+      (either-record (eqb kind 9) _ _ _ _ t (read-as (pointer (f .first) && namesIndex table h (f .second) && isConstant (f .third) && integer (f .fourth) && unusedFrom 5 f) _ _ t (λ e. let p = both₅ (pointer (f .first)) (namesIndex table h (f .second)) (isConstant (f .third)) (integer (f .fourth)) (unusedFrom 5 f) e in rw (pointer-unsigned table h (f .first) (p .0), index-unsigned table h (f .second) (p .1), integer-unsigned table h (f .fourth) (p .3))))
+      (either-record (eqb kind 10) _ _ _ _ t (read-as (conditionRight table h f && unusedFrom 5 f) _ _ t (λ e. let p = both (conditionRight table h f) (unusedFrom 5 f) e in rw (condition-unsigned table h f (p .0))))
+      (either-record (eqb kind 11) _ _ _ _ t (read-as (conditionRight table h f && isCount (f .fifth) && isCount (f .sixth)) _ _ t (λ e. let p = both₃ (conditionRight table h f) (isCount (f .fifth)) (isCount (f .sixth)) e in rw (condition-unsigned table h f (p .0))))
+      (either-record (eqb kind 12) _ _ _ _ t (read-as (conditionRight table h f && isCount (f .fifth) && unusedFrom 6 f) _ _ t (λ e. let p = both₃ (conditionRight table h f) (isCount (f .fifth)) (unusedFrom 6 f) e in rw (condition-unsigned table h f (p .0))))
       (last (eqb kind 13) _ _ t (read-if (ltb (plain (f .first)) (2 ^ 31) && unusedFrom 2 f) _ t)))))))))))))
 
 pub read-decoded : (table : List ℤ) (h : Sections) (a : ℕ) (s : Statement) → statementAt table h a ≡ Read s → decodedAt table h a ≡ s
@@ -72,4 +218,6 @@ unfolding statementAt decodedAt
 read-decoded table h a s e =
     let l = read-limits table h a s e in
     let g : decodeStart h a ≡ statementStart h a = omega (arith, l .0 .objects, l .0 .variables, l .0 .statements, l .1) in
-    ap (λ (i : ℕ). decoded (fieldsAt table i)) g ∙ kind-decoded table h (fieldsAt table (statementStart h a)) s (within (inLimits h && ltb a (h .statements)) _ s e)
+    let f = fieldsAt table (statementStart h a) in
+    let r = within (inLimits h && ltb a (h .statements)) _ s e in
+    ap (λ (i : ℕ). decoded (fieldsAt table i)) g ∙ ap (λ (k : ℕ). decodedAs k f) (kind-unsigned table h f s r) ∙ kind-decoded table h f s r

@@ -1,76 +1,125 @@
-// The statements of a table that has been checked: decoded by their kind, with no test of a field.
-use conditions::condition_of;
-use fields::index_of;
-use fields::literal_value;
+// The statements of a table that has been checked: decoded by their kind, with no test of a field. Words are taken as unsigned numbers, which costs
+// nothing, and for a field that the readers let pass is the same number.
+use conditions::Condition;
+use fields::is_zero;
 use fields::plain;
 use sections::Sections;
 use statements::Simple;
 use statements::Statement;
+use words::BIAS;
 use words::Fields;
-use words::fields_at;
+use words::fields_within;
 ghost use mathlib.Core.Path.{_≡_};
-ghost use Rattle.decode.specs.Decode.{decoded, decodedAt};
+ghost use Prim.Native.Nat.{_+_, _≤_};
+ghost use lib.ListN.{length};
+ghost use Rattle.decode.specs.Decode.{unsigned, decodedIndex, decodedRight, decodedOffset, decodedCondition, decoded, decodeStart, decodedAt};
+
+// The 32 bits of a word as an unsigned number.
+fn unsigned(w: u64) -> usize
+    ensures { λ r. ⌜ r ≡ unsigned w ⌝ }
+{
+    (w % 4294967296) as usize
+}
+
+// The number of an index variable: 16 for -1.
+fn decode_index(w: u64) -> usize
+    ensures { λ r. ⌜ r ≡ decodedIndex w ⌝ }
+{
+    if w == BIAS - 1 {
+        return 16;
+    }
+    unsigned(w)
+}
+
+fn decode_right(form: u64, w: u64) -> usize
+    ensures { λ r. ⌜ r ≡ decodedRight form w ⌝ }
+{
+    if is_zero(form) {
+        return unsigned(w);
+    }
+    16
+}
+
+fn decode_offset(form: u64, w: u64) -> u64
+    ensures { λ r. ⌜ r ≡ decodedOffset form w ⌝ }
+{
+    if is_zero(form) {
+        return 0;
+    }
+    unsigned(w) as u64
+}
+
+fn decode_condition(f: Fields) -> Condition
+    ensures { λ r. ⌜ r ≡ decodedCondition f ⌝ }
+{
+    Condition {
+        left: unsigned(f.first),
+        relation: unsigned(f.second),
+        right: decode_right(f.third, f.fourth),
+        offset: decode_offset(f.third, f.fourth),
+    }
+}
 
 // The statement of a record. A kind that is none of 1 to 12 is taken for a bundle.
 fn decode_kind(f: Fields) -> Statement
     ensures { λ r. ⌜ r ≡ decoded f ⌝ }
 {
-    let kind = plain(f.kind);
+    let kind = unsigned(f.kind);
     match kind {
         1 => Statement::Plain(Simple::Literal {
-            target: plain(f.first),
-            value: literal_value(f.second),
+            target: unsigned(f.first),
+            value: unsigned(f.second) as u64,
         }),
         2 => Statement::Plain(Simple::AddConstant {
-            target: plain(f.first),
-            source: plain(f.second),
+            target: unsigned(f.first),
+            source: unsigned(f.second),
             constant: f.third,
         }),
         3 => Statement::Plain(Simple::Arithmetic {
-            target: plain(f.first),
-            left: plain(f.second),
-            right: plain(f.third),
-            operation: plain(f.fourth),
+            target: unsigned(f.first),
+            left: unsigned(f.second),
+            right: unsigned(f.third),
+            operation: unsigned(f.fourth),
         }),
         4 => Statement::Plain(Simple::Null {
-            target: plain(f.first),
+            target: unsigned(f.first),
         }),
         5 => Statement::Plain(Simple::Address {
-            target: plain(f.first),
-            object: plain(f.second),
+            target: unsigned(f.first),
+            object: unsigned(f.second),
         }),
         6 => Statement::Plain(Simple::PointerOffset {
-            target: plain(f.first),
-            source: plain(f.second),
+            target: unsigned(f.first),
+            source: unsigned(f.second),
             constant: f.third,
         }),
         7 => Statement::Plain(Simple::PointerIndex {
-            target: plain(f.first),
-            source: plain(f.second),
-            index: plain(f.third),
+            target: unsigned(f.first),
+            source: unsigned(f.second),
+            index: unsigned(f.third),
         }),
         8 => Statement::Plain(Simple::Load {
-            target: plain(f.first),
-            pointer: plain(f.second),
-            index: index_of(f.third),
+            target: unsigned(f.first),
+            pointer: unsigned(f.second),
+            index: decode_index(f.third),
             constant: f.fourth,
         }),
         9 => Statement::Plain(Simple::Store {
-            pointer: plain(f.first),
-            index: index_of(f.second),
+            pointer: unsigned(f.first),
+            index: decode_index(f.second),
             constant: f.third,
-            source: plain(f.fourth),
+            source: unsigned(f.fourth),
         }),
         10 => Statement::Plain(Simple::Check {
-            condition: condition_of(f),
+            condition: decode_condition(f),
         }),
         11 => Statement::If {
-            condition: condition_of(f),
+            condition: decode_condition(f),
             then_count: plain(f.fifth),
             else_count: plain(f.sixth),
         },
         12 => Statement::While {
-            condition: condition_of(f),
+            condition: decode_condition(f),
             count: plain(f.fifth),
         },
         _ => Statement::Bundle {
@@ -81,8 +130,9 @@ fn decode_kind(f: Fields) -> Statement
 
 // The statement of a number. Numbers of items of 4,096 and more, which no table has, are taken modulo 4,096, so that no sum of offsets wraps.
 pub fn decode_statement(table: &[i32], sections: Sections, at: usize) -> Statement
+    requires { ⌜ decodeStart sections at + 7 ≤ length (now table) ⌝ }
     ensures { λ r. ⌜ r ≡ decodedAt (now (table .entry)) sections at ⌝ }
 {
     let start = 6 + sections.objects % 4096 + 8 * (sections.variables % 4096) + 7 * (at % 4096);
-    decode_kind(fields_at(table, start))
+    decode_kind(fields_within(table, start))
 }

@@ -11,9 +11,9 @@ use Rattle.refusals.specs.declared.Refusal.{Refusal}
 use Rattle.rules.specs.Verdict.{faults, Answers}
 use Rattle.rules.specs.declared.Verdict.{Verdict}
 use Rattle.rules.specs.declared.Verdict.the-variants as verdict
-use Rattle.interpreter.specs.Checks.{checkNumber, checkStatement}
+use Rattle.stops.specs.Checks.{checkNumber, checkStatement}
 use Rattle.interpreter.specs.Claim.{runFaults, RunAnswer}
-use Rattle.interpreter.specs.declared.Check.{Check}
+use Rattle.stops.specs.declared.Check.{Check}
 use Rattle.interpreter.specs.declared.Outcome.{Outcome}
 use Rattle.interpreter.specs.declared.Outcome.the-variants.{Done, Spent, Stopped, Refused}
 use Rattle.exports.specs.Words.{wordOf, putThree, putFour, verdictWords, outcomeWords, CheckAnswer, RunWords}

@@ -10,7 +10,7 @@ use Rattle.refusals.specs.Refusals.{number, place, pointer}
 use Rattle.rules.specs.Verdict.{faults, Answers}
 use Rattle.rules.specs.declared.Verdict.{Verdict}
 use Rattle.rules.specs.declared.Verdict.the-variants as verdict
-use Rattle.interpreter.specs.Checks.{checkNumber, checkStatement}
+use Rattle.stops.specs.Checks.{checkNumber, checkStatement}
 use Rattle.interpreter.specs.Claim.{runFaults, RunAnswer}
 use Rattle.interpreter.specs.declared.Outcome.{Outcome}
 use Rattle.interpreter.specs.declared.Outcome.the-variants.{Done, Spent, Stopped, Refused}

@@ -1,11 +1,12 @@
 // What C and Rust link: the check and the run on lent slices, with the answer as words in a lent slice (include/mizzengrape.h).
-use interpreter::Check;
 use interpreter::Outcome;
 use rules::Verdict;
+use stops::Check;
+use stops::check_number;
+use stops::check_statement;
 ghost use mathlib.Core.Path.{_≡_};
 ghost use Prim.Native.Nat.{ℕ, _≤_};
 ghost use lib.ListN.{length};
-ghost use Rattle.interpreter.specs.Checks.{checkNumber, checkStatement};
 ghost use Rattle.exports.specs.Words.{wordOf, putThree, putFour, verdictWords, outcomeWords, CheckAnswer, RunWords};
 
 // A number as an answer word. Statements, objects and variables are few, so that the remainder is the number.
@@ -48,30 +49,6 @@ fn put_verdict(answer: &mut [u32], verdict: Verdict)
             let pointer = word_of(refusals::refusal_pointer(r));
             put_three(answer, number, place, pointer);
         }
-    }
-}
-
-fn check_number(check: Check) -> u32
-    ensures { λ r. ⌜ r ≡ checkNumber check ⌝ }
-{
-    match check {
-        Check::ConditionFalse(_) => 1,
-        Check::NullAccess(_) => 2,
-        Check::OutOfBounds(_) => 3,
-        Check::NullArithmetic(_) => 4,
-        Check::AddressRange(_) => 5,
-    }
-}
-
-fn check_statement(check: Check) -> usize
-    ensures { λ r. ⌜ r ≡ checkStatement check ⌝ }
-{
-    match check {
-        Check::ConditionFalse(a) => a,
-        Check::NullAccess(a) => a,
-        Check::OutOfBounds(a) => a,
-        Check::NullArithmetic(a) => a,
-        Check::AddressRange(a) => a,
     }
 }
 

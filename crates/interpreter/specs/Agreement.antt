@@ -12,12 +12,13 @@ use Rattle.statements.specs.declared.Statement.{Statement}
 use Rattle.statements.specs.declared.StatementRead.the-variants.{Read}
 use Rattle.flow.specs.Shape.{entriesAt}
 use Rattle.rules.specs.declared.Environment.{Environment}
-use Rattle.interpreter.specs.Machine.{high, Status, going, stopped, stuck, Point, successorsOf, pointAfter}
-use Rattle.interpreter.specs.Checks.{checkOf}
-use Rattle.interpreter.specs.Bare.{Move, move, Result, result}
-use Rattle.interpreter.specs.Ends.{endsOf}
-use Rattle.interpreter.specs.declared.Step.{Step}
-use Rattle.interpreter.specs.declared.Step.the-variants.{Go, Stop}
+use Rattle.machine.specs.Machine.{high, Status, going, stopped, stuck, Point, successorsOf, pointAfter}
+use Rattle.stops.specs.Checks.{checkOf}
+use Rattle.steps.specs.Bare.{Move, move}
+use Rattle.interpreter.specs.BareRun.{Result, result}
+use Rattle.entry.specs.Ends.{endsOf}
+use Rattle.steps.specs.declared.Step.{Step}
+use Rattle.steps.specs.declared.Step.the-variants.{Go, Stop}
 use Rattle.interpreter.specs.declared.Outcome.{Outcome}
 use Rattle.interpreter.specs.declared.Outcome.the-variants.{Done, Spent, Stopped}
 

@@ -13,9 +13,9 @@ use Rattle.facts.specs.Numbers.{maxValue}
 use Rattle.sections.specs.declared.Sections.{Sections}
 use Rattle.rules.specs.BoundsRules.{isPointer, objectLength}
 use Rattle.rules.specs.declared.Environment.{Environment}
-use Rattle.interpreter.specs.Machine.{value, boundsTrue}
-use Rattle.interpreter.specs.Entry.{pickBool, endBefore, pairRight, entryRight}
-use Rattle.interpreter.specs.Soundness.{Placed, Begun}
+use Rattle.machine.specs.Machine.{value, boundsTrue}
+use Rattle.entry.specs.Entry.{pickBool, endBefore, pairRight, entryRight}
+use Rattle.machine.specs.Soundness.{Placed, Begun}
 use Rattle.interpreter.specs.StartLaws.{Admitted}
 
 three : (a b c : Bool) → (a && b && c) ≡ true → (a ≡ true) × (b ≡ true) × (c ≡ true)

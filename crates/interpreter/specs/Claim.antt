@@ -22,10 +22,10 @@ use Rattle.rules.specs.Rules.{Fault, also}
 use Rattle.rules.specs.Verdict.{environmentOf, refusals, faults, Answers}
 use Rattle.rules.specs.declared.Environment.{Environment}
 use Rattle.rules.specs.declared.Verdict.the-variants as verdict
-use Rattle.interpreter.specs.Machine.{Failing, none, fails, failing, boundsTrue, inOrigin, going, stopped, stuck, Point, start, pointAfter}
-use Rattle.interpreter.specs.Entry.{entryRefusals}
-use Rattle.interpreter.specs.Points.{inBundle, Access, no-access, access, accessFrom}
-use Rattle.interpreter.specs.Soundness.{Outside}
+use Rattle.machine.specs.Machine.{Failing, none, fails, failing, boundsTrue, inOrigin, going, stopped, stuck, Point, start, pointAfter}
+use Rattle.entry.specs.Entry.{entryRefusals}
+use Rattle.machine.specs.Points.{inBundle, Access, no-access, access, accessFrom}
+use Rattle.machine.specs.Soundness.{Outside}
 use Rattle.interpreter.specs.Agreement.{outcomeShown}
 use Rattle.interpreter.specs.declared.Outcome.{Outcome}
 use Rattle.interpreter.specs.declared.Outcome.the-variants as outcome

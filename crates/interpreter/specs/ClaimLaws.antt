@@ -25,21 +25,22 @@ use Rattle.rules.specs.Verdict.{environmentOf, refusals, faults, Answers}
 use Rattle.rules.specs.declared.Verdict.{Verdict}
 use Rattle.rules.specs.declared.Verdict.the-variants as verdict
 use Rattle.rules.specs.declared.Environment.{Environment}
-use Rattle.interpreter.specs.Machine.{Status, going, stopped, stuck, Point, start, pointAfter}
-use Rattle.interpreter.specs.Points.{Access, no-access, access, accessFrom}
-use Rattle.interpreter.specs.Soundness.{Begun, Sound, AccessAllowed}
-use Rattle.interpreter.specs.RunSound.{sound}
+use Rattle.machine.specs.Machine.{Status, going, stopped, stuck, Point, start, pointAfter}
+use Rattle.machine.specs.Points.{Access, no-access, access, accessFrom}
+use Rattle.machine.specs.Soundness.{Begun, Sound, AccessAllowed}
+use Rattle.machine.specs.RunSound.{sound}
 use Rattle.interpreter.specs.StepLaws.{point-step, stop-same, steps-counted}
-use Rattle.interpreter.specs.Entry.{entryRefusals}
+use Rattle.entry.specs.Entry.{entryRefusals}
 use Rattle.interpreter.specs.BegunLaws.{entry-begun}
-use Rattle.interpreter.specs.Ends.{endsOf}
-use Rattle.interpreter.specs.Bare.{Result, Ends, Prepared, SafeRun, bareRun}
+use Rattle.entry.specs.Ends.{endsOf}
+use Rattle.steps.specs.Bare.{Prepared}
+use Rattle.interpreter.specs.BareRun.{Result, Ends, SafeRun, bareRun}
 use Rattle.interpreter.specs.StartLaws.{admitted, start-prepared, start-safe, start-agrees}
 use Rattle.interpreter.specs.Agreement.{pickOutcome, outcomeShown, resultShown}
 use Rattle.interpreter.specs.Claim.{AccessInside, answerAt, AtPoint, Ran, entryFaults, runFaults, RunAnswer}
-use Rattle.interpreter.specs.Entered.{entered}
-use Rattle.interpreter.specs.declared.EntryVerdict.{EntryVerdict}
-use Rattle.interpreter.specs.declared.EntryVerdict.the-variants as entry
+use Rattle.entry.specs.Entered.{entered}
+use Rattle.entry.specs.declared.EntryVerdict.{EntryVerdict}
+use Rattle.entry.specs.declared.EntryVerdict.the-variants as entry
 use Rattle.interpreter.specs.declared.Outcome.the-variants as outcome
 use Rattle.interpreter.specs.declared.Outcome.{Outcome}
 use Rattle.interpreter.specs.declared.Outcome.the-variants.{Done, Spent}
@@ -151,7 +152,7 @@ module _ (T : List ℤ) (h : Sections) (formed : formOf T ≡ WellFormed h) (acc
   begun = entry-begun h (environmentOf T h) D cs vs os (admitted h (environmentOf T h) D cs vs os none) (lent .values-small) (lent .cells-small) (environment-declares T h (well-formed T h formed) .below)
 
   -- What the loop asks.
-  pub run-prepared : (w : List ℕ) → 2 * h .statements ≤ length w → Prepared h (endsOf (environmentOf T h)) D (written (tableFlow T h) w) vs
+  pub run-prepared : (w : List ℕ) → 2 * h .statements ≤ length w → Prepared T h (endsOf (environmentOf T h)) D (written (tableFlow T h) w) vs
   run-prepared w room = start-prepared T h D cs vs os w (well-formed T h formed) (clear T h formed accepts .laid) room (admitted h (environmentOf T h) D cs vs os none)
 
   pub run-safe : (w : List ℕ) → 2 * h .statements ≤ length w → (limit : ℕ) → SafeRun T h (endsOf (environmentOf T h)) D (written (tableFlow T h) w) limit 0 vs cs
@@ -247,7 +248,7 @@ launched {T} {h} {D} {cs} {vs} {os} {W} {S} {E′} {v} w f a l e q g k s n =
     }
 
 module _ {T : List ℤ} {h : Sections} {D cs vs os W S : List ℕ} (L : Launched T h D cs vs os W S) (limit : ℕ) where
-  pub launched-ready : Prepared h W D S vs × SafeRun T h W D S limit 0 vs cs
+  pub launched-ready : Prepared T h W D S vs × SafeRun T h W D S limit 0 vs cs
   launched-ready = rw (L .ends, L .successors) (
     run-prepared T h (L .formed) (L .accepts) D cs vs os (L .lent) (L .none) (L .slice) (L .room),
     run-safe T h (L .formed) (L .accepts) D cs vs os (L .lent) (L .none) (L .slice) (L .room) limit,

@@ -28,15 +28,9 @@ use Rattle.rules.specs.Verdict.{boundsOf, environmentOf}
 use Rattle.rules.specs.declared.KnownEnd.the-variants.{Unknown}
 use Rattle.rules.specs.declared.Bounds.{Bounds}
 use Rattle.rules.specs.declared.Environment.{Environment}
-use Rattle.interpreter.specs.Machine.{value, endValue, endOf, lowerEnd, upperEnd, address, none, firstOf, accessFailing, failing}
-use Rattle.interpreter.specs.Ends.{endNumber, boundsNumber, endsOf}
-use Rattle.interpreter.specs.Bare.{boundsAt, declaredIn}
-
-pub number-else : (e : End) (j : ℕ) → (j ≡ 0 → ⊥) → (j ≡ 1 → ⊥) → e .constant ≡ endNumber e j
-unfolding endNumber
-number-else e zero p q = absurd (p refl)
-number-else e (suc zero) p q = absurd (q refl)
-number-else e (suc (suc n)) p q = refl
+use Rattle.machine.specs.Machine.{value, endValue, endOf, lowerEnd, upperEnd, address, none, firstOf, accessFailing, failing}
+use Rattle.entry.specs.Ends.{endNumber, boundsNumber, endsOf}
+use Rattle.steps.specs.Bare.{boundsAt, declaredIn}
 
 pub ends-long : (E : Environment) → length (endsOf E) ≡ 96
 unfolding endsOf

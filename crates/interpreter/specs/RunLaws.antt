@@ -8,10 +8,11 @@ use borrow.Author.Tests.{lt-ltb, le-ltb}
 use lib.IntN.{ℤ}
 use lib.ListN.{length}
 use Rattle.sections.specs.declared.Sections.{Sections}
-use Rattle.interpreter.specs.Bare.{Result, follow, bareMove, bareRun, Onward, Ready, Prepared, SafeRun, Moves, Ends}
-use Rattle.interpreter.specs.declared.Check.{Check}
-use Rattle.interpreter.specs.declared.Step.{Step}
-use Rattle.interpreter.specs.declared.Step.the-variants.{Go, Stop}
+use Rattle.steps.specs.Bare.{bareMove, Ready, Prepared, Moves}
+use Rattle.interpreter.specs.BareRun.{Result, follow, bareRun, Onward, SafeRun, Ends}
+use Rattle.stops.specs.declared.Check.{Check}
+use Rattle.steps.specs.declared.Step.{Step}
+use Rattle.steps.specs.declared.Step.the-variants.{Go, Stop}
 use Rattle.interpreter.specs.declared.Outcome.{Outcome}
 use Rattle.interpreter.specs.declared.Outcome.the-variants.{Done, Spent, Stopped}
 
@@ -20,8 +21,8 @@ pub carry : {o p : Result} {r : Outcome} {vs cs : List ℕ} → o ≡ p → Ends
 carry e m = rw e m
 
 -- Buffers of the same length serve as well.
-pub still-prepared : {h : Sections} {W D S vs : List ℕ} (ws : List ℕ) → length ws ≡ length vs → Prepared h W D S vs → Prepared h W D S ws
-still-prepared ws e p = record { ends = p .ends; small = p .small; directory = p .directory; successors = p .successors; values = omega (arith, p .values) }
+pub still-prepared : {T : List ℤ} {h : Sections} {W D S vs : List ℕ} (ws : List ℕ) → length ws ≡ length vs → Prepared T h W D S vs → Prepared T h W D S ws
+still-prepared ws e p = record { table = p .table; ends = p .ends; small = p .small; directory = p .directory; successors = p .successors; values = omega (arith, p .values) }
 
 module _ (T : List ℤ) (h : Sections) (W D S : List ℕ) where
   abbrev run : ℕ → ℕ → ℕ → List ℕ → List ℕ → Result

@@ -23,10 +23,11 @@ use Rattle.flow.specs.SuccessorLaws.{written-at}
 use Rattle.rules.specs.BoundsRules.{isPointer, objectLength}
 use Rattle.rules.specs.Verdict.{environmentOf}
 use Rattle.rules.specs.declared.Environment.{Environment}
-use Rattle.interpreter.specs.Machine.{value, high, boundsTrue, stuck, start, pointAfter}
-use Rattle.interpreter.specs.Entry.{memoryRight, endBefore, pairRight, lengthsRight, pickBool, entryRight, consUnless, failures, entryRefusals}
-use Rattle.interpreter.specs.Bare.{Prepared, bareRun, SafeRun}
-use Rattle.interpreter.specs.Ends.{endsOf}
+use Rattle.machine.specs.Machine.{value, high, boundsTrue, stuck, start, pointAfter}
+use Rattle.entry.specs.Entry.{memoryRight, endBefore, pairRight, lengthsRight, pickBool, entryRight, consUnless, failures, entryRefusals}
+use Rattle.steps.specs.Bare.{Prepared}
+use Rattle.interpreter.specs.BareRun.{bareRun, SafeRun}
+use Rattle.entry.specs.Ends.{endsOf}
 use Rattle.interpreter.specs.EndsLaws.{ends-long, ends-small}
 use Rattle.interpreter.specs.Agreement.{resultShown, Runnable}
 use Rattle.interpreter.specs.AgreementLaws.{safe-run, run-agrees}
@@ -122,9 +123,10 @@ module _ (T : List ℤ) (h : Sections) (D cs vs os w : List ℕ)
   S = written (tableFlow T h) w
 
   -- What the code's run asks of its slices.
-  pub start-prepared : Prepared h W D S vs
+  pub start-prepared : Prepared T h W D S vs
   start-prepared =
       record {
+        table = omega (arith, formed .long);
         ends = ends-long E;
         small = ends-small T h;
         directory = omega (arith, A .pairs);

@@ -16,7 +16,7 @@ use Rattle.statements.specs.declared.StatementRead.{StatementRead}
 use Rattle.statements.specs.declared.StatementRead.the-variants.{Read, Unread}
 use Rattle.flow.specs.Flow.{Successors}
 use Rattle.rules.specs.declared.Environment.{Environment}
-use Rattle.interpreter.specs.Machine.{Failing, none, fails, failing, conditionHolds, Status, going, stopped, stuck, Point, Performed, done, no-step, performed, memoryOf, moved, halted, afterChecks, branched, statementStep, successorsOf, nextPoint, pointAfter}
+use Rattle.machine.specs.Machine.{Failing, none, fails, failing, conditionHolds, Status, going, stopped, stuck, Point, Performed, done, no-step, performed, memoryOf, moved, halted, afterChecks, branched, statementStep, successorsOf, nextPoint, pointAfter}
 use Rattle.interpreter.specs.Claim.{failingAt}
 
 -- The step from P to Q, where f is the first check that fails.

@@ -1,21 +1,17 @@
-// The interpreter: causes 10 to 12, the run of an accepted routine, and its outcome.
-mod advance; // advance.rt: one step
-mod bounds; // bounds.rt: whether declared bounds are true at entry
-mod checks; // checks.rt: the five checks
-mod ends; // ends.rt: declared bounds laid out for the loop
-mod entry; // entry.rt: causes 10 to 12
-mod numbers; // numbers.rt: values, sums and conditions
+// The interpreter: the run of an accepted routine, and its outcome.
 mod resume; // resume.rt: the run up to a limit
 
 use checker::check;
-use ends::lay_ends;
+use entry::EntryVerdict;
 use entry::enter;
+use entry::lay_ends;
 use flow::write_successors;
 use refusals::Refusal;
 use resume::resume;
 use rules::Verdict;
 use rules::read_environment;
 use sections::Sections;
+use stops::Check;
 use table::Form;
 use table::read_form;
 ghost use mathlib.Core.Path.{_≡_};
@@ -25,27 +21,7 @@ ghost use Rattle.table.specs.declared.Form.the-variants.{WellFormed};
 ghost use Rattle.rules.specs.Verdict.{faults};
 ghost use Rattle.interpreter.specs.Claim.{runFaults, RunAnswer};
 
-// The named checks, each with the statement at which it fails.
-pub enum Check {
-    ConditionFalse(usize),
-    NullAccess(usize),
-    OutOfBounds(usize),
-    NullArithmetic(usize),
-    AddressRange(usize),
-}
-
-// What a step says: the statement due after it, or the check that fails.
-pub enum Step {
-    Go(usize),
-    Stop(Check),
-}
-
-// What causes 10 to 12 say of what is lent.
-pub enum EntryVerdict {
-    Begun,
-    Refused(Refusal),
-}
-
+// How a run ends.
 pub enum Outcome {
     Refused(Refusal),
     Done { steps: u32 },

@@ -1,9 +1,10 @@
 // The run: steps from a statement on, up to a limit.
 use crate::Outcome;
-use crate::Step;
-use crate::advance::advance;
 use sections::Sections;
-ghost use Rattle.interpreter.specs.Bare.{Prepared, SafeRun, bareRun, Ends};
+use steps::Step;
+use steps::advance;
+ghost use Rattle.steps.specs.Bare.{Prepared};
+ghost use Rattle.interpreter.specs.BareRun.{SafeRun, bareRun, Ends};
 
 // Steps from the statement `first`, `limit` at most, with the values and cells as they are. A run that is spent goes on from the statement that it gives.
 pub(crate) fn resume(
@@ -17,7 +18,7 @@ pub(crate) fn resume(
     cells: &mut [u32],
     limit: u32,
 ) -> Outcome
-    requires { ⌜ Prepared sections (now ends) (now directory) (now successors) (now values) ⌝ }
+    requires { ⌜ Prepared (now table) sections (now ends) (now directory) (now successors) (now values) ⌝ }
     requires { ⌜ SafeRun (now table) sections (now ends) (now directory) (now successors) limit first (now values) (now cells) ⌝ }
     ensures { λ r. ⌜ Ends (bareRun (now (table .entry)) sections (now (ends .entry)) (now (directory .entry)) (now (successors .entry)) limit 0 first (now (values .entry)) (now (cells .entry))) r (now (values .exit)) (now (cells .exit)) ⌝ }
 {

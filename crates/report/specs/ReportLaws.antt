@@ -5,8 +5,8 @@ use mathlib.Core.List.{List, [], _++_}
 use borrow.Author.Tests.{eq-eqb, ne-eqb}
 use Rattle.refusals.specs.Refusals.{number, place, pointer}
 use Rattle.refusals.specs.declared.Refusal.{Refusal}
-use Rattle.interpreter.specs.Checks.{checkNumber, checkStatement}
-use Rattle.interpreter.specs.declared.Check.{Check}
+use Rattle.stops.specs.Checks.{checkNumber, checkStatement}
+use Rattle.stops.specs.declared.Check.{Check}
 use Rattle.interpreter.specs.declared.Outcome.{Outcome}
 use Rattle.interpreter.specs.declared.Outcome.the-variants.{Done, Spent, Stopped, Refused}
 use Rattle.files.specs.Text.{bytesOf, textOf, Grown, Line}

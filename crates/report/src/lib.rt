@@ -1,14 +1,15 @@
 // What a rehearsal tells a scorer, as lines of text.
 use files::Text;
-use interpreter::Check;
 use interpreter::Outcome;
 use refusals::Refusal;
+use stops::Check;
+use stops::check_number;
+use stops::check_statement;
 ghost use mathlib.Core.Path.{_≡_};
 ghost use mathlib.Core.List.{_++_};
 ghost use Prim.Native.Nat.{_+_, _≤_};
 ghost use lib.ListN.{length};
 ghost use Rattle.files.specs.Text.{textOf, decimal, Grown, Line};
-ghost use Rattle.interpreter.specs.Checks.{checkNumber, checkStatement};
 ghost use Rattle.report.specs.Report.{refusedText, stoppedText, entryText, entryLine, leftLine, rowLine, firstRowLine};
 
 // A phrase and a number behind it.
@@ -19,6 +20,7 @@ fn put(text: Text, phrase: &[u8], n: u64) -> Text
     text.push_all(phrase).push_number(n)
 }
 
+// A line has room for 120 bytes: 25 for the boat, 94 for what became of it, 1 for the line feed.
 fn put_refusal(text: Text, r: Refusal) -> Text
     requires { ⌜ text .len ≤ 25 ⌝ }
     ensures { λ t. ⌜ Grown (textOf text) (refusedText r) (text .len) t × (t .len ≤ text .len + 94) ⌝ }
@@ -32,30 +34,6 @@ fn put_refusal(text: Text, r: Refusal) -> Text
         return put(at, b", pointer ", pointer as u64);
     }
     put(start, b" at place ", place as u64)
-}
-
-fn check_number(check: Check) -> u32
-    ensures { λ r. ⌜ r ≡ checkNumber check ⌝ }
-{
-    match check {
-        Check::ConditionFalse(_) => 1,
-        Check::NullAccess(_) => 2,
-        Check::OutOfBounds(_) => 3,
-        Check::NullArithmetic(_) => 4,
-        Check::AddressRange(_) => 5,
-    }
-}
-
-fn check_statement(check: Check) -> usize
-    ensures { λ r. ⌜ r ≡ checkStatement check ⌝ }
-{
-    match check {
-        Check::ConditionFalse(a) => a,
-        Check::NullAccess(a) => a,
-        Check::OutOfBounds(a) => a,
-        Check::NullArithmetic(a) => a,
-        Check::AddressRange(a) => a,
-    }
 }
 
 fn put_check(text: Text, check: Check) -> Text

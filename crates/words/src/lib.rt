@@ -1,6 +1,6 @@
 // The words of a table as natural numbers, 2^33 more than the signed words. Only `biased` sees a signed word; everything else works on natural numbers.
 ghost use mathlib.Core.Path.{_≡_};
-ghost use Prim.Native.Nat.{_<_, _%_};
+ghost use Prim.Native.Nat.{_+_, _%_, _<_, _≤_};
 ghost use lib.ListN.{length};
 ghost use Rattle.words.specs.Words.{biased, word, fieldsAt};
 
@@ -42,6 +42,22 @@ pub fn word(table: &[i32], i: usize) -> u64
     BIAS
 }
 
+// The seven words from `start` on, of a record that lies in the table.
+pub fn fields_within(table: &[i32], start: usize) -> Fields
+    requires { ⌜ (start < 65536) × (start + 7 ≤ length (now table)) ⌝ }
+    ensures { λ r. ⌜ r ≡ fieldsAt (now (table .entry)) start ⌝ }
+{
+    Fields {
+        kind: word_within(table, start),
+        first: word_within(table, start + 1),
+        second: word_within(table, start + 2),
+        third: word_within(table, start + 3),
+        fourth: word_within(table, start + 4),
+        fifth: word_within(table, start + 5),
+        sixth: word_within(table, start + 6),
+    }
+}
+
 // The seven words from `start` on: one test for all of them where the record lies in the table. No record starts at 65,536 or later; so that no index wraps, `start` is
 // taken modulo 65,536.
 pub fn fields_at(table: &[i32], start: usize) -> Fields
@@ -49,15 +65,7 @@ pub fn fields_at(table: &[i32], start: usize) -> Fields
 {
     let at = start % 65536;
     if at + 7 <= table.len() {
-        return Fields {
-            kind: word_within(table, at),
-            first: word_within(table, at + 1),
-            second: word_within(table, at + 2),
-            third: word_within(table, at + 3),
-            fourth: word_within(table, at + 4),
-            fifth: word_within(table, at + 5),
-            sixth: word_within(table, at + 6),
-        };
+        return fields_within(table, at);
     }
     Fields {
         kind: word(table, at),

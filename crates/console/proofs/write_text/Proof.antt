@@ -11,6 +11,6 @@ write-text-spec =
     tie.close
     (tie.spec
     (λ c. search needs) (λ c κs. search needs) (λ c. search needs)
-    (λ c. let h : length (c .before .before .args .text .bytes) ≡ 80 = search needs in omega (arith, c .if1 .left))
-    (λ c. let h : length (c .before .before .before .args .text .bytes) ≡ 80 = search needs in simp length-take (omega (arith, c .before .if1 .left)))
+    (λ c. let h : length (c .before .before .args .text .bytes) ≡ 120 = search needs in omega (arith, c .if1 .left))
+    (λ c. let h : length (c .before .before .before .args .text .bytes) ≡ 120 = search needs in simp length-take (omega (arith, c .before .if1 .left)))
     (λ c κs. search needs) (λ c. search needs))

@@ -8,14 +8,9 @@ unfolding fieldsAt
 fields-at-spec =
     tie.close
     (tie.spec
-    (λ c. search needs) (λ c κs. search needs)
-    (λ c. search needs) (λ c κs. search needs)
-    (λ c. search needs) (λ c κs. search needs)
-    (λ c. search needs) (λ c κs. search needs)
-    (λ c. search needs) (λ c κs. search needs)
-    (λ c. search needs) (λ c κs. search needs)
-    (λ c. search needs) (λ c κs. search needs)
-    (λ c. simp (c .word-within7 .ensures, c .before .word-within6 .ensures, c .before .before .word-within5 .ensures, c .before .before .before .word-within4 .ensures, c .before .before .before .before .word-within3 .ensures, c .before .before .before .before .before .word-within2 .ensures, c .before .before .before .before .before .before .word-within .ensures))
+    (λ c. search needs)
+    (λ c κs. search needs)
+    (λ c. search needs)
     (λ c κs. tt)
     (λ c. search needs) (λ c κs. search needs)
     (λ c. search needs) (λ c κs. search needs)

@@ -4,7 +4,8 @@ use mathlib.Core.Path.{_≡_, refl, _∙_}
 use native.Mathlib.Omega.{arith}
 use borrow.Author.Needs.{needs}
 use lib.ListN.{length}
-use Rattle.interpreter.specs.Bare.{Prepared, SafeRun, bareRun}
+use Rattle.steps.specs.Bare.{Prepared}
+use Rattle.interpreter.specs.BareRun.{SafeRun, bareRun}
 use Rattle.interpreter.specs.RunLaws.{carry, still-prepared, run-done, run-spent, safe-ready, run-go, safe-go, run-stop}
 use Rattle.interpreter.proofs.resume.resume.Statement.{statement}
 use Rattle.interpreter.proofs.resume.resume.Tie as tie
@@ -14,7 +15,7 @@ Inv-loop table sections ends directory successors first values₀ cells₀ limit
     (bareRun table sections ends directory successors limit 0 first values₀ cells₀ ≡ bareRun table sections ends directory successors (limit - steps) steps at values cells)
     × (steps ≤ limit)
     × SafeRun table sections ends directory successors (limit - steps) at values cells
-    × Prepared sections ends directory successors values
+    × Prepared table sections ends directory successors values
     × (length values ≡ length values₀)
     × (length cells ≡ length cells₀)
 

@@ -1,0 +1,14 @@
+-- `entry::entry::entry_right` meets its contract.
+use borrow.Author.Needs.{needs}
+use Rattle.entry.specs.Entry.{entryRight}
+use Rattle.entry.proofs.entry.entry_right.Statement.{statement}
+use Rattle.entry.proofs.entry.entry_right.Tie as tie
+
+pub entry-right-spec : {M : Type 1} → statement M
+unfolding entryRight
+entry-right-spec =
+    tie.close
+    (tie.spec
+    (λ c κs. search needs) (λ c κs. search needs) (λ c κs. search needs) (λ c κs. search needs)
+    (λ c. simp (c .bounds-true .ensures, c .before .before .before .before .value-at .ensures .0, simp (c .before .before .value-at2 .ensures .0, c .before .before .before .is-pointer .ensures) at (c .before .if1 .taken)))
+    (λ c. simp (c .before .before .before .value-at .ensures .0, simp (c .before .value-at2 .ensures .0, c .before .before .is-pointer .ensures) at (c .if1 .left))))

@@ -1,0 +1,4 @@
+pub mod Entry
+pub mod Entered
+pub mod Ends
+pub mod EntryLaws

@@ -1,0 +1,152 @@
+// Causes 10 to 12: the memory directory, the lengths of values and origins, and the entry values.
+use crate::EntryVerdict;
+use crate::entry_bounds::bounds_true;
+use crate::entry_bounds::is_pointer;
+use machine::value_at;
+use refusals::Refusal;
+use rules::Environment;
+use sections::Sections;
+ghost use mathlib.Core.Path.{_≡_};
+ghost use Prim.Native.Nat.{_+_, _*_, _<_};
+ghost use lib.ListN.{length};
+ghost use Rattle.refusals.specs.declared.Refusal.the-variants.{DirectoryPair, EntryValue};
+ghost use Rattle.rules.specs.BoundsRules.{objectLength};
+ghost use Rattle.entry.specs.Entry.{memoryRight, endBefore, pairRight, lengthsRight, entryRight, failures, entryRefusals};
+ghost use Rattle.entry.specs.Entered.{entered};
+
+// The most cells that may be lent.
+const MAX_CELLS: usize = 16777216;
+
+fn memory_right(sections: Sections, directory: &[u32], cells: &[u32]) -> bool
+    ensures { λ r. ⌜ r ≡ memoryRight sections (now (directory .entry)) (now (cells .entry)) ⌝ }
+{
+    if sections.objects > directory.len() {
+        return false;
+    }
+    (cells.len() <= MAX_CELLS) & (directory.len() - sections.objects == sections.objects)
+}
+
+fn object_length(environment: Environment, o: usize) -> u64
+    ensures { λ r. ⌜ r ≡ objectLength environment o ⌝ }
+{
+    let lengths = environment.lengths;
+    if o < 16 {
+        return lengths[o];
+    }
+    0
+}
+
+// Where the objects before object o end; cell 0 is in no object.
+fn end_before(directory: &[u32], o: usize) -> u64
+    requires { ⌜ 2 * o < length (now directory) ⌝ }
+    ensures { λ r. ⌜ r ≡ endBefore (now (directory .entry)) o ⌝ }
+{
+    if o == 0 {
+        return 1;
+    }
+    let pair = 2 * (o - 1);
+    value_at(directory, pair) + value_at(directory, pair + 1)
+}
+
+fn pair_right(environment: Environment, directory: &[u32], cells: &[u32], o: usize) -> bool
+    requires { ⌜ 2 * o < length (now directory) ⌝ }
+    ensures { λ r. ⌜ r ≡ pairRight environment (now (directory .entry)) (now (cells .entry)) o ⌝ }
+{
+    let low = value_at(directory, 2 * o);
+    let length = value_at(directory, 2 * o + 1);
+    (end_before(directory, o) <= low)
+        & (low + length <= cells.len() as u64)
+        & (length == object_length(environment, o))
+}
+
+// Cause 10: the first pair that is wrong.
+fn check_pairs(
+    sections: Sections,
+    environment: Environment,
+    directory: &[u32],
+    cells: &[u32],
+) -> EntryVerdict
+    requires { ⌜ length (now directory) ≡ 2 * sections .objects ⌝ }
+    ensures { λ r. ⌜ r ≡ entered (failures (pairRight environment (now (directory .entry)) (now (cells .entry))) DirectoryPair (sections .objects) 0) ⌝ }
+{
+    let count = sections.objects;
+    let mut o = 0;
+    while o < count {
+        if !pair_right(environment, directory, cells, o) {
+            return EntryVerdict::Refused(Refusal::DirectoryPair(o));
+        }
+        o += 1;
+    }
+    EntryVerdict::Begun
+}
+
+fn lengths_right(sections: Sections, values: &[u32], origins: &[u32]) -> bool
+    ensures { λ r. ⌜ r ≡ lengthsRight sections (now (values .entry)) (now (origins .entry)) ⌝ }
+{
+    (values.len() == sections.variables) & (origins.len() == sections.variables)
+}
+
+// The value and the origin of one variable.
+fn entry_right(
+    sections: Sections,
+    environment: Environment,
+    directory: &[u32],
+    values: &[u32],
+    origins: &[u32],
+    v: usize,
+) -> bool
+    ensures { λ r. ⌜ r ≡ entryRight sections environment (now (directory .entry)) (now (values .entry)) (now (origins .entry)) v ⌝ }
+{
+    let origin = value_at(origins, v);
+    if is_pointer(environment, v) & (value_at(values, v) != 0) {
+        return (1 <= origin)
+            & (origin <= sections.objects as u64)
+            & bounds_true(environment, directory, values, origins, v);
+    }
+    origin == 0
+}
+
+// Cause 12: the lowest variable whose origin or bounds are untrue.
+fn check_values(
+    sections: Sections,
+    environment: Environment,
+    directory: &[u32],
+    values: &[u32],
+    origins: &[u32],
+) -> EntryVerdict
+    ensures { λ r. ⌜ r ≡ entered (failures (entryRight sections environment (now (directory .entry)) (now (values .entry)) (now (origins .entry))) EntryValue (sections .variables) 0) ⌝ }
+{
+    let count = sections.variables;
+    let mut v = 0;
+    while v < count {
+        if !entry_right(sections, environment, directory, values, origins, v) {
+            return EntryVerdict::Refused(Refusal::EntryValue(v));
+        }
+        v += 1;
+    }
+    EntryVerdict::Begun
+}
+
+// Causes 10 to 12 in their order.
+pub fn enter(
+    sections: Sections,
+    environment: Environment,
+    directory: &[u32],
+    cells: &[u32],
+    values: &[u32],
+    origins: &[u32],
+) -> EntryVerdict
+    ensures { λ r. ⌜ r ≡ entered (entryRefusals sections environment (now (directory .entry)) (now (cells .entry)) (now (values .entry)) (now (origins .entry))) ⌝ }
+{
+    if !memory_right(sections, directory, cells) {
+        return EntryVerdict::Refused(Refusal::MemorySize);
+    }
+    let pairs = check_pairs(sections, environment, directory, cells);
+    let EntryVerdict::Begun = pairs else {
+        return pairs;
+    };
+    if !lengths_right(sections, values, origins) {
+        return EntryVerdict::Refused(Refusal::EntryLengths);
+    }
+    check_values(sections, environment, directory, values, origins)
+}

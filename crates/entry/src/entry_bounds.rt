@@ -1,0 +1,89 @@
+// Whether declared bounds are true at entry. Ends are whole numbers: a constant of any size is compared without a sum that wraps.
+use crate::ends::end_of;
+use machine::BIAS;
+use machine::value_at;
+use rules::Bounds;
+use rules::Environment;
+use rules::KnownEnd;
+use variables::End;
+ghost use mathlib.Core.Path.{_≡_};
+ghost use Prim.Native.Nat.{_+_, _^_, _<_};
+ghost use lib.Dec.{leb};
+ghost use Rattle.rules.specs.BoundsRules.{declared, isPointer};
+ghost use Rattle.machine.specs.Machine.{endValue, boundsTrue};
+
+// Constants from 2^40 on are above every address.
+const LARGE: u64 = 1099511627776;
+
+pub(crate) fn is_pointer(environment: Environment, v: usize) -> bool
+    ensures { λ r. ⌜ r ≡ isPointer environment v ⌝ }
+{
+    let pointers = environment.pointers;
+    if v < 17 {
+        return pointers[v];
+    }
+    false
+}
+
+fn declared_bounds(environment: Environment, p: usize) -> Bounds
+    ensures { λ r. ⌜ r ≡ declared environment p ⌝ }
+{
+    let declared = environment.declared;
+    if p < 16 {
+        return declared[p];
+    }
+    Bounds {
+        lower: KnownEnd::Unknown,
+        upper: KnownEnd::Unknown,
+    }
+}
+
+// low <= end
+fn starts_by(values: &[u32], e: End, low: u64) -> bool
+    requires { ⌜ low < 2 ^ 40 ⌝ }
+    ensures { λ r. ⌜ r ≡ leb low (endValue (now (values .entry)) e) ⌝ }
+{
+    let sum = value_at(values, e.pointer) + value_at(values, e.integer);
+    if e.constant >= LARGE {
+        return true;
+    }
+    low <= sum + e.constant
+}
+
+// end <= high
+fn ends_by(values: &[u32], e: End, high: u64) -> bool
+    requires { ⌜ high < 2 ^ 40 ⌝ }
+    ensures { λ r. ⌜ r ≡ leb (endValue (now (values .entry)) e) high ⌝ }
+{
+    let sum = value_at(values, e.pointer) + value_at(values, e.integer);
+    if e.constant >= LARGE {
+        return false;
+    }
+    sum + e.constant <= high
+}
+
+// The pointer is null, or its ends lie in its origin object.
+pub(crate) fn bounds_true(
+    environment: Environment,
+    directory: &[u32],
+    values: &[u32],
+    origins: &[u32],
+    p: usize,
+) -> bool
+    ensures { λ r. ⌜ r ≡ boundsTrue environment (now (directory .entry)) (now (values .entry)) (now (origins .entry)) p ⌝ }
+{
+    if value_at(values, p) == 0 {
+        return true;
+    }
+    let origin = value_at(origins, p) as usize;
+    if origin == 0 {
+        return false;
+    }
+    let pair = 2 * (origin - 1);
+    let low = value_at(directory, pair);
+    let high = low + value_at(directory, pair + 1);
+    let bounds = declared_bounds(environment, p);
+    let lower = bounds.lower;
+    let upper = bounds.upper;
+    starts_by(values, end_of(lower), low + BIAS) & ends_by(values, end_of(upper), high + BIAS)
+}

@@ -1,0 +1,64 @@
+-- Runs of the plain machine without origins, which is what the code does.
+use Prim.Native.Nat.{ℕ, zero, suc, _+_}
+use mathlib.Core.Path.{_≡_}
+use mathlib.Core.Bool.{Bool, true, false}
+use mathlib.Core.List.{List}
+use lib.Dec.{ltb}
+use lib.IntN.{ℤ}
+use Rattle.sections.specs.declared.Sections.{Sections}
+use Rattle.steps.specs.Bare.{bareMove, Ready}
+use Rattle.steps.specs.declared.Step.{Step}
+use Rattle.steps.specs.declared.Step.the-variants.{Go, Stop}
+use Rattle.interpreter.specs.declared.Outcome.{Outcome}
+use Rattle.interpreter.specs.declared.Outcome.the-variants.{Done, Spent, Stopped}
+
+-- A run's end: its outcome, and the values and cells then.
+pub record Result : Type 0 where
+  pub outcome : Outcome
+  pub values : List ℕ
+  pub cells : List ℕ
+
+abbrev pub result : Outcome → List ℕ → List ℕ → Result
+result o vs cs = record { outcome = o; values = vs; cells = cs }
+
+abbrev pub pickResult : Bool → Result → Result → Result
+pickResult true a b = a
+pickResult false a b = b
+
+-- After a step, the n-th, to the values vs and the cells cs.
+abbrev pub follow : Step → (ℕ → Result) → ℕ → List ℕ → List ℕ → Result
+follow (Go b) go n vs cs = go b
+follow (Stop c) go n vs cs = result (Stopped n c) vs cs
+
+abbrev pub IfTrue : Bool → Type 0 → Type 0
+IfTrue true A = A
+IfTrue false A = Unit {0}
+
+abbrev pub Onward : Step → (ℕ → Type 0) → Type 0
+Onward (Go b) A = A b
+Onward (Stop c) A = Unit {0}
+
+-- ---- the run. S is the slice of successors, D the directory, W the ends.
+
+module _ (T : List ℤ) (h : Sections) (W D S : List ℕ) where
+  -- From the statement due with n steps made: done where nothing is due, spent where the limit is used, else the step.
+  unfoldable pub bareRun : ℕ → ℕ → ℕ → List ℕ → List ℕ → Result
+  bareRun zero n a vs cs = pickResult (ltb a (h .statements)) (result (Spent n a) vs cs) (result (Done n) vs cs)
+  bareRun (suc l) n a vs cs =
+      let m = bareMove T h W D S a vs cs in
+      pickResult (ltb a (h .statements))
+      (follow (m .said) (λ b. bareRun l (n + 1) b (m .values) (m .cells)) (n + 1) (m .values) (m .cells))
+      (result (Done n) vs cs)
+
+  -- Each statement begun within the limit reads, and its access is inside.
+  unfoldable pub SafeRun : ℕ → ℕ → List ℕ → List ℕ → Type 0
+  SafeRun zero a vs cs = Unit {0}
+  SafeRun (suc l) a vs cs =
+      let m = bareMove T h W D S a vs cs in
+      IfTrue (ltb a (h .statements)) (Ready T h W a vs cs × Onward (m .said) (λ b. SafeRun l b (m .values) (m .cells)))
+
+-- A run of the code ends with the result o.
+pub record Ends (o : Result) (r : Outcome) (vs cs : List ℕ) : Type 0 where
+  pub outcome : r ≡ o .outcome
+  pub values : vs ≡ o .values
+  pub cells : cs ≡ o .cells

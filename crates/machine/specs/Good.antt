@@ -1,0 +1,175 @@
+-- What holds of the memory at a point of a run, by the facts and the known bounds there.
+use Prim.Native.Nat.{ℕ, suc, _+_, _^_, _≤_, _<_}
+use mathlib.Core.Path.{_≡_, refl, _∙_}
+use mathlib.Core.Logic.{_≢_, _⊎_, inl, inr}
+use mathlib.Core.Bool.{Bool, true, false}
+use mathlib.Core.List.{List, []}
+use native.Mathlib.Omega.{arith}
+use borrow.Author.Tests.{eqb-true, eqb-false}
+use lib.Dec.{eqb}
+use lib.IntN.{ℤ}
+use lib.ListN.{length, getD, set, length-set}
+use lib.Seq.{getD-set-same, getD-set-other}
+use Rattle.facts.specs.Numbers.{bias, maxValue}
+use Rattle.facts.specs.Store.{newSet}
+use Rattle.chains.specs.Sound.{InRange, Holds, Except}
+use Rattle.facts.specs.declared.FactSet.{FactSet}
+use Rattle.sections.specs.declared.Sections.{Sections}
+use Rattle.blocks.specs.Tree.{tree}
+use Rattle.blocks.specs.Layout.{layout}
+use Rattle.rules.specs.BoundsRules.{isPointer, declared, known, effectOn, boundsAfter, boundsShown, unshown}
+use Rattle.rules.specs.BoundsTrue.{BoundsHold, known-after, all-shown, shown-holds, ProperEnd}
+use Rattle.rules.specs.Rules.{blockFaults}
+use Rattle.rules.specs.EnvironmentLaws.{Declares, DeclaredEnds}
+use Rattle.rules.specs.declared.Bounds.{Bounds}
+use Rattle.rules.specs.declared.Effect.{Effect}
+use Rattle.rules.specs.declared.Environment.{Environment}
+use Rattle.machine.specs.Machine.{value, low, high, Memory}
+use Rattle.machine.specs.Soundness.{Placed, Outside}
+
+-- What stays the same in a run of an accepted routine: the table is laid out and its walk has no fault, the environment is the table's, and each object
+-- is placed in a memory as long as cs.
+pub record Setting (T : List ℤ) (h : Sections) (E : Environment) (D cs : List ℕ) : Type 0 where
+  pub laid : layout T h ≡ []
+  pub walked : blockFaults T h E (tree T h) newSet ≡ []
+  pub declares : Declares T h E
+  pub placed : (o : ℕ) → o < h .objects → Placed E D (length cs) o
+  pub memory : length cs ≤ 2 ^ 24
+
+-- The bounds b lie in the object of the origin.
+pub record InObject (D : List ℕ) (objects origin : ℕ) (b : Bounds) (v : ℕ → ℕ) : Type 0 where
+  pub object : ℕ
+  pub origin-is : origin ≡ suc object
+  pub exists : object < objects
+  pub bounds : BoundsHold (low D object + bias) (high D object + bias) b v
+
+-- "Bounds of p are true when p is null or" they lie in its origin object: any bounds b of p.
+abbrev pub TrueOf : List ℕ → ℕ → Memory → ℕ → Bounds → Type 0
+TrueOf D objects m p b = (value (m .values) p ≡ 0) ⊎ InObject D objects (getD (m .origins) p 0) b (value (m .values))
+
+-- What no statement changes, from the memory cs at the start on.
+pub record Steady (h : Sections) (D cs : List ℕ) (m : Memory) : Type 0 where
+  pub range : InRange (value (m .values))
+  pub values-long : length (m .values) ≡ h .variables
+  pub origins-long : length (m .origins) ≡ h .variables
+  pub cells-long : length (m .cells) ≡ length cs
+  pub cells-small : (i : ℕ) → getD (m .cells) i 0 ≤ maxValue
+  pub outside : (i : ℕ) → Outside D (h .objects) i → getD (m .cells) i 0 ≡ getD cs i 0
+
+module _ (h : Sections) (E : Environment) (D cs : List ℕ) where
+  -- The facts F are true of the values, and the known bounds K of each pointer.
+  pub record Good (F : FactSet) (K : List Bounds) (m : Memory) : Type 0 where
+    pub facts : Holds F (value (m .values))
+    pub bounds : (p : ℕ) → isPointer E p ≡ true → TrueOf D (h .objects) m p (known K p)
+    pub steady : Steady h D cs m
+
+  pub with-facts : (F G : FactSet) (K : List Bounds) (m : Memory) → Good F K m → Holds G (value (m .values)) → Good G K m
+  with-facts F G K m g f = record { facts = f; bounds = g .bounds; steady = g .steady }
+
+-- True bounds of q before a statement make true bounds of p after it.
+pub carry : (D : List ℕ) (objects : ℕ) (m n : Memory) (q p : ℕ) (b c : Bounds) → TrueOf D objects m q b
+    → (value (m .values) q ≡ 0 → value (n .values) p ≡ 0) → getD (n .origins) p 0 ≡ getD (m .origins) q 0
+    → ((l u : ℕ) → BoundsHold l u b (value (m .values)) → BoundsHold l u c (value (n .values)))
+    → TrueOf D objects n p c
+carry D objects m n q p b c (inl z) null o k = inl (null z)
+carry D objects m n q p b c (inr i) null o k = inr (record { object = i .object; origin-is = o ∙ i .origin-is; exists = i .exists; bounds = k _ _ (i .bounds) })
+
+-- ---- the assignment of a variable
+
+-- The values w are v with x set to a.
+pub record Assigned (v w : ℕ → ℕ) (x a : ℕ) : Type 0 where
+  pub range : InRange w
+  pub except : Except x v w
+  pub value-is : w x ≡ a
+
+pub assigned : (vs : List ℕ) (x a : ℕ) → InRange (value vs) → x < length vs → length vs ≤ 16 → a ≤ maxValue → Assigned (value vs) (value (set vs x a)) x a
+assigned vs x a g l few r =
+    record { range = record { zero-is = other 16 (λ e. omega arith) ∙ g .zero-is; below = λ z. below z (eqb z x) refl }; except = other; value-is = same }
+  where
+    other : Except x (value vs) (value (set vs x a))
+    other z e = getD-set-other vs x z a 0 e
+
+    same : value (set vs x a) x ≡ a
+    same = getD-set-same vs x a 0 l
+
+    below : (z : ℕ) (b : Bool) → eqb z x ≡ b → value (set vs x a) z ≤ maxValue
+    below z true e = rw (eqb-true z x e) (rw same r)
+    below z false e = rw (other z (eqb-false z x e)) (g .below z)
+
+module _ (T : List ℤ) (h : Sections) (E : Environment) (D cs : List ℕ) (S : Setting T h E D cs) where
+  pub steady-values : (m : Memory) (x a : ℕ) (os : List ℕ) → Steady h D cs m → InRange (value (set (m .values) x a)) → length os ≡ h .variables
+      → Steady h D cs (record { cells = m .cells; values = set (m .values) x a; origins = os })
+  steady-values m x a os s g l =
+      record {
+        range = g;
+        values-long = length-set (m .values) x a ∙ s .values-long;
+        origins-long = l;
+        cells-long = s .cells-long;
+        cells-small = s .cells-small;
+        outside = s .outside;
+      }
+
+  module _ (F G : FactSet) (K : List Bounds) (e : Effect) (m : Memory) (x a : ℕ) (os : List ℕ) where
+    abbrev pub before : ℕ → ℕ
+    before = value (m .values)
+
+    abbrev pub after : ℕ → ℕ
+    after = value (set (m .values) x a)
+
+    abbrev pub memoryAfter : Memory
+    memoryAfter = record { cells = m .cells; values = set (m .values) x a; origins = os }
+
+    -- The variable x gets the value a, and the origins become os.
+    pub set-good : Good h E D cs F K m → x < h .variables → a ≤ maxValue → length os ≡ h .variables
+        → ((r : ℕ) → r ≢ x → getD os r 0 ≡ getD (m .origins) r 0)
+        → (Assigned before after x a → Holds G after)
+        → (Assigned before after x a → (r l u : ℕ) → r ≢ x → BoundsHold l u (known K r) before → BoundsHold l u (effectOn e K r) after)
+        → (Assigned before after x a → isPointer E x ≡ true → TrueOf D (h .objects) memoryAfter x (effectOn e K x))
+        → Good h E D cs G (boundsAfter e K) memoryAfter
+    set-good g l small long same facts others own =
+        record {
+          facts = facts is;
+          bounds = λ r t. rw (known-after e K r (omega (arith, S .declares .few, S .declares .below r t))) (true-of r t (eqb r x) refl);
+          steady = steady-values m x a os (g .steady) (is .range) long;
+        }
+      where
+        is : Assigned before after x a
+        is = assigned (m .values) x a (g .steady .range) (omega (arith, g .steady .values-long)) (omega (arith, g .steady .values-long, S .declares .few)) small
+
+        true-of : (r : ℕ) → isPointer E r ≡ true → (b : Bool) → eqb r x ≡ b → TrueOf D (h .objects) memoryAfter r (effectOn e K r)
+        true-of r t true q = let p : r ≡ x = eqb-true r x q in rw p (own is (rw p at t))
+        true-of r t false q =
+            let p : r ≢ x = eqb-false r x q in
+            carry D (h .objects) m memoryAfter r r (known K r) (effectOn e K r) (g .bounds r t) (λ z. is .except r p ∙ z) (same r p) (λ l u b. others is r l u p b)
+
+-- ---- all declared bounds are shown, and become the known ones
+
+module _ (T : List ℤ) (h : Sections) (E : Environment) (D cs : List ℕ) (S : Setting T h E D cs) where
+  pub shown-true : (F : FactSet) (m : Memory) (p : ℕ) (b : Bounds) → isPointer E p ≡ true → Steady h D cs m → Holds F (value (m .values))
+      → boundsShown F p b (declared E p) ≡ true → TrueOf D (h .objects) m p b → TrueOf D (h .objects) m p (declared E p)
+  shown-true F m p b t s f q (inl z) = inl z
+  shown-true F m p b t s f q (inr i) = go (shown-holds F (value (m .values)) f (s .range) _ _ p b (declared E p) below lower upper q (i .bounds))
+    where
+      ends : DeclaredEnds E p
+      ends = S .declares .ends p t
+
+      below : p < 17
+      below = omega (arith, S .declares .few, S .declares .below p t)
+
+      lower : ProperEnd (declared E p .lower)
+      lower = rw (ends .bounds) (ends .low-proper)
+
+      upper : ProperEnd (declared E p .upper)
+      upper = rw (ends .bounds) (ends .high-proper)
+
+      go : (value (m .values) p ≡ 0) ⊎ BoundsHold (low D (i .object) + bias) (high D (i .object) + bias) (declared E p) (value (m .values)) → TrueOf D (h .objects) m p (declared E p)
+      go (inl z) = inl z
+      go (inr d) = inr (record { object = i .object; origin-is = i .origin-is; exists = i .exists; bounds = d })
+
+  pub redeclared : (F : FactSet) (K : List Bounds) (m : Memory) → unshown E F K ≡ [] → Good h E D cs F K m → Good h E D cs F (E .declared) m
+  redeclared F K m e g =
+      record {
+        facts = g .facts;
+        bounds = λ p t. shown-true F m p (known K p) t (g .steady) (g .facts) (all-shown E F K e p (omega (arith, S .declares .few, S .declares .below p t)) t) (g .bounds p t);
+        steady = g .steady;
+      }

@@ -1,0 +1,13 @@
+pub mod Machine
+pub mod Points
+pub mod Soundness
+pub mod Good
+pub mod ConditionSound
+pub mod AccessSound
+pub mod SimpleSound
+pub mod PerformedSound
+pub mod Places
+pub mod BlockSound
+pub mod Standing
+pub mod EntrySound
+pub mod RunSound

@@ -1,0 +1,113 @@
+-- Where a point stands in a block of an accepted routine, and what then holds there.
+use Prim.Native.Nat.{ℕ, _+_}
+use mathlib.Core.Path.{_≡_}
+use mathlib.Core.Logic.{_⊎_}
+use mathlib.Core.List.{List, [], _∷_}
+use lib.IntN.{ℤ}
+use lib.ListN.{length}
+use Rattle.chains.specs.Sound.{InRange, Holds}
+use Rattle.facts.specs.declared.FactSet.{FactSet}
+use Rattle.sections.specs.declared.Sections.{Sections}
+use Rattle.conditions.specs.Negation.{negatedOf}
+use Rattle.statements.specs.Statements.{statementAt}
+use Rattle.statements.specs.declared.Simple.{Simple}
+use Rattle.statements.specs.declared.Statement.the-variants.{Plain, If, While, Bundle}
+use Rattle.statements.specs.declared.StatementRead.the-variants.{Read}
+use Rattle.blocks.specs.Tree.{Block, nil, plain, branch, loop, bundle, unread, assigned}
+use Rattle.flow.specs.Flow.{Successors, successors, entry, lead}
+use Rattle.flow.specs.Shape.{size, Numbered, Formed, ReadsLine, Reads, RightLine, Right, targetsFrom}
+use Rattle.flow.specs.ShapeLaws.{body-targets}
+use Rattle.rules.specs.FactRules.{factsAfter, conditionFacts, loopFacts}
+use Rattle.rules.specs.FactsTrue.{Agree}
+use Rattle.rules.specs.BoundsRules.{effect, boundsAfter}
+use Rattle.rules.specs.Rules.{bundleFacts, sidesJoined, blockFacts}
+use Rattle.rules.specs.declared.Bounds.{Bounds}
+use Rattle.rules.specs.declared.Environment.{Environment}
+use Rattle.machine.specs.Machine.{value, Memory}
+use Rattle.machine.specs.Good.{Good}
+
+-- ---- a block in its place: each node is the record of its number, has the successors of the flow, and a loop drops what its body assigns
+
+module _ (T : List ℤ) (h : Sections) (f : ℕ → Successors) where
+  abbrev pub LinkedLine : ℕ → List Simple → ℕ → Type 0
+  LinkedLine a [] after = Unit {0}
+  LinkedLine a (s ∷ ss) after =
+      (statementAt T h a ≡ Read (Plain s)) × (f a ≡ successors a (lead (a + 1) (length ss) after) (lead (a + 1) (length ss) after)) × LinkedLine (a + 1) ss after
+
+  abbrev pub Linked : Block → ℕ → Type 0
+  Linked nil after = Unit {0}
+  Linked (plain a s r) after = (statementAt T h a ≡ Read (Plain s)) × (f a ≡ successors a (entry r after) (entry r after)) × Linked r after
+  Linked (branch a c t e r) after =
+      (statementAt T h a ≡ Read (If c (size t) (size e))) × (f a ≡ successors a (entry t (entry r after)) (entry e (entry r after)))
+      × Linked t (entry r after) × Linked e (entry r after) × Linked r after
+  Linked (loop a c n t r) after =
+      (statementAt T h a ≡ Read (While c (size t))) × (f a ≡ successors a (entry t a) (entry r after))
+      × (assigned t ≡ targetsFrom T h (a + 1) n) × Linked t a × Linked r after
+  Linked (bundle a ss r) after =
+      (statementAt T h a ≡ Read (Bundle (length ss)))
+      × (f a ≡ successors a (lead (a + 1) (length ss) (entry r after)) (lead (a + 1) (length ss) (entry r after)))
+      × LinkedLine (a + 1) ss (entry r after) × Linked r after
+  Linked (unread a) after = ⊥
+
+  linked-line : (a : ℕ) (ss : List Simple) (after : ℕ) → ReadsLine T h a ss → RightLine f a ss after → LinkedLine a ss after
+  linked-line a [] after r l = tt
+  linked-line a (s ∷ ss) after r l = (r .0, l .0, linked-line (a + 1) ss after (r .1) (l .1))
+
+  pub linked : (b : Block) (lo d after : ℕ) → Numbered b lo → Formed d b → Reads T h b → Right f b after → Linked b after
+  linked nil lo d after n w r l = tt
+  linked (plain a s u) lo d after n w r l = (r .0, l .0, linked u (a + 1) d after (n .1) (w .1) (r .1) (l .1))
+  linked (branch a c t e u) lo d after n w r l = (
+    r .0,
+    l .0,
+    linked t (a + 1) (d + 1) (entry u after) (n .1) (w .1) (r .1) (l .1),
+    linked e (a + 1 + size t) (d + 1) (entry u after) (n .2) (w .2) (r .2) (l .2),
+    linked u (a + 1 + size t + size e) d after (n .3) (w .3) (r .3) (l .3),
+  )
+  linked (loop a c k t u) lo d after n w r l = (
+    r .0,
+    l .0,
+    body-targets T h t a k (n .1) (r .1) (w .1),
+    linked t (a + 1) (d + 1) a (n .1) (w .2) (r .1) (l .1),
+    linked u (a + 1 + size t) d after (n .2) (w .3) (r .2) (l .2),
+  )
+  linked (bundle a ss u) lo d after n w r l =
+      (r .0, l .0, linked-line (a + 1) ss (entry u after) (r .1) (l .1), linked u (a + 1 + length ss) d after (n .1) (w .3) (r .2) (l .2))
+  linked (unread a) lo d after n w r l = absurd r
+
+-- ---- the places
+
+module _ (T : List ℤ) (h : Sections) (E : Environment) (D cs : List ℕ) where
+  -- The statement a is due, and F and K are true.
+  abbrev pub Stands : ℕ → FactSet → List Bounds → ℕ → Memory → Type 0
+  Stands a F K d m = (d ≡ a) × Good h E D cs F K m
+
+  -- At one of the statements of a bundle, the first of which is a.
+  abbrev pub AtLine : ℕ → List Simple → FactSet → List Bounds → ℕ → Memory → Type 0
+  AtLine a [] F K d m = ⊥
+  AtLine a (s ∷ ss) F K d m = Stands a F K d m ⊎ AtLine (a + 1) ss (factsAfter s F) (boundsAfter (effect E F s) K) d m
+
+  -- Some values made F true before the loop, and those now differ from them only at what the body assigns.
+  pub record Framed (A : List ℕ) (F : FactSet) (m : Memory) : Type 0 where
+    pub old : ℕ → ℕ
+    pub held : Holds F old
+    pub range : InRange old
+    pub agree : Agree A old (value (m .values))
+
+  -- The facts at the head of a loop.
+  abbrev pub headFacts : ℕ → ℕ → FactSet → FactSet
+  headFacts a n F = loopFacts (targetsFrom T h (a + 1) n) F
+
+  -- At a statement of the block, which was entered with the facts F.
+  abbrev pub At : Block → FactSet → ℕ → Memory → Type 0
+  At nil F d m = ⊥
+  At (plain a s r) F d m = Stands a F (E .declared) d m ⊎ At r (factsAfter s F) d m
+  At (branch a c t e r) F d m =
+      Stands a F (E .declared) d m
+      ⊎ (At t (conditionFacts F c) d m
+      ⊎ (At e (conditionFacts F (negatedOf c)) d m
+      ⊎ At r (sidesJoined T h E (blockFacts T h E t (conditionFacts F c)) (blockFacts T h E e (conditionFacts F (negatedOf c)))) d m))
+  At (loop a c n t r) F d m =
+      (Framed (targetsFrom T h (a + 1) n) F m × (Stands a (headFacts a n F) (E .declared) d m ⊎ At t (conditionFacts (headFacts a n F) c) d m))
+      ⊎ At r (conditionFacts (headFacts a n F) (negatedOf c)) d m
+  At (bundle a ss r) F d m = Stands a F (E .declared) d m ⊎ (AtLine (a + 1) ss F (E .declared) d m ⊎ At r (bundleFacts ss F) d m)
+  At (unread a) F d m = ⊥

@@ -1,0 +1,65 @@
+-- Points of a run: which are in a bundle, and the access that the step from a point performs.
+use Prim.Native.Nat.{ℕ, _+_}
+use mathlib.Core.Bool.{Bool, true, false, _&&_, _||_}
+use mathlib.Core.List.{List}
+use lib.Dec.{ltb}
+use lib.IntN.{ℤ}
+use lib.ListN.{length, getD}
+use Rattle.sections.specs.declared.Sections.{Sections}
+use Rattle.statements.specs.Statements.{statementAt}
+use Rattle.statements.specs.declared.Simple.{Simple}
+use Rattle.statements.specs.declared.Simple.the-variants.{Literal, AddConstant, Arithmetic, Null, Address, PointerOffset, PointerIndex, Load, Store, Check}
+use Rattle.statements.specs.declared.Statement.the-variants.{Plain, If, While, Bundle}
+use Rattle.statements.specs.declared.StatementRead.{StatementRead}
+use Rattle.statements.specs.declared.StatementRead.the-variants.{Read, Unread}
+use Rattle.blocks.specs.Tree.{Block, nil, plain, branch, loop, bundle, unread}
+use Rattle.rules.specs.declared.Environment.{Environment}
+use Rattle.machine.specs.Machine.{Failing, none, fails, failing, address, Status, going, stopped, stuck, Point, Memory, memoryOf}
+
+-- "A point is in a bundle when a statement inside one is due": of the statement d that is due. A bundle's head is not inside it.
+unfoldable pub inBundle : Block → ℕ → Bool
+inBundle nil d = false
+inBundle (plain a s r) d = inBundle r d
+inBundle (branch a c t e r) d = inBundle t d || (inBundle e d || inBundle r d)
+inBundle (loop a c n t r) d = inBundle t d || inBundle r d
+inBundle (bundle a ss r) d = (ltb a d && ltb d (a + 1 + length ss)) || inBundle r d
+inBundle (unread a) d = false
+
+-- An access: its address, with the bias, and the origin of its pointer.
+pub data Access : Type 0 where
+  no-access : Access
+  access : ℕ → ℕ → Access
+
+-- "Kinds 8 and 9 read or write the cell at the whole number p + i + k".
+abbrev pub simpleAccess : Simple → Memory → Access
+simpleAccess (Literal x k) m = no-access
+simpleAccess (AddConstant x y k) m = no-access
+simpleAccess (Arithmetic x y z op) m = no-access
+simpleAccess (Null p) m = no-access
+simpleAccess (Address p o) m = no-access
+simpleAccess (PointerOffset p q k) m = no-access
+simpleAccess (PointerIndex p q i) m = no-access
+simpleAccess (Load x p i k) m = access (address (m .values) p i k) (getD (m .origins) p 0)
+simpleAccess (Store p i k x) m = access (address (m .values) p i k) (getD (m .origins) p 0)
+simpleAccess (Check c) m = no-access
+
+abbrev pub unlessFailing : Failing → Access → Access
+unlessFailing none a = a
+unlessFailing (fails n) a = no-access
+
+abbrev pub statementAccess : Environment → StatementRead → Memory → Access
+statementAccess E (Read (Plain s)) m = unlessFailing (failing E (m .values) s) (simpleAccess s m)
+statementAccess E (Read (If c x y)) m = no-access
+statementAccess E (Read (While c x)) m = no-access
+statementAccess E (Read (Bundle x)) m = no-access
+statementAccess E Unread m = no-access
+
+abbrev pub accessIf : Bool → Access → Access
+accessIf true a = a
+accessIf false a = no-access
+
+-- The access that the step from a point performs; a run that has ended performs none.
+unfoldable pub accessFrom : List ℤ → Sections → Environment → Status → Point → Access
+accessFrom T h E going P = accessIf (ltb (P .due) (h .statements)) (statementAccess E (statementAt T h (P .due)) (memoryOf P))
+accessFrom T h E (stopped n) P = no-access
+accessFrom T h E stuck P = no-access

@@ -1,0 +1,225 @@
+-- Soundness: at every point of a begun run of an accepted routine the machine has a step or has ended, every access is inside its origin object, and
+-- outside bundles the declared bounds of every pointer are true.
+use Prim.Native.Nat.{ℕ, zero, suc, _≤_}
+use mathlib.Core.Path.{_≡_, refl}
+use mathlib.Core.Logic.{_≢_, _⊎_, inl, inr}
+use mathlib.Core.Bool.{Bool, true, false}
+use mathlib.Core.List.{List, []}
+use native.Mathlib.Omega.{arith}
+use borrow.Author.Tests.{ltb-true}
+use lib.Dec.{ltb}
+use lib.IntN.{ℤ}
+use lib.ListN.{length}
+use Rattle.facts.specs.Store.{newSet}
+use Rattle.sections.specs.declared.Sections.{Sections}
+use Rattle.statements.specs.Statements.{statementAt}
+use Rattle.statements.specs.StatementLaws.{read-typed, read-within}
+use Rattle.statements.specs.declared.Simple.{Simple}
+use Rattle.statements.specs.declared.Simple.the-variants.{Literal, AddConstant, Arithmetic, Null, Address, PointerOffset, PointerIndex, Load, Store, Check}
+use Rattle.statements.specs.declared.Statement.the-variants.{Plain, If, While, Bundle}
+use Rattle.statements.specs.declared.StatementRead.{StatementRead}
+use Rattle.statements.specs.declared.StatementRead.the-variants.{Read, Unread}
+use Rattle.table.specs.Form.{formOf}
+use Rattle.table.specs.FormLaws.{well-formed}
+use Rattle.table.specs.declared.Form.the-variants.{WellFormed}
+use Rattle.blocks.specs.Tree.{tree, assigned}
+use Rattle.flow.specs.Flow.{successors, tableEntry}
+use Rattle.flow.specs.ShapeLaws.{table-laid}
+use Rattle.flow.specs.SuccessorLaws.{flow-right}
+use Rattle.rules.specs.FactsTrue.{Agree}
+use Rattle.rules.specs.BoundsRules.{isPointer, declared}
+use Rattle.rules.specs.EnvironmentLaws.{Declares, environment-declares}
+use Rattle.rules.specs.Rules.{blockFacts}
+use Rattle.rules.specs.Verdict.{environmentOf, faults}
+use Rattle.checker.specs.VerdictLaws.{clear}
+use Rattle.rules.specs.declared.Environment.{Environment}
+use Rattle.machine.specs.Machine.{value, boundsTrue, Failing, none, fails, failing, Memory, Status, going, stopped, stuck, Point, memoryOf, statementStep, successorsOf, stepIfDue, nextPoint, start, pointAfter}
+use Rattle.machine.specs.Points.{inBundle, simpleAccess, unlessFailing, statementAccess, accessIf, accessFrom}
+use Rattle.machine.specs.Soundness.{AccessRight, AccessAllowed, Begun, Sound}
+use Rattle.machine.specs.Good.{Setting, Steady, Good}
+use Rattle.machine.specs.AccessSound.{Inside, Ready, inside-origin, access-inside}
+use Rattle.machine.specs.Places.{Linked, linked, Stands, At}
+use Rattle.machine.specs.BlockSound.{Fine, leads, stops, enter, block-step}
+use Rattle.machine.specs.Standing.{Standing, standing, past-bundles}
+use Rattle.machine.specs.EntrySound.{true-test, begun-good}
+
+module _ (T : List ℤ) (h : Sections) (E : Environment) (D cs : List ℕ) where
+  -- What the proof carries from point to point: the place in the tree with its facts and bounds, or the end of the table.
+  pub record Invariant (P : Point) : Type 0 where
+    pub has-step : P .status ≢ stuck
+    pub place : At T h E D cs (tree T h) newSet (P .due) (memoryOf P)
+        ⊎ Stands T h E D cs (h .statements) (blockFacts T h E (tree T h) newSet) (E .declared) (P .due) (memoryOf P)
+
+  module _ (S : Setting T h E D cs) where
+    links : Linked T h (successorsOf T h E D) (tree T h) (h .statements)
+    links =
+        let l = table-laid T h (S .laid) in
+        linked T h (successorsOf T h E D) (tree T h) 0 0 (h .statements) (l .numbered) (l .formed) (l .reads) (flow-right T h (S .laid) (successors 0 0 0))
+
+    -- ---- the invariant is kept
+
+    abbrev Next : Memory → ℕ → Memory → Type 0
+    Next m d n =
+        (At T h E D cs (tree T h) newSet d n ⊎ Stands T h E D cs (h .statements) (blockFacts T h E (tree T h) newSet) (E .declared) d n)
+        × Agree (assigned (tree T h)) (value (m .values)) (value (n .values))
+
+    fine-kept : (P Q : Point) → Invariant P → Fine (Next (memoryOf P)) P Q → Invariant Q
+    fine-kept P Q i (leads n m g) = record { has-step = λ e. let z : _≡_ {A = ℕ} 0 1 = cc in omega arith; place = g .0 }
+    fine-kept P Q i (stops c) = record { has-step = λ e. let z : _≡_ {A = ℕ} 0 1 = cc in omega arith; place = i .place }
+
+    due-kept : (P : Point) → Invariant P → (b : Bool) → ltb (P .due) (h .statements) ≡ b → Invariant (stepIfDue T h E D b P)
+    due-kept P i false q = i
+    due-kept P i true q = go (i .place)
+      where
+        go : At T h E D cs (tree T h) newSet (P .due) (memoryOf P) ⊎ Stands T h E D cs (h .statements) (blockFacts T h E (tree T h) newSet) (E .declared) (P .due) (memoryOf P)
+            → Invariant (statementStep E D (statementAt T h (P .due)) (successorsOf T h E D (P .due)) P)
+        go (inl x) = fine-kept P _ i (block-step T h E D cs S (successorsOf T h E D) (tree T h) newSet (h .statements) P links (S .walked) x)
+        go (inr x) = absurd (omega (arith, ltb-true (P .due) (h .statements) q, x .0))
+
+    pub next-kept : (P : Point) (s : Status) → Invariant P → Invariant (nextPoint T h E D s P)
+    unfolding nextPoint
+    next-kept P going i = due-kept P i (ltb (P .due) (h .statements)) refl
+    next-kept P (stopped n) i = i
+    next-kept P stuck i = i
+
+    -- A run that goes on from any point.
+    pub point-kept : (t : ℕ) (P : Point) → Invariant P → Invariant (pointAfter T h E D t P)
+    unfolding pointAfter
+    point-kept zero P i = i
+    point-kept (suc t) P i = next-kept (pointAfter T h E D t P) (pointAfter T h E D t P .status) (point-kept t P i)
+
+    pub start-kept : (vs os : List ℕ) → Good h E D cs newSet (E .declared) (record { cells = cs; values = vs; origins = os }) → Invariant (start T h E D cs vs os)
+    unfolding start tableEntry
+    start-kept vs os g =
+        record {
+          has-step = λ e. let z : _≡_ {A = ℕ} 0 1 = cc in omega arith;
+          place = enter T h E D cs S (successorsOf T h E D) (tree T h) newSet (h .statements) _ (record { cells = cs; values = vs; origins = os }) links refl g;
+        }
+
+    -- ---- what the invariant says
+
+    -- Nothing is due in a bundle at the end of the table.
+    pub end-outside : inBundle (tree T h) (h .statements) ≡ false
+    end-outside = let l = table-laid T h (S .laid) in past-bundles (tree T h) 0 (h .statements) (l .numbered) (omega (arith, l .ends))
+
+    abbrev Somewhere : Point → Type 0
+    Somewhere P = Standing T h E D cs (tree T h) (P .due) (memoryOf P) ⊎ ((P .due ≡ h .statements) × Good h E D cs (blockFacts T h E (tree T h) newSet) (E .declared) (memoryOf P))
+
+    somewhere : (P : Point) → Invariant P → Somewhere P
+    somewhere P i = go (i .place)
+      where
+        go : At T h E D cs (tree T h) newSet (P .due) (memoryOf P) ⊎ Stands T h E D cs (h .statements) (blockFacts T h E (tree T h) newSet) (E .declared) (P .due) (memoryOf P)
+            → Somewhere P
+        go (inl x) = inl (standing T h E D cs S (successorsOf T h E D) (tree T h) newSet (h .statements) (P .due) (memoryOf P) links (S .walked) x)
+        go (inr x) = inr x
+
+    steady-of : (P : Point) → Somewhere P → Steady h D cs (memoryOf P)
+    steady-of P (inl w) = w .good .steady
+    steady-of P (inr w) = w .1 .steady
+
+    due-of : (P : Point) → Somewhere P → P .due ≤ h .statements
+    due-of P (inl w) = omega (arith, w .within)
+    due-of P (inr w) = omega (arith, w .0)
+
+    bounds-of : (P : Point) → Somewhere P → inBundle (tree T h) (P .due) ≡ false → (p : ℕ) → isPointer E p ≡ true → boundsTrue E D (P .values) (P .origins) p ≡ true
+    bounds-of P (inl w) e p t = true-test E D (h .objects) (memoryOf P) p (S .declares .ends p t) (w .declared e .bounds p t)
+    bounds-of P (inr w) e p t = true-test E D (h .objects) (memoryOf P) p (S .declares .ends p t) (w .1 .bounds p t)
+
+    -- The access of a statement that is due, where no check fails.
+    access-right : (m : Memory) (origin a : ℕ) → Steady h D cs m → Inside D (h .objects) origin a → AccessRight D (length (m .cells)) a origin
+    access-right m origin a s i =
+        let placed = S .placed (i .object) (i .exists) in
+        record {
+          inside = inside-origin D (h .objects) origin a i;
+          first = omega (arith, placed .first, i .above);
+          last = omega (arith, placed .inside, i .below, s .cells-long);
+        }
+
+    simple-allowed : (s : Simple) (a : ℕ) (m : Memory) → Steady h D cs m → statementAt T h a ≡ Read (Plain s) → Ready E D (h .objects) s m → failing E (m .values) s ≡ none
+        → AccessAllowed D (length (m .cells)) (simpleAccess s m)
+    unfolding failing
+    simple-allowed (Literal x k) a m w r y e = tt
+    simple-allowed (AddConstant x q k) a m w r y e = tt
+    simple-allowed (Arithmetic x q z op) a m w r y e = tt
+    simple-allowed (Null p) a m w r y e = tt
+    simple-allowed (Address p o) a m w r y e = tt
+    simple-allowed (PointerOffset p q k) a m w r y e = tt
+    simple-allowed (PointerIndex p q i) a m w r y e = tt
+    simple-allowed (Load x p i k) a m w r y e =
+        let typed = read-typed T h a (Plain (Load x p i k)) r in
+        access-right m _ _ w (access-inside E D (h .objects) m p (S .declares .ends p (S .declares .pointer p (typed .pointer))) _ e y)
+    simple-allowed (Store p i k x) a m w r y e =
+        let typed = read-typed T h a (Plain (Store p i k x)) r in
+        access-right m _ _ w (access-inside E D (h .objects) m p (S .declares .ends p (S .declares .pointer p (typed .pointer))) _ e y)
+    simple-allowed (Check c) a m w r y e = tt
+
+    -- The access of the statement that is due at a point, where no check fails.
+    pub due-allowed : (P : Point) → Invariant P → (s : Simple) → statementAt T h (P .due) ≡ Read (Plain s) → failing E (P .values) s ≡ none
+        → AccessAllowed D (length (P .cells)) (simpleAccess s (memoryOf P))
+    due-allowed P i s r e = go (somewhere P i)
+      where
+        go : Somewhere P → AccessAllowed D (length (P .cells)) (simpleAccess s (memoryOf P))
+        go (inl w) = simple-allowed s (P .due) (memoryOf P) (w .good .steady) r (w .ready s r) e
+        go (inr w) = absurd (omega (arith, w .0, read-within T h (P .due) (Plain s) r))
+
+    from-allowed : (P : Point) (s : Status) → Invariant P → AccessAllowed D (length (P .cells)) (accessFrom T h E s P)
+    unfolding accessFrom
+    from-allowed P going i = due (ltb (P .due) (h .statements))
+      where
+        checked : (s : Simple) → statementAt T h (P .due) ≡ Read (Plain s) → (c : Failing) → failing E (P .values) s ≡ c
+            → AccessAllowed D (length (P .cells)) (unlessFailing c (simpleAccess s (memoryOf P)))
+        checked s r (fails n) e = tt
+        checked s r none e = due-allowed P i s r e
+
+        reads : (r : StatementRead) → statementAt T h (P .due) ≡ r → AccessAllowed D (length (P .cells)) (statementAccess E r (memoryOf P))
+        reads Unread r = tt
+        reads (Read (Plain s)) r = checked s r (failing E (P .values) s) refl
+        reads (Read (If c x y)) r = tt
+        reads (Read (While c x)) r = tt
+        reads (Read (Bundle x)) r = tt
+
+        due : (b : Bool) → AccessAllowed D (length (P .cells)) (accessIf b (statementAccess E (statementAt T h (P .due)) (memoryOf P)))
+        due true = reads (statementAt T h (P .due)) refl
+        due false = tt
+    from-allowed P (stopped n) i = tt
+    from-allowed P stuck i = tt
+
+    pub invariant-sound : (P : Point) → Invariant P → Sound T h E D cs P
+    invariant-sound P i =
+        let w = somewhere P i in
+        let s = steady-of P w in
+        record {
+          has-step = i .has-step;
+          bounds = bounds-of P w;
+          access-allowed = from-allowed P (P .status) i;
+          due-within = due-of P w;
+          cells-long = s .cells-long;
+          values-long = s .values-long;
+          origins-long = s .origins-long;
+          cells-small = s .cells-small;
+          values-small = s .range .below;
+          outside = s .outside;
+        }
+
+    -- A run that goes on from any point where the invariant holds.
+    pub sound-from : (t : ℕ) (P : Point) → Invariant P → Sound T h E D cs (pointAfter T h E D t P)
+    sound-from t P i = invariant-sound (pointAfter T h E D t P) (point-kept t P i)
+
+-- ---- the theorem
+
+module _ (T : List ℤ) (h : Sections) (formed : formOf T ≡ WellFormed h) (accepts : faults T ≡ []) (D cs vs os : List ℕ) (begun : Begun h (environmentOf T h) D cs vs os) where
+  declares : Declares T h (environmentOf T h)
+  declares = environment-declares T h (well-formed T h formed)
+
+  pub begun-setting : Setting T h (environmentOf T h) D cs
+  begun-setting =
+      let a = clear T h formed accepts in
+      record { laid = a .laid; walked = a .walked; declares = declares; placed = begun .placed; memory = begun .memory }
+
+  -- The invariant holds at the start.
+  pub begun-invariant : Invariant T h (environmentOf T h) D cs (start T h (environmentOf T h) D cs vs os)
+  begun-invariant = start-kept T h (environmentOf T h) D cs begun-setting vs os (begun-good T h (environmentOf T h) D cs vs os declares begun)
+
+  -- Of a table that the checker accepts and a run that is begun, the claim holds at every point: after any number t of steps.
+  pub sound : (t : ℕ) → Sound T h (environmentOf T h) D cs (pointAfter T h (environmentOf T h) D t (start T h (environmentOf T h) D cs vs os))
+  sound t = sound-from T h (environmentOf T h) D cs begun-setting t (start T h (environmentOf T h) D cs vs os) begun-invariant

@@ -1,0 +1,69 @@
+-- What is claimed of every point of a begun run: the paper's demand on the checker and the plain machine together.
+use Prim.Native.Nat.{ℕ, _+_, _*_, _^_, _≤_, _<_}
+use mathlib.Core.Path.{_≡_}
+use mathlib.Core.Logic.{_≢_}
+use mathlib.Core.Bool.{true, false}
+use mathlib.Core.List.{List}
+use lib.IntN.{ℤ}
+use lib.ListN.{length, getD}
+use Rattle.facts.specs.Numbers.{bias, maxValue}
+use Rattle.sections.specs.declared.Sections.{Sections}
+use Rattle.blocks.specs.Tree.{tree}
+use Rattle.rules.specs.BoundsRules.{isPointer, objectLength}
+use Rattle.rules.specs.declared.Environment.{Environment}
+use Rattle.machine.specs.Machine.{value, low, high, boundsTrue, inOrigin, stuck, Point}
+use Rattle.machine.specs.Points.{inBundle, Access, no-access, access, accessFrom}
+
+-- ---- where a run is begun
+
+-- "pair at cell 0, .. outside memory, other length": object o of the directory has none of these in a memory of n cells.
+pub record Placed (E : Environment) (D : List ℕ) (n o : ℕ) : Type 0 where
+  pub first : 1 ≤ low D o
+  pub long : getD D (2 * o + 1) 0 ≡ objectLength E o
+  pub inside : high D o ≤ n
+
+-- "A run is begun when no cause refuses it": what soundness needs of causes 10 to 12, and of the words of 32 bits.
+-- A pointer that is not null has an object for its origin; that it is not 0 follows, since origin 0 has no true bounds.
+pub record Begun (h : Sections) (E : Environment) (D cs vs os : List ℕ) : Type 0 where
+  pub placed : (o : ℕ) → o < h .objects → Placed E D (length cs) o
+  pub memory : length cs ≤ 2 ^ 24
+  pub values-long : length vs ≡ h .variables
+  pub origins-long : length os ≡ h .variables
+  pub values-small : (x : ℕ) → getD vs x 0 ≤ maxValue
+  pub cells-small : (i : ℕ) → getD cs i 0 ≤ maxValue
+  pub bounds : (p : ℕ) → isPointer E p ≡ true → boundsTrue E D vs os p ≡ true
+  pub origins : (p : ℕ) → isPointer E p ≡ true → value vs p ≢ 0 → getD os p 0 ≤ h .objects
+
+-- ---- what holds at a point
+
+-- Cell i is in none of the objects.
+abbrev pub Outside : List ℕ → ℕ → ℕ → Type 0
+Outside D objects i = (o : ℕ) → o < objects → low D o ≤ i → i < high D o → ⊥
+
+-- An access of a memory of n cells: in the origin object of its pointer, and at one of the cells from 1 on.
+pub record AccessRight (D : List ℕ) (n a origin : ℕ) : Type 0 where
+  pub inside : inOrigin D origin a ≡ true
+  pub first : bias + 1 ≤ a
+  pub last : a < bias + n
+
+abbrev pub AccessAllowed : List ℕ → ℕ → Access → Type 0
+AccessAllowed D n no-access = Unit {0}
+AccessAllowed D n (access a origin) = AccessRight D n a origin
+
+-- The claim for a point P of a run that was begun with the cells cs.
+pub record Sound (T : List ℤ) (h : Sections) (E : Environment) (D cs : List ℕ) (P : Point) : Type 0 where
+  -- The machine is not without a step: no access that the checks let pass is outside its pointer's origin object.
+  pub has-step : P .status ≢ stuck
+  -- Outside bundles the declared bounds of every pointer are true; also where nothing is due, and where a check has stopped the run.
+  pub bounds : inBundle (tree T h) (P .due) ≡ false → (p : ℕ) → isPointer E p ≡ true → boundsTrue E D (P .values) (P .origins) p ≡ true
+  -- The access that the step from here performs is inside the origin object of its pointer, and at a cell of the memory.
+  pub access-allowed : AccessAllowed D (length (P .cells)) (accessFrom T h E (P .status) P)
+  -- The statement due is one of the table, or the number past the last.
+  pub due-within : P .due ≤ h .statements
+  pub cells-long : length (P .cells) ≡ length cs
+  pub values-long : length (P .values) ≡ h .variables
+  pub origins-long : length (P .origins) ≡ h .variables
+  pub cells-small : (i : ℕ) → getD (P .cells) i 0 ≤ maxValue
+  pub values-small : (x : ℕ) → getD (P .values) x 0 ≤ maxValue
+  -- Every cell outside the objects keeps its value.
+  pub outside : (i : ℕ) → Outside D (h .objects) i → getD (P .cells) i 0 ≡ getD cs i 0

@@ -1,0 +1,161 @@
+-- What holds at every place of an accepted routine: the memory is steady, and the statement due may make its access; outside a bundle the declared bounds are true.
+use Prim.Native.Nat.{ℕ, _+_, _≤_, _<_}
+use mathlib.Core.Path.{_≡_, refl, sym, _∙_, ap}
+use mathlib.Core.Logic.{inl, inr}
+use mathlib.Core.Bool.{Bool, true, false, _&&_, _||_, false≢true}
+use mathlib.Core.List.{List, [], _∷_}
+use native.Mathlib.Omega.{arith}
+use borrow.Author.Tests.{lt-ltb, le-ltb}
+use lib.Dec.{ltb}
+use lib.IntN.{ℤ}
+use lib.ListN.{length}
+use Rattle.facts.specs.declared.FactSet.{FactSet}
+use Rattle.sections.specs.declared.Sections.{Sections}
+use Rattle.conditions.specs.Negation.{negatedOf}
+use Rattle.statements.specs.Statements.{statementAt}
+use Rattle.statements.specs.StatementLaws.{read-typed, read-within}
+use Rattle.statements.specs.declared.Simple.{Simple}
+use Rattle.statements.specs.declared.Statement.{Statement}
+use Rattle.statements.specs.declared.Statement.the-variants.{Plain, If, While, Bundle}
+use Rattle.statements.specs.declared.StatementRead.the-variants.{Read}
+use Rattle.blocks.specs.Tree.{Block, nil, plain, branch, loop, bundle, unread}
+use Rattle.flow.specs.Flow.{Successors, entry}
+use Rattle.flow.specs.Shape.{size, Numbered}
+use Rattle.rules.specs.FactRules.{factsAfter, conditionFacts}
+use Rattle.rules.specs.FactsTrue.{neither, nor}
+use Rattle.rules.specs.BoundsRules.{effect, boundsAfter, accessShown}
+use Rattle.rules.specs.Rules.{bundleFacts, bundleFaults, sidesJoined, blockFacts, blockFaults}
+use Rattle.rules.specs.RuleLaws.{no-first, no-rest, access-passed}
+use Rattle.rules.specs.declared.Bounds.{Bounds}
+use Rattle.rules.specs.declared.Environment.{Environment}
+use Rattle.machine.specs.Machine.{Memory}
+use Rattle.machine.specs.Points.{inBundle}
+use Rattle.machine.specs.Good.{Setting, Good}
+use Rattle.machine.specs.AccessSound.{Ready}
+use Rattle.machine.specs.BlockSound.{ready-inside, ready-outside}
+use Rattle.machine.specs.Places.{LinkedLine, Linked, AtLine, headFacts, At}
+
+-- Past the statements of a block no statement of a bundle is due.
+pub past-bundles : (b : Block) (lo d : ℕ) → Numbered b lo → lo + size b ≤ d → inBundle b d ≡ false
+unfolding inBundle size
+past-bundles nil lo d n l = refl
+past-bundles (plain a s r) lo d n l = past-bundles r (a + 1) d (n .1) (omega (arith, n .0))
+past-bundles (branch a c t e r) lo d n l =
+    let g = n .0 in
+    nor (inBundle t d) (inBundle e d || inBundle r d) (past-bundles t (a + 1) d (n .1) (omega arith))
+    (nor (inBundle e d) (inBundle r d) (past-bundles e (a + 1 + size t) d (n .2) (omega arith)) (past-bundles r (a + 1 + size t + size e) d (n .3) (omega arith)))
+past-bundles (loop a c k t r) lo d n l =
+    let g = n .0 in
+    nor (inBundle t d) (inBundle r d) (past-bundles t (a + 1) d (n .1) (omega arith)) (past-bundles r (a + 1 + size t) d (n .2) (omega arith))
+past-bundles (bundle a ss r) lo d n l =
+    let g = n .0 in
+    nor (ltb a d && ltb d (a + 1 + length ss)) (inBundle r d) (past (ltb a d) (le-ltb d (a + 1 + length ss) (omega arith))) (past-bundles r (a + 1 + length ss) d (n .1) (omega arith))
+  where
+    past : (b : Bool) → ltb d (a + 1 + length ss) ≡ false → (b && ltb d (a + 1 + length ss)) ≡ false
+    past true e = e
+    past false e = refl
+past-bundles (unread a) lo d n l = refl
+
+module _ (T : List ℤ) (h : Sections) (E : Environment) (D cs : List ℕ) where
+  pub record Standing (b : Block) (d : ℕ) (m : Memory) : Type 0 where
+    pub facts : FactSet
+    pub bounds : List Bounds
+    pub good : Good h E D cs facts bounds m
+    pub within : d < h .statements
+    pub ready : (s : Simple) → statementAt T h d ≡ Read (Plain s) → Ready E D (h .objects) s m
+    pub declared : inBundle b d ≡ false → Good h E D cs facts (E .declared) m
+
+  -- From a part of a block to the block.
+  widened : (b c : Block) (d : ℕ) (m : Memory) → (inBundle c d ≡ false → inBundle b d ≡ false) → Standing b d m → Standing c d m
+  widened b c d m k s = record { facts = s .facts; bounds = s .bounds; good = s .good; within = s .within; ready = s .ready; declared = λ e. s .declared (k e) }
+
+  module _ (S : Setting T h E D cs) (f : ℕ → Successors) where
+    -- Outside a bundle.
+    standing-here : (b : Block) (a d : ℕ) (s : Statement) (F : FactSet) (m : Memory) → statementAt T h a ≡ Read s → d ≡ a → Good h E D cs F (E .declared) m → Standing b d m
+    standing-here b a d s F m r e g =
+        record {
+          facts = F;
+          bounds = E .declared;
+          good = g;
+          within = omega (arith, read-within T h a s r);
+          ready = λ q u. ready-outside T h E D cs S q F m (read-typed T h d (Plain q) u) g;
+          declared = λ u. g;
+        }
+
+    pub record StandingLine (a n d : ℕ) (m : Memory) : Type 0 where
+      pub facts : FactSet
+      pub bounds : List Bounds
+      pub good : Good h E D cs facts bounds m
+      pub within : d < h .statements
+      pub ready : (s : Simple) → statementAt T h d ≡ Read (Plain s) → Ready E D (h .objects) s m
+      pub first : a ≤ d
+      pub last : d < a + n
+
+    standing-line : (a : ℕ) (ss : List Simple) (F : FactSet) (K : List Bounds) (after d : ℕ) (m : Memory) → LinkedLine T h f a ss after → bundleFaults E a ss F K ≡ []
+        → AtLine T h E D cs a ss F K d m → StandingLine a (length ss) d m
+    unfolding bundleFaults
+    standing-line a [] F K after d m l q i = absurd i
+    standing-line a (s ∷ ss) F K after d m l q (inl i) =
+        let e = i .0 in
+        let shown = access-passed (accessShown E F K s) a (no-first _ _ (no-rest _ _ q)) in
+        let read : statementAt T h d ≡ Read (Plain s) = ap (statementAt T h) e ∙ l .0 in
+        record {
+          facts = F;
+          bounds = K;
+          good = i .1;
+          within = omega (arith, read-within T h a (Plain s) (l .0));
+          ready = λ t u. let same : s ≡ t = cc in rw (← same) (ready-inside T h E D cs S s F K m (read-typed T h a (Plain s) (l .0)) shown (i .1));
+          first = omega arith;
+          last = omega arith;
+        }
+    standing-line a (s ∷ ss) F K after d m l q (inr i) =
+        let w = standing-line (a + 1) ss (factsAfter s F) (boundsAfter (effect E F s) K) after d m (l .2) (no-rest _ _ (no-rest _ _ q)) i in
+        record { facts = w .facts; bounds = w .bounds; good = w .good; within = w .within; ready = w .ready; first = omega (arith, w .first); last = omega (arith, w .last) }
+
+    -- Inside a bundle.
+    standing-inside : (a : ℕ) (ss : List Simple) (r : Block) (d : ℕ) (m : Memory) → StandingLine (a + 1) (length ss) d m → Standing (bundle a ss r) d m
+    unfolding inBundle
+    standing-inside a ss r d m w =
+        record {
+          facts = w .facts;
+          bounds = w .bounds;
+          good = w .good;
+          within = w .within;
+          ready = w .ready;
+          declared =
+              λ e.
+              let t : (true && true || inBundle r d) ≡ false = rw (lt-ltb a d (omega (arith, w .first)), lt-ltb d (a + 1 + length ss) (w .last)) at e in
+              absurd (false≢true (sym t));
+        }
+
+    pub standing : (b : Block) (F : FactSet) (after d : ℕ) (m : Memory) → Linked T h f b after → blockFaults T h E b F ≡ [] → At T h E D cs b F d m → Standing b d m
+    unfolding blockFaults inBundle
+    standing nil F after d m l q i = absurd i
+    standing (plain a s r) F after d m l q (inl i) = standing-here (plain a s r) a d (Plain s) F m (l .0) (i .0) (i .1)
+    standing (plain a s r) F after d m l q (inr i) = widened r (plain a s r) d m (λ e. e) (standing r (factsAfter s F) after d m (l .2) (no-rest _ _ (no-rest _ _ q)) i)
+    standing (branch a c t e r) F after d m l q (inl i) = standing-here (branch a c t e r) a d (If c (size t) (size e)) F m (l .0) (i .0) (i .1)
+    standing (branch a c t e r) F after d m l q (inr (inl i)) =
+        widened t (branch a c t e r) d m (λ u. neither (inBundle t d) (inBundle e d || inBundle r d) u .0)
+        (standing t (conditionFacts F c) (entry r after) d m (l .2) (no-first _ _ (no-rest _ _ q)) i)
+    standing (branch a c t e r) F after d m l q (inr (inr (inl i))) =
+        widened e (branch a c t e r) d m (λ u. neither (inBundle e d) (inBundle r d) (neither (inBundle t d) (inBundle e d || inBundle r d) u .1) .0)
+        (standing e (conditionFacts F (negatedOf c)) (entry r after) d m (l .3) (no-first _ _ (no-rest _ _ (no-rest _ _ q))) i)
+    standing (branch a c t e r) F after d m l q (inr (inr (inr i))) =
+        widened r (branch a c t e r) d m (λ u. neither (inBundle e d) (inBundle r d) (neither (inBundle t d) (inBundle e d || inBundle r d) u .1) .1)
+        (standing r (sidesJoined T h E (blockFacts T h E t (conditionFacts F c)) (blockFacts T h E e (conditionFacts F (negatedOf c)))) after d m (l .4)
+        (no-rest _ _ (no-rest _ _ (no-rest _ _ q))) i)
+    standing (loop a c k t r) F after d m l q (inl (w, inl i)) =
+        standing-here (loop a c k t r) a d (While c (size t)) (headFacts T h E D cs a k F) m (l .0) (i .0) (i .1)
+    standing (loop a c k t r) F after d m l q (inl (w, inr i)) =
+        widened t (loop a c k t r) d m (λ u. neither (inBundle t d) (inBundle r d) u .0)
+        (standing t (conditionFacts (headFacts T h E D cs a k F) c) a d m (l .3) (no-first _ _ (no-rest _ _ q)) i)
+    standing (loop a c k t r) F after d m l q (inr i) =
+        widened r (loop a c k t r) d m (λ u. neither (inBundle t d) (inBundle r d) u .1)
+        (standing r (conditionFacts (headFacts T h E D cs a k F) (negatedOf c)) after d m (l .4) (no-rest _ _ (no-rest _ _ q)) i)
+    standing (bundle a ss r) F after d m l q (inl i) = standing-here (bundle a ss r) a d (Bundle (length ss)) F m (l .0) (i .0) (i .1)
+    standing (bundle a ss r) F after d m l q (inr (inl i)) =
+        standing-inside a ss r d m (standing-line (a + 1) ss F (E .declared) (entry r after) d m (l .2) (no-first _ _ (no-rest _ _ q)) i)
+    standing (bundle a ss r) F after d m l q (inr (inr i)) =
+        widened r (bundle a ss r) d m (λ u. neither (ltb a d && ltb d (a + 1 + length ss)) (inBundle r d) u .1)
+        (standing r (bundleFacts ss F) after d m (l .3) (no-rest _ _ (no-rest _ _ (no-rest _ _ q))) i)
+    standing (unread a) F after d m l q i = absurd l

@@ -1,0 +1,19 @@
+-- `steps::checks::check_access` meets its contract.
+use mathlib.Core.Path.{_∙_}
+use native.Mathlib.Omega.{arith}
+use borrow.Author.Needs.{needs}
+use Rattle.steps.specs.CheckLaws.{access-step}
+use Rattle.steps.proofs.checks.check_access.Statement.{statement}
+use Rattle.steps.proofs.checks.check_access.Tie as tie
+
+pub check-access-spec : {M : Type 1} → statement M
+check-access-spec =
+    tie.close
+    (tie.spec
+    (λ c κs. search needs)
+    (λ c. search needs)
+    (λ c κs. (omega (arith, c .before .before .before .pre), c .before .before .before .pre .2 _))
+    (λ c. search needs) (λ c. search needs)
+    (λ c κs. (omega (arith, c .before .before .before .before .pre), c .before .before .before .before .pre .2 _))
+    (λ c κs. search needs)
+    (λ c. rw (c .before .before .before .value-at .ensures .0, c .before .before .end-value .ensures, c .before .end-value2 .ensures) at (c .step-unless .ensures) ∙ access-step _ _ _ _ _ _ (c .before .before .before .before .before .before .pre .0)))

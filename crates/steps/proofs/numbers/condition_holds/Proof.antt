@@ -1,0 +1,16 @@
+-- `steps::numbers::condition_holds` meets its contract.
+use native.Mathlib.Omega.{arith}
+use borrow.Author.Needs.{needs}
+use Rattle.machine.specs.Machine.{conditionHolds}
+use Rattle.steps.proofs.numbers.condition_holds.Statement.{statement}
+use Rattle.steps.proofs.numbers.condition_holds.Tie as tie
+
+pub condition-holds-spec : {M : Type 1} → statement M
+unfolding conditionHolds
+condition-holds-spec =
+    tie.close
+    (tie.spec
+    (λ c κs. search needs) (λ c κs. search needs)
+    (λ c. omega (arith, c .before .value-at2 .ensures .1, c .before .before .before .before .pre))
+    (λ c κs. search needs)
+    (λ c. rw (c .before .before .before .value-at .ensures .0, c .before .before .value-at2 .ensures .0) at (c .relates .ensures)))

@@ -1,0 +1,13 @@
+-- `steps::simple::index_pointer` meets its contract.
+use borrow.Author.Needs.{needs}
+use Rattle.steps.specs.AdvanceLaws.{assigns-index}
+use Rattle.steps.proofs.simple.index_pointer.Statement.{statement}
+use Rattle.steps.proofs.simple.index_pointer.Tie as tie
+
+pub index-pointer-spec : {M : Type 1} → statement M
+index-pointer-spec =
+    tie.close
+    (tie.spec
+    (λ c. search needs) (λ c. search needs) (λ c κs. search needs) (λ c. search needs) (λ c. search needs) (λ c κs. search needs)
+    (λ c. search needs) (λ c. search needs) (λ c κs. search needs) (λ c. search needs)
+    (λ c. assigns-index _ _ _ _ _ _ _ _ _ _ (c .before .before .before .before .before .before .wide .ensures .0) (c .before .before .before .before .wide2 .ensures .0) (c .before .before .assign-pointer .ensures)))

@@ -1,0 +1,128 @@
+-- Laws of one step, in the words of the code.
+use Prim.Native.Nat.{ℕ, _+_, _-_, _*_, _%_, _^_, _<_, _≤_}
+use mathlib.Core.Path.{_≡_, refl, sym, ap, _∙_}
+use mathlib.Core.Bool.{Bool, true, false, not, _||_}
+use mathlib.Core.List.{List}
+use native.Mathlib.Omega.{arith}
+use borrow.Author.Tests.{eq-eqb, ne-eqb, ltb-false, leb-false}
+use lib.Dec.{leb, ltb, eqb}
+use lib.ListN.{getD, set}
+use Rattle.facts.specs.Numbers.{bias, maxValue}
+use Rattle.conditions.specs.declared.Condition.{Condition}
+use Rattle.statements.specs.declared.Simple.{Simple}
+use Rattle.statements.specs.declared.Simple.the-variants.{Literal, AddConstant, Arithmetic, Null, Address, PointerOffset, PointerIndex, Load, Store, Check as Test}
+use Rattle.machine.specs.Machine.{value, address, conditionHolds, Failing, none, fails, firstOf, failing, accessFailing, arithmeticFailing, combined}
+use Rattle.steps.specs.Bare.{declaredIn, offsetFailing, indexFailing, stepUnless, changedUnless, valuesAfter, cellsAfter, simpleMove, Moves, Assigns}
+use Rattle.stops.specs.declared.Check.{Check}
+use Rattle.steps.specs.declared.Step.{Step}
+use Rattle.steps.specs.declared.Step.the-variants.{Go, Stop}
+
+-- ---- a step with checks
+
+go-none : (f : Failing) (a n b : ℕ) → stepUnless f a n ≡ Go b → f ≡ none
+unfolding stepUnless
+go-none none a n b e = refl
+go-none (fails m) a n b e = let z : _≡_ {A = ℕ} 0 1 = cc in absurd (omega arith)
+
+-- Where a step goes on, no check fails.
+pub goes-on : (f : Failing) (a n b : ℕ) (r : Step) → r ≡ stepUnless f a n → r ≡ Go b → f ≡ none
+goes-on f a n b r e g = go-none f a n b (sym e ∙ g)
+
+stop-kept : (f : Failing) (a n : ℕ) (k : Check) (old new : List ℕ) → stepUnless f a n ≡ Stop k → changedUnless f old new ≡ old
+unfolding stepUnless changedUnless
+stop-kept none a n k old new e = let z : _≡_ {A = ℕ} 0 1 = cc in absurd (omega arith)
+stop-kept (fails m) a n k old new e = refl
+
+pub assigns-stop : {f : Failing} {a n x w : ℕ} {k : Check} {r : Step} {old : List ℕ} → r ≡ stepUnless f a n → r ≡ Stop k → Assigns f a n x w old r old
+assigns-stop {f} {a} {n} {x} {w} {k} {r} {old} e g = record { said = e; buffer = sym (stop-kept f a n k old (set old x w) (sym e ∙ g)) }
+
+go-changed : (f : Failing) (old new : List ℕ) → f ≡ none → new ≡ changedUnless f old new
+unfolding changedUnless
+go-changed f old new e = rw e
+
+pub assigns-go : {f : Failing} {a n x w b : ℕ} {r : Step} {old : List ℕ} → r ≡ stepUnless f a n → r ≡ Go b → Assigns f a n x w old r (set old x w)
+assigns-go {f} {a} {n} {x} {w} {b} {r} {old} e g = record { said = e; buffer = go-changed f old (set old x w) (goes-on f a n b r e g) }
+
+unchanged : (f : Failing) (l : List ℕ) → l ≡ changedUnless f l l
+unfolding changedUnless
+unchanged none l = refl
+unchanged (fails n) l = refl
+
+-- Check 5 bounds the result.
+pub in-range : (q a : ℕ) → arithmeticFailing q a ≡ none → (bias < a) × (a ≤ bias + maxValue)
+unfolding arithmeticFailing
+in-range q a e = go (eqb q 0) (leb a bias) (ltb (bias + maxValue) a) e (leb-false a bias) (ltb-false (bias + maxValue) a)
+  where
+    go : (z l h : Bool) → firstOf z 4 (firstOf (l || h) 5 none) ≡ none → (l ≡ false → bias < a) → (h ≡ false → a ≤ bias + maxValue) → (bias < a) × (a ≤ bias + maxValue)
+    go true l h e p q = let z : _≡_ {A = ℕ} 0 1 = cc in absurd (omega arith)
+    go false true h e p q = let z : _≡_ {A = ℕ} 0 1 = cc in absurd (omega arith)
+    go false false true e p q = let z : _≡_ {A = ℕ} 0 1 = cc in absurd (omega arith)
+    go false false false e p q = (p refl, q refl)
+
+-- Kind 6 with k = 0 is a copy; else it is arithmetic, as kind 7 is.
+module _ (a n p q : ℕ) (vs : List ℕ) where
+  pub assigns-copy : (k : ℕ) → k ≡ bias → Assigns (offsetFailing vs q k) a n p (value vs q + k - bias) vs (Go n) (set vs p (value vs q))
+  unfolding stepUnless changedUnless
+  assigns-copy k e =
+      let g : value vs q ≡ value vs q + k - bias = omega arith in
+      rw (eq-eqb k bias e) (record { said = refl; buffer = ap (set vs p) g })
+
+  pub assigns-offset : (k b : ℕ) (r : Step) (ws : List ℕ) → (k ≡ bias → ⊥) → b ≡ value vs q → Assigns (arithmeticFailing b (b + k)) a n p (b + k - bias) vs r ws →
+      Assigns (offsetFailing vs q k) a n p (value vs q + k - bias) vs r ws
+  assigns-offset k b r ws ne e m = rw (ne-eqb k bias ne) (rw e at m)
+
+  pub assigns-index : (i b w : ℕ) (r : Step) (ws : List ℕ) → b ≡ value vs q → w ≡ value vs i → Assigns (arithmeticFailing b (b + w + bias)) a n p (b + w + bias - bias) vs r ws →
+      Assigns (indexFailing vs q i) a n p (value vs q + value vs i) vs r ws
+  assigns-index i b w r ws e g m =
+      let l : value vs q + value vs i + bias - bias ≡ value vs q + value vs i = omega arith in
+      rw l at (rw (e, g) at m)
+
+-- ---- the kinds
+
+module _ (W D : List ℕ) (a n : ℕ) (vs cs : List ℕ) where
+  pub move-as : {s t : Simple} {r : Step} {ws ds : List ℕ} → s ≡ t → Moves (simpleMove W D t a n vs cs) r ws ds → Moves (simpleMove W D s a n vs cs) r ws ds
+  move-as e m = rw e m
+
+  pub moves-literal : (x k : ℕ) → Moves (simpleMove W D (Literal x k) a n vs cs) (Go n) (set vs x k) cs
+  unfolding simpleMove failing stepUnless changedUnless valuesAfter cellsAfter
+  moves-literal x k = record { said = refl; values = refl; cells = refl }
+
+  pub moves-add-constant : (x y k w : ℕ) → w ≡ (value vs y + k) % 2 ^ 32 → Moves (simpleMove W D (AddConstant x y k) a n vs cs) (Go n) (set vs x w) cs
+  unfolding simpleMove failing stepUnless changedUnless valuesAfter cellsAfter
+  moves-add-constant x y k w e = record { said = refl; values = ap (set vs x) e; cells = refl }
+
+  pub moves-arithmetic : (x y z op w : ℕ) → w ≡ combined op (value vs y) (value vs z) → Moves (simpleMove W D (Arithmetic x y z op) a n vs cs) (Go n) (set vs x w) cs
+  unfolding simpleMove failing stepUnless changedUnless valuesAfter cellsAfter
+  moves-arithmetic x y z op w e = record { said = refl; values = ap (set vs x) e; cells = refl }
+
+  pub moves-null : (p : ℕ) → Moves (simpleMove W D (Null p) a n vs cs) (Go n) (set vs p 0) cs
+  unfolding simpleMove failing stepUnless changedUnless valuesAfter cellsAfter
+  moves-null p = record { said = refl; values = refl; cells = refl }
+
+  pub moves-address : (p o : ℕ) → Moves (simpleMove W D (Address p o) a n vs cs) (Go n) (set vs p (getD D (2 * o) 0)) cs
+  unfolding simpleMove failing stepUnless changedUnless valuesAfter cellsAfter
+  moves-address p o = record { said = refl; values = refl; cells = refl }
+
+  pub moves-offset : (p q k : ℕ) (r : Step) (ws : List ℕ) → Assigns (offsetFailing vs q k) a n p (value vs q + k - bias) vs r ws → Moves (simpleMove W D (PointerOffset p q k) a n vs cs) r ws cs
+  unfolding simpleMove failing valuesAfter cellsAfter
+  moves-offset p q k r ws m = record { said = m .said; values = m .buffer; cells = unchanged _ cs }
+
+  pub moves-index : (p q i : ℕ) (r : Step) (ws : List ℕ) → Assigns (indexFailing vs q i) a n p (value vs q + value vs i) vs r ws → Moves (simpleMove W D (PointerIndex p q i) a n vs cs) r ws cs
+  unfolding simpleMove failing valuesAfter cellsAfter
+  moves-index p q i r ws m = record { said = m .said; values = m .buffer; cells = unchanged _ cs }
+
+  pub moves-load : (x p i k : ℕ) (r : Step) (ws : List ℕ) →
+      Assigns (accessFailing (declaredIn W) vs p (address vs p i k)) a n x (getD cs (address vs p i k - bias) 0) vs r ws →
+      Moves (simpleMove W D (Load x p i k) a n vs cs) r ws cs
+  unfolding simpleMove failing valuesAfter cellsAfter
+  moves-load x p i k r ws m = record { said = m .said; values = m .buffer; cells = unchanged _ cs }
+
+  pub moves-store : (p i k x : ℕ) (r : Step) (ds : List ℕ) →
+      Assigns (accessFailing (declaredIn W) vs p (address vs p i k)) a n (address vs p i k - bias) (value vs x) cs r ds →
+      Moves (simpleMove W D (Store p i k x) a n vs cs) r vs ds
+  unfolding simpleMove failing valuesAfter cellsAfter
+  moves-store p i k x r ds m = record { said = m .said; values = unchanged _ vs; cells = m .buffer }
+
+  pub moves-check : (c : Condition) (r : Step) → r ≡ stepUnless (firstOf (not (conditionHolds vs c)) 1 none) a n → Moves (simpleMove W D (Test c) a n vs cs) r vs cs
+  unfolding simpleMove failing valuesAfter cellsAfter
+  moves-check c r e = record { said = e; values = unchanged _ vs; cells = unchanged _ cs }

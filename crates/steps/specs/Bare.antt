@@ -1,0 +1,192 @@
+-- A step of the plain machine without origins, which is what the code does.
+use Prim.Native.Nat.{ℕ, _+_, _-_, _*_, _%_, _^_, _<_, _≤_}
+use mathlib.Core.Path.{_≡_}
+use mathlib.Core.Bool.{Bool, true, false}
+use mathlib.Core.List.{List, []}
+use lib.Dec.{eqb}
+use lib.IntN.{ℤ}
+use lib.ListN.{length, getD, set}
+use Rattle.facts.specs.Numbers.{bias}
+use Rattle.facts.specs.Tabulate.{tabulate}
+use Rattle.fields.specs.Fields.{pickNumber}
+use Rattle.sections.specs.declared.Sections.{Sections}
+use Rattle.statements.specs.Statements.{statementAt}
+use Rattle.statements.specs.declared.Simple.{Simple}
+use Rattle.statements.specs.declared.Simple.the-variants.{Literal, AddConstant, Arithmetic, Null, Address, PointerOffset, PointerIndex, Load, Store, Check as Test}
+use Rattle.statements.specs.declared.Statement.{Statement}
+use Rattle.statements.specs.declared.Statement.the-variants.{Plain, If, While, Bundle}
+use Rattle.statements.specs.declared.StatementRead.the-variants.{Read}
+use Rattle.decode.specs.Decode.{decodedAt}
+use Rattle.variables.specs.declared.End.{End}
+use Rattle.flow.specs.Flow.{Successors}
+use Rattle.flow.specs.Shape.{entriesAt}
+use Rattle.rules.specs.declared.KnownEnd.the-variants.{Known}
+use Rattle.rules.specs.declared.Bounds.{Bounds}
+use Rattle.rules.specs.declared.Environment.{Environment}
+use Rattle.machine.specs.Machine.{value, low, conditionHolds, Failing, none, fails, firstUnless, failing, accessFailing, arithmeticFailing, address, combined}
+use Rattle.stops.specs.Checks.{checkOf}
+use Rattle.steps.specs.declared.Step.{Step}
+use Rattle.steps.specs.declared.Step.the-variants.{Go, Stop}
+
+-- ---- declared bounds in a slice of 96 numbers, six a pointer: pointer, integer and constant of the lower end, then of the upper end
+
+abbrev pub endAt : List ℕ → ℕ → End
+endAt W i = record { pointer = getD W i 0; integer = getD W (i + 1) 0; constant = getD W (i + 2) 0 }
+
+abbrev pub boundsAt : List ℕ → ℕ → Bounds
+boundsAt W p = record { lower = Known (endAt W (6 * p)); upper = Known (endAt W (6 * p + 3)) }
+
+-- What such a slice declares.
+unfoldable pub declaredIn : List ℕ → Environment
+declaredIn W = record { pointers = []; declared = tabulate 16 (boundsAt W); lengths = [] }
+
+-- ---- what a statement of kinds 1 to 10 leaves where no check fails: the values and cells of `performed`
+
+unfoldable pub valuesAfter : List ℕ → Simple → List ℕ → List ℕ → List ℕ
+valuesAfter D (Literal x k) vs cs = set vs x k
+valuesAfter D (AddConstant x y k) vs cs = set vs x ((value vs y + k) % 2 ^ 32)
+valuesAfter D (Arithmetic x y z op) vs cs = set vs x (combined op (value vs y) (value vs z))
+valuesAfter D (Null p) vs cs = set vs p 0
+valuesAfter D (Address p o) vs cs = set vs p (low D o)
+valuesAfter D (PointerOffset p q k) vs cs = set vs p (value vs q + k - bias)
+valuesAfter D (PointerIndex p q i) vs cs = set vs p (value vs q + value vs i)
+valuesAfter D (Load x p i k) vs cs = set vs x (getD cs (address vs p i k - bias) 0)
+valuesAfter D (Store p i k x) vs cs = vs
+valuesAfter D (Test c) vs cs = vs
+
+unfoldable pub cellsAfter : Simple → List ℕ → List ℕ → List ℕ
+cellsAfter (Literal x k) vs cs = cs
+cellsAfter (AddConstant x y k) vs cs = cs
+cellsAfter (Arithmetic x y z op) vs cs = cs
+cellsAfter (Null p) vs cs = cs
+cellsAfter (Address p o) vs cs = cs
+cellsAfter (PointerOffset p q k) vs cs = cs
+cellsAfter (PointerIndex p q i) vs cs = cs
+cellsAfter (Load x p i k) vs cs = cs
+cellsAfter (Store p i k x) vs cs = set cs (address vs p i k - bias) (value vs x)
+cellsAfter (Test c) vs cs = cs
+
+-- ---- the checks of kinds 6 and 7, as in `failing`
+
+abbrev pub offsetFailing : List ℕ → ℕ → ℕ → Failing
+offsetFailing vs q k = firstUnless (eqb k bias) (arithmeticFailing (value vs q) (value vs q + k))
+
+abbrev pub indexFailing : List ℕ → ℕ → ℕ → Failing
+indexFailing vs q i = arithmeticFailing (value vs q) (value vs q + value vs i + bias)
+
+-- ---- steps
+
+-- What a step says, and the values and cells that it leaves.
+pub record Move : Type 0 where
+  pub said : Step
+  pub values : List ℕ
+  pub cells : List ℕ
+
+abbrev pub move : Step → List ℕ → List ℕ → Move
+move s vs cs = record { said = s; values = vs; cells = cs }
+
+abbrev pub pickStep : Bool → Step → Step → Step
+pickStep true s t = s
+pickStep false s t = t
+
+-- The step to the statement `next`, unless a check fails at the statement a.
+unfoldable pub stepUnless : Failing → ℕ → ℕ → Step
+stepUnless none a next = Go next
+stepUnless (fails n) a next = Stop (checkOf n a)
+
+-- "The stopping statement changes nothing": a buffer before and after.
+unfoldable pub changedUnless : Failing → List ℕ → List ℕ → List ℕ
+changedUnless none old new = new
+changedUnless (fails n) old new = old
+
+unfoldable pub simpleMove : List ℕ → List ℕ → Simple → ℕ → ℕ → List ℕ → List ℕ → Move
+simpleMove W D s a next vs cs =
+    let f = failing (declaredIn W) vs s in
+    move (stepUnless f a next) (changedUnless f vs (valuesAfter D s vs cs)) (changedUnless f cs (cellsAfter s vs cs))
+
+unfoldable pub statementMove : List ℕ → List ℕ → Statement → ℕ → Successors → List ℕ → List ℕ → Move
+statementMove W D (Plain s) a n vs cs = simpleMove W D s a (n .next) vs cs
+statementMove W D (If c x y) a n vs cs = move (Go (pickNumber (conditionHolds vs c) (n .next) (n .other))) vs cs
+statementMove W D (While c x) a n vs cs = move (Go (pickNumber (conditionHolds vs c) (n .next) (n .other))) vs cs
+statementMove W D (Bundle x) a n vs cs = move (Go (n .next)) vs cs
+
+-- ---- what the code needs, so that no index is outside
+
+-- The address, with the bias, is that of a cell.
+abbrev pub InCells : ℕ → List ℕ → Type 0
+InCells a cs = (bias ≤ a) × (a < bias + length cs)
+
+abbrev pub InsideSimple : List ℕ → Simple → List ℕ → List ℕ → Type 0
+InsideSimple W (Literal x k) vs cs = Unit {0}
+InsideSimple W (AddConstant x y k) vs cs = Unit {0}
+InsideSimple W (Arithmetic x y z op) vs cs = Unit {0}
+InsideSimple W (Null p) vs cs = Unit {0}
+InsideSimple W (Address p o) vs cs = Unit {0}
+InsideSimple W (PointerOffset p q k) vs cs = Unit {0}
+InsideSimple W (PointerIndex p q i) vs cs = Unit {0}
+InsideSimple W (Load x p i k) vs cs = failing (declaredIn W) vs (Load x p i k) ≡ none → InCells (address vs p i k) cs
+InsideSimple W (Store p i k x) vs cs = failing (declaredIn W) vs (Store p i k x) ≡ none → InCells (address vs p i k) cs
+InsideSimple W (Test c) vs cs = Unit {0}
+
+-- An access with no failing check is to a cell.
+abbrev pub Inside : List ℕ → Statement → List ℕ → List ℕ → Type 0
+Inside W (Plain s) vs cs = InsideSimple W s vs cs
+Inside W (If c x y) vs cs = Unit {0}
+Inside W (While c x) vs cs = Unit {0}
+Inside W (Bundle x) vs cs = Unit {0}
+
+-- What the step of an access needs: x is the variable read into or stored, and no sum wraps.
+pub record Accessible (W : List ℕ) (x p i k : ℕ) (vs cs : List ℕ) : Type 0 where
+  pub value : x < length vs
+  pub pointer : p < 16
+  pub constant : k < 2 ^ 34
+  pub ends : length W ≡ 96
+  pub small : (n : ℕ) → getD W n 0 < 2 ^ 34
+  pub inside : accessFailing (declaredIn W) vs p (address vs p i k) ≡ none → InCells (address vs p i k) cs
+
+-- The same of each kind of statement.
+abbrev pub Operable : List ℕ → List ℕ → Simple → List ℕ → List ℕ → Type 0
+Operable W D (Literal x k) vs cs = (x < length vs) × (k < 2 ^ 32)
+Operable W D (AddConstant x y k) vs cs = (x < length vs) × (y < length vs) × (k < 2 ^ 34)
+Operable W D (Arithmetic x y z op) vs cs = (x < length vs) × (y < length vs) × (z < length vs)
+Operable W D (Null p) vs cs = p < length vs
+Operable W D (Address p o) vs cs = (p < length vs) × (2 * o < length D)
+Operable W D (PointerOffset p q k) vs cs = (p < length vs) × (q < length vs) × (k < 2 ^ 34)
+Operable W D (PointerIndex p q i) vs cs = (p < length vs) × (q < length vs) × (i < length vs)
+Operable W D (Load x p i k) vs cs = Accessible W x p i k vs cs
+Operable W D (Store p i k x) vs cs = Accessible W x p i k vs cs
+Operable W D (Test c) vs cs = c .offset < 2 ^ 32
+
+-- The statement a reads, and its access is inside.
+pub record Ready (T : List ℤ) (h : Sections) (W : List ℕ) (a : ℕ) (vs cs : List ℕ) : Type 0 where
+  pub statement : Statement
+  pub reads : statementAt T h a ≡ Read statement
+  pub inside : Inside W statement vs cs
+
+-- The slices are long enough, and the ends small enough that no sum wraps.
+pub record Prepared (T : List ℤ) (h : Sections) (W D S vs : List ℕ) : Type 0 where
+  pub table : 6 + h .objects + 8 * h .variables + 7 * h .statements ≤ length T
+  pub ends : length W ≡ 96
+  pub small : (i : ℕ) → getD W i 0 < 2 ^ 34
+  pub directory : 2 * h .objects ≤ length D
+  pub successors : 2 * h .statements ≤ length S
+  pub values : h .variables ≤ length vs
+
+-- ---- the step of the statement a. S is the slice of successors, D the directory, W the ends.
+
+module _ (T : List ℤ) (h : Sections) (W D S : List ℕ) where
+  unfoldable pub bareMove : ℕ → List ℕ → List ℕ → Move
+  bareMove a vs cs = statementMove W D (decodedAt T h a) a (entriesAt S a) vs cs
+
+-- ---- what the code gives back
+
+-- A step of the code is the move m.
+pub record Moves (m : Move) (r : Step) (vs cs : List ℕ) : Type 0 where
+  pub said : r ≡ m .said
+  pub values : vs ≡ m .values
+  pub cells : cs ≡ m .cells
+
+-- A step that sets one number of one buffer, unless a check fails.
+pub record Assigns (f : Failing) (a next x w : ℕ) (old : List ℕ) (r : Step) (new : List ℕ) : Type 0 where
+  pub said : r ≡ stepUnless f a next
+  pub buffer : new ≡ changedUnless f old (set old x w)

@@ -1,0 +1,62 @@
+-- Laws of the checks, of sums and of conditions, in the words of the code.
+use Prim.Native.Nat.{ℕ, zero, suc, _+_, _*_, _%_, _^_, _<_, _≤_}
+use mathlib.Core.Path.{_≡_, refl}
+use mathlib.Core.Bool.{Bool, true, false, not, _||_}
+use mathlib.Core.List.{List}
+use native.Mathlib.Nat.{mul-le-mul}
+use native.Mathlib.Omega.{arith}
+use lib.Dec.{leb, ltb, eqb}
+use Rattle.facts.specs.Numbers.{bias, maxValue}
+use Rattle.facts.specs.Tabulate.{getD-tabulate}
+use Rattle.rules.specs.BoundsRules.{nothingKnown}
+use Rattle.machine.specs.Machine.{value, endValue, relates, none, firstOf, accessFailing, arithmeticFailing, combined}
+use Rattle.steps.specs.Bare.{endAt, boundsAt, declaredIn, pickStep, stepUnless}
+use Rattle.stops.specs.declared.Check.the-variants.{NullAccess, OutOfBounds, NullArithmetic, AddressRange}
+use Rattle.steps.specs.declared.Step.the-variants.{Go, Stop}
+
+-- A product of two values fits 64 bits.
+pub product-small : (a b : ℕ) → a < 2 ^ 32 → b < 2 ^ 32 → a * b < 2 ^ 64
+product-small a b p q = let h : a * b ≤ 4294967295 * 4294967295 = mul-le-mul {n₂ = 4294967295} {m₂ = 4294967295} (omega arith) (omega arith) in omega arith
+
+pub combined-else : (op a b : ℕ) → (op ≡ 0 → ⊥) → (op ≡ 1 → ⊥) → a * b % 2 ^ 32 ≡ combined op a b
+unfolding combined
+combined-else zero a b p q = absurd (p refl)
+combined-else (suc zero) a b p q = absurd (q refl)
+combined-else (suc (suc n)) a b p q = refl
+
+pub relates-else : (r a b : ℕ) → (r ≡ 0 → ⊥) → (r ≡ 1 → ⊥) → (r ≡ 2 → ⊥) → (r ≡ 3 → ⊥) → (r ≡ 4 → ⊥) → not (eqb a b) ≡ relates r a b
+unfolding relates
+relates-else zero x y a b c d e = absurd (a refl)
+relates-else (suc zero) x y a b c d e = absurd (b refl)
+relates-else (suc (suc zero)) x y a b c d e = absurd (c refl)
+relates-else (suc (suc (suc zero))) x y a b c d e = absurd (d refl)
+relates-else (suc (suc (suc (suc zero)))) x y a b c d e = absurd (e refl)
+relates-else (suc (suc (suc (suc (suc r))))) x y a b c d e = refl
+
+-- The first of two checks that fails.
+module _ (at next : ℕ) where
+  access-picked : (x y : Bool) → pickStep x (Stop (NullAccess at)) (pickStep y (Stop (OutOfBounds at)) (Go next)) ≡ stepUnless (firstOf x 2 (firstOf y 3 none)) at next
+  unfolding stepUnless
+  access-picked true y = refl
+  access-picked false true = refl
+  access-picked false false = refl
+
+  arithmetic-picked : (x y : Bool) → pickStep x (Stop (NullArithmetic at)) (pickStep y (Stop (AddressRange at)) (Go next)) ≡ stepUnless (firstOf x 4 (firstOf y 5 none)) at next
+  unfolding stepUnless
+  arithmetic-picked true y = refl
+  arithmetic-picked false true = refl
+  arithmetic-picked false false = refl
+
+  -- Checks 4 and 5.
+  pub arithmetic-step : (q a : ℕ) →
+      pickStep (eqb q 0) (Stop (NullArithmetic at)) (pickStep (leb a bias || ltb (bias + maxValue) a) (Stop (AddressRange at)) (Go next)) ≡ stepUnless (arithmeticFailing q a) at next
+  unfolding arithmeticFailing
+  arithmetic-step q a = arithmetic-picked (eqb q 0) (leb a bias || ltb (bias + maxValue) a)
+
+  -- Checks 2 and 3, by the ends in the slice W.
+  pub access-step : (W vs : List ℕ) (p a : ℕ) → p < 16 →
+      pickStep (eqb (value vs p) 0) (Stop (NullAccess at)) (pickStep (ltb a (endValue vs (endAt W (6 * p))) || leb (endValue vs (endAt W (6 * p + 3))) a) (Stop (OutOfBounds at)) (Go next))
+      ≡ stepUnless (accessFailing (declaredIn W) vs p a) at next
+  unfolding accessFailing declaredIn
+  access-step W vs p a few =
+      rw (getD-tabulate 16 (boundsAt W) p nothingKnown few) (access-picked (eqb (value vs p) 0) (ltb a (endValue vs (endAt W (6 * p))) || leb (endValue vs (endAt W (6 * p + 3))) a))

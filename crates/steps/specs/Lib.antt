@@ -1,0 +1,4 @@
+pub mod Bare
+pub mod CheckLaws
+pub mod AdvanceLaws
+pub mod ReadyLaws

@@ -1,0 +1,112 @@
+-- What a statement that reads gives the code: its operands are in range, and its step is that of its kind.
+use Prim.Native.Nat.{ℕ, _+_, _*_, _^_, _<_, _≤_}
+use mathlib.Core.Path.{_≡_, refl, sym, ap, _∙_}
+use mathlib.Core.List.{List}
+use native.Mathlib.Omega.{arith}
+use lib.IntN.{ℤ}
+use lib.ListN.{length, getD}
+use Rattle.fields.specs.Fields.{pickNumber}
+use Rattle.sections.specs.SectionsLaws.{Limits}
+use Rattle.sections.specs.declared.Sections.{Sections}
+use Rattle.conditions.specs.Typed.{ConditionTyped, Sides, integers, pointers, literal, null}
+use Rattle.conditions.specs.declared.Condition.{Condition}
+use Rattle.statements.specs.Statements.{statementAt}
+use Rattle.statements.specs.Typed.{SimpleTyped, AccessTyped}
+use Rattle.statements.specs.StatementLaws.{read-typed, read-limits}
+use Rattle.statements.specs.declared.Simple.{Simple}
+use Rattle.statements.specs.declared.Simple.the-variants.{Literal, AddConstant, Arithmetic, Null, Address, PointerOffset, PointerIndex, Load, Store, Check as Test}
+use Rattle.statements.specs.declared.Statement.{Statement}
+use Rattle.statements.specs.declared.Statement.the-variants.{Plain, If, While, Bundle}
+use Rattle.statements.specs.declared.StatementRead.the-variants.{Read}
+use Rattle.decode.specs.Decode.{decodeStart, decodedAt}
+use Rattle.decode.specs.DecodeLaws.{read-decoded}
+use Rattle.machine.specs.Machine.{address, conditionHolds, none, failing, accessFailing}
+use Rattle.steps.specs.Bare.{declaredIn, InCells, InsideSimple, Inside, Accessible, Operable, Ready, Prepared, simpleMove, statementMove, bareMove, Moves}
+use Rattle.steps.specs.declared.Step.{Step}
+use Rattle.steps.specs.declared.Step.the-variants.{Go}
+
+offset-small : (T : List ℤ) (h : Sections) (l r o : ℕ) → Sides T h l r o → o < 2 ^ 32
+offset-small T h l r o (integers a b e) = omega arith
+offset-small T h l r o (pointers a b e) = omega arith
+offset-small T h l r o (literal a e p) = omega arith
+offset-small T h l r o (null a e z) = omega arith
+
+condition-small : (T : List ℤ) (h : Sections) (c : Condition) → ConditionTyped T h c → c .offset < 2 ^ 32
+condition-small T h c t = offset-small T h (c .left) (c .right) (c .offset) (t .sides)
+
+module _ (T : List ℤ) (h : Sections) (W D S vs cs : List ℕ) (few : Limits h) (P : Prepared T h W D S vs) where
+  accessible : (x p i k : ℕ) → AccessTyped T h x p i k → (accessFailing (declaredIn W) vs p (address vs p i k) ≡ none → InCells (address vs p i k) cs) → Accessible W x p i k vs cs
+  accessible x p i k t n =
+      record {
+        value = omega (arith, t .value .below, P .values);
+        pointer = omega (arith, t .pointer .below, few .variables);
+        constant = omega (arith, t .constant .high);
+        ends = P .ends;
+        small = P .small;
+        inside = n;
+      }
+
+  operable : (s : Simple) → SimpleTyped T h s → InsideSimple W s vs cs → Operable W D s vs cs
+  unfolding failing
+  operable (Literal x k) t n = (omega (arith, t .target .below, P .values), omega (arith, t .value))
+  operable (AddConstant x y k) t n =
+      (omega (arith, t .target .below, P .values), omega (arith, t .source .below, P .values), omega (arith, t .constant .high))
+  operable (Arithmetic x y z op) t n =
+      (omega (arith, t .target .below, P .values), omega (arith, t .left .below, P .values), omega (arith, t .right .below, P .values))
+  operable (Null p) t n = omega (arith, t .below, P .values)
+  operable (Address p o) t n = (omega (arith, t .target .below, P .values), omega (arith, t .object, P .directory))
+  operable (PointerOffset p q k) t n =
+      (omega (arith, t .target .below, P .values), omega (arith, t .source .below, P .values), omega (arith, t .constant .high))
+  operable (PointerIndex p q i) t n =
+      (omega (arith, t .target .below, P .values), omega (arith, t .source .below, P .values), omega (arith, t .index .below, P .values))
+  operable (Load x p i k) t n = accessible x p i k t n
+  operable (Store p i k x) t n = accessible x p i k t n
+  operable (Test c) t n = condition-small T h c t
+
+-- A statement that is ready.
+module _ (T : List ℤ) (h : Sections) (W : List ℕ) (a : ℕ) (vs cs : List ℕ) where
+  pub ready-below : Ready T h W a vs cs → a < h .statements
+  ready-below r = read-limits T h a (r .statement) (r .reads) .1
+
+  ready-reads : (s : Statement) → Ready T h W a vs cs → decodedAt T h a ≡ s → (statementAt T h a ≡ Read s) × Inside W s vs cs
+  ready-reads s r e =
+      let g : r .statement ≡ s = sym (read-decoded T h a (r .statement) (r .reads)) ∙ e in
+      (r .reads ∙ ap Read g, rw g at (r .inside))
+
+  pub ready-if : (c : Condition) (n m : ℕ) → Ready T h W a vs cs → decodedAt T h a ≡ If c n m → c .offset < 2 ^ 32
+  ready-if c n m r e = condition-small T h c (read-typed T h a (If c n m) (ready-reads (If c n m) r e .0) .condition)
+
+  pub ready-while : (c : Condition) (n : ℕ) → Ready T h W a vs cs → decodedAt T h a ≡ While c n → c .offset < 2 ^ 32
+  ready-while c n r e = condition-small T h c (read-typed T h a (While c n) (ready-reads (While c n) r e .0) .condition)
+
+-- The record of a statement that reads lies in the table.
+pub ready-start : {T : List ℤ} {h : Sections} {W D S vs cs : List ℕ} {a : ℕ} → Prepared T h W D S vs → Ready T h W a vs cs → decodeStart h a + 7 ≤ length T
+ready-start {T} {h} {W} {D} {S} {vs} {cs} {a} p r =
+    let l = read-limits T h a (r .statement) (r .reads) in
+    omega (arith, p .table, l .0 .objects, l .0 .variables, l .0 .statements, l .1)
+
+-- A step whose statement is decoded as s.
+module _ (T : List ℤ) (h : Sections) (W D S : List ℕ) (a : ℕ) (vs cs : List ℕ) where
+  pub ready-simple : (s : Simple) → Prepared T h W D S vs → Ready T h W a vs cs → decodedAt T h a ≡ Plain s → Operable W D s vs cs
+  ready-simple s p r e =
+      let g = ready-reads T h W a vs cs (Plain s) r e in
+      operable T h W D S vs cs (read-limits T h a (Plain s) (g .0) .0) p s (read-typed T h a (Plain s) (g .0)) (g .1)
+
+  pub bare-plain : (s : Simple) (n : ℕ) (r : Step) (ws ds : List ℕ) → decodedAt T h a ≡ Plain s → n ≡ getD S (2 * a) 0 →
+      Moves (simpleMove W D s a n vs cs) r ws ds → Moves (bareMove T h W D S a vs cs) r ws ds
+  unfolding bareMove statementMove
+  bare-plain s n r ws ds e g m = rw e (rw g at m)
+
+  pub bare-if : (c : Condition) (x y b n o : ℕ) → decodedAt T h a ≡ If c x y → b ≡ pickNumber (conditionHolds vs c) n o → n ≡ getD S (2 * a) 0 → o ≡ getD S (2 * a + 1) 0 →
+      Moves (bareMove T h W D S a vs cs) (Go b) vs cs
+  unfolding bareMove statementMove
+  bare-if c x y b n o e g p q = rw e (record { said = ap Go (rw (p, q) at g); values = refl; cells = refl })
+
+  pub bare-while : (c : Condition) (x b n o : ℕ) → decodedAt T h a ≡ While c x → b ≡ pickNumber (conditionHolds vs c) n o → n ≡ getD S (2 * a) 0 → o ≡ getD S (2 * a + 1) 0 →
+      Moves (bareMove T h W D S a vs cs) (Go b) vs cs
+  unfolding bareMove statementMove
+  bare-while c x b n o e g p q = rw e (record { said = ap Go (rw (p, q) at g); values = refl; cells = refl })
+
+  pub bare-bundle : (x n : ℕ) → decodedAt T h a ≡ Bundle x → n ≡ getD S (2 * a) 0 → Moves (bareMove T h W D S a vs cs) (Go n) vs cs
+  unfolding bareMove statementMove
+  bare-bundle x n e p = rw e (record { said = ap Go p; values = refl; cells = refl })

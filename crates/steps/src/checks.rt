@@ -1,0 +1,88 @@
+// The five checks. Each gives the step to the statement `next`, or stops at the statement `at` with the first check that fails.
+use crate::Step;
+use crate::numbers::condition_holds;
+use conditions::Condition;
+use machine::BIAS;
+use machine::value_at;
+use stops::Check;
+ghost use mathlib.Core.Path.{_≡_};
+ghost use mathlib.Core.Bool.{not};
+ghost use Prim.Native.Nat.{ℕ, _+_, _*_, _^_, _<_};
+ghost use lib.ListN.{length, getD};
+ghost use Rattle.machine.specs.Machine.{endValue, conditionHolds, none, firstOf, accessFailing, arithmeticFailing};
+ghost use Rattle.steps.specs.Bare.{endAt, declaredIn, pickStep, stepUnless};
+ghost use Rattle.steps.specs.declared.Step.the-variants.{Go, Stop};
+
+// The whole number of the end whose three numbers start at `first`, with the bias.
+fn end_value(ends: &[u64], values: &[u32], first: usize) -> u64
+    requires { ⌜ (first + 2 < length (now ends)) × (getD (now ends) (first + 2) 0 < 2 ^ 34) ⌝ }
+    ensures { λ r. ⌜ r ≡ endValue (now (values .entry)) (endAt (now (ends .entry)) first) ⌝ }
+{
+    let pointer = ends[first] as usize;
+    let integer = ends[first + 1] as usize;
+    value_at(values, pointer) + value_at(values, integer) + ends[first + 2]
+}
+
+// The first of two checks that fails, or the step to the statement `next`.
+fn step_unless(first: bool, one: Check, second: bool, other: Check, next: usize) -> Step
+    ensures { λ r. ⌜ r ≡ pickStep first (Stop one) (pickStep second (Stop other) (Go next)) ⌝ }
+{
+    if first {
+        return Step::Stop(one);
+    }
+    if second {
+        return Step::Stop(other);
+    }
+    Step::Go(next)
+}
+
+// Check 2, then 3: an access through `pointer` to an address that has the bias.
+pub(crate) fn check_access(
+    ends: &[u64],
+    values: &[u32],
+    at: usize,
+    next: usize,
+    pointer: usize,
+    address: u64,
+) -> Step
+    requires { ⌜ (pointer < 16) × (length (now ends) ≡ 96) × ((i : ℕ) → getD (now ends) i 0 < 2 ^ 34) ⌝ }
+    ensures { λ r. ⌜ r ≡ stepUnless (accessFailing (declaredIn (now (ends .entry))) (now (values .entry)) pointer address) at next ⌝ }
+{
+    let null = value_at(values, pointer) == 0;
+    let lower = end_value(ends, values, 6 * pointer);
+    let upper = end_value(ends, values, 6 * pointer + 3);
+    let outside = (address < lower) | (address >= upper);
+    step_unless(
+        null,
+        Check::NullAccess(at),
+        outside,
+        Check::OutOfBounds(at),
+        next,
+    )
+}
+
+// Check 4, then 5: arithmetic on the address `base`, with its result, which has the bias.
+pub(crate) fn check_arithmetic(at: usize, next: usize, base: u64, sum: u64) -> Step
+    ensures { λ r. ⌜ r ≡ stepUnless (arithmeticFailing base sum) at next ⌝ }
+{
+    let from_null = base == 0;
+    let out_of_range = (sum <= BIAS) | (sum > BIAS + 4294967295);
+    step_unless(
+        from_null,
+        Check::NullArithmetic(at),
+        out_of_range,
+        Check::AddressRange(at),
+        next,
+    )
+}
+
+// Check 1.
+pub(crate) fn check_condition(values: &[u32], at: usize, next: usize, c: Condition) -> Step
+    requires { ⌜ c .offset < 2 ^ 32 ⌝ }
+    ensures { λ r. ⌜ r ≡ stepUnless (firstOf (not (conditionHolds (now (values .entry)) c)) 1 none) at next ⌝ }
+{
+    if condition_holds(values, c) {
+        return Step::Go(next);
+    }
+    Step::Stop(Check::ConditionFalse(at))
+}

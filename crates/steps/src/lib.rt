@@ -1,0 +1,82 @@
+// One step of a run: its checks, what it leaves, and the statement due after it.
+mod checks; // checks.rt: the five checks
+mod numbers; // numbers.rt: sums and conditions
+mod simple; // simple.rt: the step of kinds 1 to 10
+
+use conditions::Condition;
+use decode::decode_statement;
+use machine::wide;
+use numbers::condition_holds;
+use sections::Sections;
+use simple::advance_simple;
+use statements::Statement;
+use stops::Check;
+ghost use mathlib.Core.Path.{_≡_};
+ghost use Prim.Native.Nat.{_^_, _<_};
+ghost use lib.ListN.{length, getD};
+ghost use Rattle.fields.specs.Fields.{pickNumber};
+ghost use Rattle.machine.specs.Machine.{conditionHolds};
+ghost use Rattle.steps.specs.Bare.{Prepared, Ready, bareMove, Moves};
+
+// What a step says: the statement due after it, or the check that fails.
+pub enum Step {
+    Go(usize),
+    Stop(Check),
+}
+
+// An entry of the slice of successors.
+fn successor(successors: &[u32], i: usize) -> usize
+    requires { ⌜ i < length (now successors) ⌝ }
+    ensures { λ r. ⌜ r ≡ getD (now (successors .entry)) i 0 ⌝ }
+{
+    wide(successors[i]) as usize
+}
+
+// An if or a while: `next` where its condition holds, else `other`.
+fn branch(values: &[u32], c: Condition, next: usize, other: usize) -> usize
+    requires { ⌜ c .offset < 2 ^ 32 ⌝ }
+    ensures { λ r. ⌜ r ≡ pickNumber (conditionHolds (now (values .entry)) c) next other ⌝ }
+{
+    if condition_holds(values, c) {
+        return next;
+    }
+    other
+}
+
+// The step of the statement `at`.
+pub fn advance(
+    table: &[i32],
+    sections: Sections,
+    ends: &[u64],
+    directory: &[u32],
+    successors: &[u32],
+    at: usize,
+    values: &mut [u32],
+    cells: &mut [u32],
+) -> Step
+    requires { ⌜ Prepared (now table) sections (now ends) (now directory) (now successors) (now values) ⌝ }
+    requires { ⌜ Ready (now table) sections (now ends) at (now values) (now cells) ⌝ }
+    ensures { λ r. ⌜ Moves (bareMove (now (table .entry)) sections (now (ends .entry)) (now (directory .entry)) (now (successors .entry)) at (now (values .entry)) (now (cells .entry))) r (now (values .exit)) (now (cells .exit)) ⌝ }
+{
+    let next = successor(successors, 2 * at);
+    let s = decode_statement(table, sections, at);
+    match s {
+        Statement::Plain(p) => advance_simple(ends, directory, at, next, p, values, cells),
+        Statement::If {
+            condition,
+            then_count: _,
+            else_count: _,
+        } => {
+            let other = successor(successors, 2 * at + 1);
+            Step::Go(branch(values, condition, next, other))
+        }
+        Statement::While {
+            condition,
+            count: _,
+        } => {
+            let other = successor(successors, 2 * at + 1);
+            Step::Go(branch(values, condition, next, other))
+        }
+        Statement::Bundle { count: _ } => Step::Go(next),
+    }
+}

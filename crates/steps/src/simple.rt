@@ -1,0 +1,212 @@
+// The step of a statement of kinds 1 to 10.
+use crate::Step;
+use crate::checks::check_access;
+use crate::checks::check_arithmetic;
+use crate::checks::check_condition;
+use crate::numbers::add_constant;
+use crate::numbers::combine;
+use machine::BIAS;
+use machine::value_at;
+use machine::wide;
+use statements::Simple;
+ghost use Prim.Native.Nat.{_+_, _-_, _^_, _<_};
+ghost use lib.ListN.{length, getD};
+ghost use Rattle.facts.specs.Numbers.{bias};
+ghost use Rattle.machine.specs.Machine.{value, address, arithmeticFailing, accessFailing};
+ghost use Rattle.steps.specs.Bare.{declaredIn, offsetFailing, indexFailing, Accessible, Operable, simpleMove, Assigns, Moves};
+
+// Kinds 6 and 7: the target takes the sum, which has the bias, unless check 4 or 5 fails.
+fn assign_pointer(
+    at: usize,
+    next: usize,
+    target: usize,
+    base: u64,
+    sum: u64,
+    values: &mut [u32],
+) -> Step
+    requires { ⌜ target < length (now values) ⌝ }
+    ensures { λ r. ⌜ Assigns (arithmeticFailing base sum) at next target (sum - bias) (now (values .entry)) r (now (values .exit)) ⌝ }
+{
+    let arithmetic = check_arithmetic(at, next, base, sum);
+    let Step::Go(_) = arithmetic else {
+        return arithmetic;
+    };
+    values[target] = (sum - BIAS) as u32;
+    arithmetic
+}
+
+// Kind 6: p := q + k, unless check 4 or 5 fails; with k = 0 none does.
+fn offset_pointer(
+    at: usize,
+    next: usize,
+    target: usize,
+    source: usize,
+    constant: u64,
+    values: &mut [u32],
+) -> Step
+    requires { ⌜ (target < length (now values)) × (source < length (now values)) × (constant < 2 ^ 34) ⌝ }
+    ensures { λ r. ⌜ Assigns (offsetFailing (now (values .entry)) source constant) at next target (value (now (values .entry)) source + constant - bias) (now (values .entry)) r (now (values .exit)) ⌝ }
+{
+    if constant == BIAS {
+        values[target] = values[source];
+        return Step::Go(next);
+    }
+    let base = wide(values[source]);
+    assign_pointer(at, next, target, base, base + constant, values)
+}
+
+// Kind 7: p := q + i, unless check 4 or 5 fails.
+fn index_pointer(
+    at: usize,
+    next: usize,
+    target: usize,
+    source: usize,
+    index: usize,
+    values: &mut [u32],
+) -> Step
+    requires { ⌜ (target < length (now values)) × (source < length (now values)) × (index < length (now values)) ⌝ }
+    ensures { λ r. ⌜ Assigns (indexFailing (now (values .entry)) source index) at next target (value (now (values .entry)) source + value (now (values .entry)) index) (now (values .entry)) r (now (values .exit)) ⌝ }
+{
+    let base = wide(values[source]);
+    let sum = base + wide(values[index]) + BIAS;
+    assign_pointer(at, next, target, base, sum, values)
+}
+
+// Kind 8: x := p[i + k], unless check 2 or 3 fails.
+fn load(
+    ends: &[u64],
+    at: usize,
+    next: usize,
+    target: usize,
+    pointer: usize,
+    index: usize,
+    constant: u64,
+    values: &mut [u32],
+    cells: &[u32],
+) -> Step
+    requires { ⌜ Accessible (now ends) target pointer index constant (now values) (now cells) ⌝ }
+    ensures { λ r. ⌜ Assigns (accessFailing (declaredIn (now (ends .entry))) (now (values .entry)) pointer (address (now (values .entry)) pointer index constant)) at next target (getD (now (cells .entry)) (address (now (values .entry)) pointer index constant - bias) 0) (now (values .entry)) r (now (values .exit)) ⌝ }
+{
+    let address = value_at(values, pointer) + value_at(values, index) + constant;
+    let said = check_access(ends, values, at, next, pointer, address);
+    let Step::Go(_) = said else {
+        return said;
+    };
+    let place = (address - BIAS) as usize;
+    values[target] = cells[place];
+    said
+}
+
+// Kind 9: p[i + k] := x, unless check 2 or 3 fails.
+fn store(
+    ends: &[u64],
+    at: usize,
+    next: usize,
+    pointer: usize,
+    index: usize,
+    constant: u64,
+    source: usize,
+    values: &[u32],
+    cells: &mut [u32],
+) -> Step
+    requires { ⌜ Accessible (now ends) source pointer index constant (now values) (now cells) ⌝ }
+    ensures { λ r. ⌜ Assigns (accessFailing (declaredIn (now (ends .entry))) (now (values .entry)) pointer (address (now (values .entry)) pointer index constant)) at next (address (now (values .entry)) pointer index constant - bias) (value (now (values .entry)) source) (now (cells .entry)) r (now (cells .exit)) ⌝ }
+{
+    let address = value_at(values, pointer) + value_at(values, index) + constant;
+    let said = check_access(ends, values, at, next, pointer, address);
+    let Step::Go(_) = said else {
+        return said;
+    };
+    let place = (address - BIAS) as usize;
+    cells[place] = values[source];
+    said
+}
+
+// Kinds 1 to 10.
+pub(crate) fn advance_simple(
+    ends: &[u64],
+    directory: &[u32],
+    at: usize,
+    next: usize,
+    s: Simple,
+    values: &mut [u32],
+    cells: &mut [u32],
+) -> Step
+    requires { ⌜ Operable (now ends) (now directory) s (now values) (now cells) ⌝ }
+    ensures { λ r. ⌜ Moves (simpleMove (now (ends .entry)) (now (directory .entry)) s at next (now (values .entry)) (now (cells .entry))) r (now (values .exit)) (now (cells .exit)) ⌝ }
+{
+    match s {
+        Simple::Literal { target, value } => {
+            values[target] = value as u32;
+            Step::Go(next)
+        }
+        Simple::AddConstant {
+            target,
+            source,
+            constant,
+        } => {
+            values[target] = add_constant(values[source], constant);
+            Step::Go(next)
+        }
+        Simple::Arithmetic {
+            target,
+            left,
+            right,
+            operation,
+        } => {
+            values[target] = combine(operation, values[left], values[right]);
+            Step::Go(next)
+        }
+        Simple::Null { target } => {
+            values[target] = 0;
+            Step::Go(next)
+        }
+        Simple::Address { target, object } => {
+            values[target] = directory[2 * object];
+            Step::Go(next)
+        }
+        Simple::PointerOffset {
+            target,
+            source,
+            constant,
+        } => offset_pointer(at, next, target, source, constant, values),
+        Simple::PointerIndex {
+            target,
+            source,
+            index,
+        } => index_pointer(at, next, target, source, index, values),
+        Simple::Load {
+            target,
+            pointer,
+            index,
+            constant,
+        } => load(
+            ends,
+            at,
+            next,
+            target,
+            pointer,
+            index,
+            constant,
+            values,
+            cells,
+        ),
+        Simple::Store {
+            pointer,
+            index,
+            constant,
+            source,
+        } => store(
+            ends,
+            at,
+            next,
+            pointer,
+            index,
+            constant,
+            source,
+            values,
+            cells,
+        ),
+        Simple::Check { condition } => check_condition(values, at, next, condition),
+    }
+}

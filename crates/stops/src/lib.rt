@@ -1,0 +1,36 @@
+// The five named checks of a run, each with the statement at which it fails; the paper's number of each.
+ghost use mathlib.Core.Path.{_≡_};
+ghost use Rattle.stops.specs.Checks.{checkNumber, checkStatement};
+
+pub enum Check {
+    ConditionFalse(usize),
+    NullAccess(usize),
+    OutOfBounds(usize),
+    NullArithmetic(usize),
+    AddressRange(usize),
+}
+
+pub fn check_number(check: Check) -> u32
+    ensures { λ r. ⌜ r ≡ checkNumber check ⌝ }
+{
+    match check {
+        Check::ConditionFalse(_) => 1,
+        Check::NullAccess(_) => 2,
+        Check::OutOfBounds(_) => 3,
+        Check::NullArithmetic(_) => 4,
+        Check::AddressRange(_) => 5,
+    }
+}
+
+// The statement at which the check fails.
+pub fn check_statement(check: Check) -> usize
+    ensures { λ r. ⌜ r ≡ checkStatement check ⌝ }
+{
+    match check {
+        Check::ConditionFalse(a) => a,
+        Check::NullAccess(a) => a,
+        Check::OutOfBounds(a) => a,
+        Check::NullArithmetic(a) => a,
+        Check::AddressRange(a) => a,
+    }
+}
