@@ -1,5 +1,4 @@
 -- `interpreter::run` meets its contract: the verdict refuses, or the accepted table is run.
-use mathlib.Core.Path.{_≡_, _∙_}
 use borrow.Author.Needs.{needs}
 use Rattle.checker.specs.VerdictLaws.{accepted-clear}
 use Rattle.interpreter.specs.ClaimLaws.{check-refused}

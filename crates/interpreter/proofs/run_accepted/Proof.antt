@@ -1,5 +1,5 @@
 -- `interpreter::run_accepted` meets its contract: an accepted table is well formed.
-use mathlib.Core.Path.{_≡_, sym, _∙_}
+use mathlib.Core.Path.{sym, _∙_}
 use borrow.Author.Needs.{needs}
 use Rattle.interpreter.specs.ClaimLaws.{no-form-refused}
 use Rattle.interpreter.proofs.run_accepted.Statement.{statement}

@@ -1,5 +1,5 @@
 -- `interpreter::run_sections` meets its contract: the entry refuses, or the loop runs from what is laid out.
-use mathlib.Core.Path.{_≡_, sym, _∙_}
+use mathlib.Core.Path.{sym, _∙_}
 use native.Mathlib.Omega.{arith}
 use borrow.Author.Needs.{needs}
 use Rattle.interpreter.specs.ClaimLaws.{entry-refused, launched, launched-ready, launched-ran}

@@ -1,5 +1,4 @@
 -- `steps::checks::step_unless` meets its contract.
-use borrow.Author.Needs.{needs}
 use Rattle.steps.proofs.checks.step_unless.Statement.{statement}
 use Rattle.steps.proofs.checks.step_unless.Tie as tie
 
