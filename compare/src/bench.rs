@@ -68,7 +68,8 @@ fn kinds(tables: &[Vec<i32>]) -> [usize; 13] {
     counts
 }
 
-pub fn run() {
+/// The check of tables of 1,024 statements.
+pub fn check() {
     for variables in [11, 16] {
         let tables: Vec<Vec<i32>> = (0..8).map(|seed| accepted(seed, STATEMENTS, variables)).collect();
         let statements = (STATEMENTS * tables.len()) as f64;
@@ -97,22 +98,27 @@ pub fn run() {
             );
             match name {
                 "check, fast" => fast = each,
-                "check, proved" => println!("check, proved against fast, {variables} variables: {:.2}", each / fast),
+                "check, proved" => {
+                    println!("check, proved against fast, {variables} variables: {:.2}", each / fast)
+                }
                 _ => {}
             }
         }
     }
+}
+
+/// The run of a loop of ten statements.
+pub fn run() {
     type Run = fn(&[i32], &mut RunInput) -> bool;
     let forms: [(&str, Run, u32); 3] = [
-        ("run, fast", |t, i| matches!(fast_run::run(t, i), RunAnswer::Spent { .. }), 10_000_000),
-        ("run, plain", |t, i| matches!(machine::run(t, i), RunAnswer::Spent { .. }), 1_000_000),
-        ("run, proved", |t, i| Proved.run(t, i)[0] == 1, 10_000_000),
+        ("run, fast", |t, i| matches!(fast_run::run(t, i), RunAnswer::Spent { .. }), 200_000),
+        ("run, plain", |t, i| matches!(machine::run(t, i), RunAnswer::Spent { .. }), 20_000),
+        ("run, proved", |t, i| Proved.run(t, i)[0] == 1, 200_000),
     ];
     let table = loop_table();
     let mut fast = f64::NAN;
     for (name, run, steps) in forms {
-        let each =
-            best(12, || assert!(run(black_box(&table), &mut loop_input(steps)))) / f64::from(steps);
+        let each = best(400, || assert!(run(black_box(&table), &mut loop_input(steps)))) / f64::from(steps);
         println!("{name:<13} loop of ten    {each:8.2} ns a step");
         match name {
             "run, fast" => fast = each,

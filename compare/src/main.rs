@@ -30,7 +30,7 @@ const USAGE: &str = "usage: compare vectors DIR
        compare stats SEED COUNT
        compare differ SEED COUNT [FIRST]
        compare show SEED NUMBER
-       compare bench";
+       compare bench [check|run]";
 
 fn main() -> ExitCode {
     let args: Vec<String> = std::env::args().skip(1).collect();
@@ -42,6 +42,15 @@ fn main() -> ExitCode {
         ["differ", seed, count, first] => search(seed, count, first),
         ["show", seed, number] => show(seed, number),
         ["bench"] => {
+            bench::check();
+            bench::run();
+            Ok(true)
+        }
+        ["bench", "check"] => {
+            bench::check();
+            Ok(true)
+        }
+        ["bench", "run"] => {
             bench::run();
             Ok(true)
         }
@@ -84,7 +93,8 @@ fn all_differences(vector: &vectors::Vector) -> Vec<String> {
     let mut found = vectors::differences(vector);
     let case = generate::Case { table: vector.table.clone(), input: vector.input.clone() };
     for other in proved::implementations() {
-        let what = differ::difference(&case, other.as_ref()).or_else(|| differ::at_every_limit(&case, other.as_ref()));
+        let what = differ::difference(&case, other.as_ref())
+            .or_else(|| differ::at_every_limit(&case, other.as_ref()));
         found.extend(what.map(|what| format!("{} ({}): {what}", vector.name, other.name())));
     }
     found
