@@ -26,6 +26,8 @@ use Rattle.machine.specs.Machine.{Failing, none, fails, failing, boundsTrue, in
 use Rattle.entry.specs.Entry.{entryRefusals}
 use Rattle.machine.specs.Points.{inBundle, Access, no-access, access, accessFrom}
 use Rattle.machine.specs.Soundness.{Outside}
+use Rattle.stops.specs.Checks.{checkNumber, checkStatement}
+use Rattle.stops.specs.declared.Check.{Check}
 use Rattle.interpreter.specs.Agreement.{outcomeShown}
 use Rattle.interpreter.specs.declared.Outcome.{Outcome}
 use Rattle.interpreter.specs.declared.Outcome.the-variants as outcome
@@ -63,8 +65,8 @@ AccessInside D (access a origin) = inOrigin D origin a ≡ true
 abbrev pub answerAt : Sections → Point → Outcome
 answerAt h P = outcomeShown h (P .status) (P .steps) (P .due)
 
--- DEMAND 3 at the point after t steps of a run with the allowance `limit`.
-pub record AtPoint (T : List ℤ) (h : Sections) (E : Environment) (D : List ℕ) (point : ℕ → Point) (limit t : ℕ) : Type 0 where
+-- DEMAND 3 at the point after t steps of a run with the allowance `limit`, which answers r.
+pub record AtPoint (T : List ℤ) (h : Sections) (E : Environment) (D : List ℕ) (point : ℕ → Point) (limit : ℕ) (r : Outcome) (t : ℕ) : Type 0 where
   -- "Outside a bundle every declared bound is true."
   pub bounds : inBundle (tree T h) (point t .due) ≡ false → (p : ℕ) → isPointer E p ≡ true → boundsTrue E D (point t .values) (point t .origins) p ≡ true
   -- "Each cell read or written so far lay in the object that the pointer was derived from."
@@ -76,15 +78,18 @@ pub record AtPoint (T : List ℤ) (h : Sections) (E : Environment) (D : List ℕ
   -- A run that goes on has made t steps.
   pub counted : point t .status ≡ going → point t .due < h .statements → point t .steps ≡ t
   -- "the run, unless it has stopped, has finished exactly when no statement is due"
-  pub finished : point t .status ≡ going → (answerAt h (point t) ≡ outcome.Done (point t .steps)) ↔ (h .statements ≤ point t .due)
+  pub finished : point t .status ≡ going → (r ≡ outcome.Done (point t .steps)) ↔ (h .statements ≤ point t .due)
   -- "else it is spent exactly when its allowance is used"
-  pub spent : point t .status ≡ going → point t .due < h .statements → (answerAt h (point limit) ≡ outcome.Spent (point t .steps) (point t .due)) ↔ (t ≡ limit)
-  -- "else its next step stops it exactly when a named check fails at the statement due, and it answers that statement and the first such check"
+  pub spent : point t .status ≡ going → point t .due < h .statements → (r ≡ outcome.Spent (point t .steps) (point t .due)) ↔ (t ≡ limit)
+  -- "else its next step stops it exactly when a named check fails at the statement due,
   pub stops : point t .status ≡ going → point t .due < h .statements → (n : ℕ)
       → (point (t + 1) .status ≡ stopped n) ↔ (failingAt E (statementAt T h (point t .due)) (point t .values) ≡ fails n)
+  -- and it answers that statement and the first such check"
+  pub answers-check : point t .status ≡ going → point t .due < h .statements → t < limit → (c : Check)
+      → (r ≡ outcome.Stopped (point t .steps + 1) c) ↔ ((failingAt E (statementAt T h (point t .due)) (point t .values) ≡ fails (checkNumber c)) × (checkStatement c ≡ point t .due))
   -- "The stopping statement is counted and changes nothing", and stays due.
   pub stop-changes-nothing : point t .status ≡ going → (n : ℕ) → point (t + 1) .status ≡ stopped n
-      → (point (t + 1) .due ≡ point t .due) × (point (t + 1) .steps ≡ point t .steps + 1) × (point (t + 1) .values ≡ point t .values) × (point (t + 1) .cells ≡ point t .cells)
+      → (point (t + 1) .due ≡ point t .due) × (point (t + 1) .steps ≡ point t .steps + 1) × (point (t + 1) .values ≡ point t .values) × (point (t + 1) .cells ≡ point t .cells) × (point (t + 1) .origins ≡ point t .origins)
   -- "and else it takes that step"
   pub goes-on : point t .status ≡ going → point t .due < h .statements → failingAt E (statementAt T h (point t .due)) (point t .values) ≡ none
       → (point (t + 1) .status ≡ going) × (point (t + 1) .steps ≡ point t .steps + 1)
@@ -94,7 +99,7 @@ pub record Ran (T : List ℤ) (h : Sections) (D cs vs os : List ℕ) (limit : �
   pub answer : r ≡ answerAt h (pointOf T h D cs vs os limit)
   pub values : vs′ ≡ pointOf T h D cs vs os limit .values
   pub cells : cs′ ≡ pointOf T h D cs vs os limit .cells
-  pub every-point : (t : ℕ) → t ≤ limit → AtPoint T h (environmentOf T h) D (pointOf T h D cs vs os) limit t
+  pub every-point : (t : ℕ) → t ≤ limit → AtPoint T h (environmentOf T h) D (pointOf T h D cs vs os) limit r t
 
 -- A refused run: the first fault is its answer, and no cell and no value is changed.
 pub record NotBegun (fs : List Fault) (cs vs : List ℕ) (r : Outcome) (vs′ cs′ : List ℕ) : Type 0 where

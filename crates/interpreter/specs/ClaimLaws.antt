@@ -1,11 +1,12 @@
 -- The proof of the claim about a run: from the soundness theorem and from the agreement of the code's run with the plain machine.
-use Prim.Native.Nat.{ℕ, _+_, _*_, _≤_, _<_}
+use Prim.Native.Nat.{ℕ, _+_, _-_, _*_, _≤_, _<_}
 use mathlib.Core.Path.{_≡_, refl, sym, ap, subst, _∙_}
-use mathlib.Core.Logic.{_≢_, _↔_}
+use mathlib.Core.Logic.{_≢_, _↔_, _⊎_, inl, inr}
 use mathlib.Core.Bool.{Bool, true, false}
 use mathlib.Core.List.{List, [], _∷_}
+use native.Mathlib.Nat.{eq-or-lt-of-le}
 use native.Mathlib.Omega.{arith}
-use borrow.Author.Tests.{lt-ltb, le-leb, ltb-true, ltb-false}
+use borrow.Author.Tests.{lt-ltb, le-ltb, le-leb, ltb-true, ltb-false}
 use lib.Dec.{ltb}
 use lib.IntN.{ℤ}
 use lib.ListN.{length, getD}
@@ -25,11 +26,15 @@ use Rattle.rules.specs.Verdict.{environmentOf, refusals, faults, Answers}
 use Rattle.rules.specs.declared.Verdict.{Verdict}
 use Rattle.rules.specs.declared.Verdict.the-variants as verdict
 use Rattle.rules.specs.declared.Environment.{Environment}
-use Rattle.machine.specs.Machine.{Status, going, stopped, stuck, Point, start, pointAfter}
+use Rattle.statements.specs.Statements.{statementAt}
+use Rattle.machine.specs.Machine.{Status, going, stopped, stuck, fails, Point, start, pointAfter}
 use Rattle.machine.specs.Points.{Access, no-access, access, accessFrom}
 use Rattle.machine.specs.Soundness.{Begun, Sound, AccessAllowed}
 use Rattle.machine.specs.RunSound.{sound}
-use Rattle.interpreter.specs.StepLaws.{point-step, stop-same, steps-counted}
+use Rattle.stops.specs.Checks.{checkNumber, checkStatement, checkOf}
+use Rattle.stops.specs.declared.Check.{Check}
+use Rattle.interpreter.specs.StepLaws.{StepFacts, point-step, stop-same, steps-counted, done-on, stopped-on, counts-on}
+use Rattle.interpreter.specs.NumberLaws.{number-of, statement-of, check-of, stopped-number}
 use Rattle.entry.specs.Entry.{entryRefusals}
 use Rattle.interpreter.specs.BegunLaws.{entry-begun}
 use Rattle.entry.specs.Ends.{endsOf}
@@ -37,13 +42,13 @@ use Rattle.steps.specs.Bare.{Prepared}
 use Rattle.interpreter.specs.BareRun.{Result, Ends, SafeRun, bareRun}
 use Rattle.interpreter.specs.StartLaws.{admitted, start-prepared, start-safe, start-agrees}
 use Rattle.interpreter.specs.Agreement.{pickOutcome, outcomeShown, resultShown}
-use Rattle.interpreter.specs.Claim.{AccessInside, answerAt, AtPoint, Ran, entryFaults, runFaults, RunAnswer}
+use Rattle.interpreter.specs.Claim.{failingAt, AccessInside, answerAt, AtPoint, Ran, entryFaults, runFaults, RunAnswer}
 use Rattle.entry.specs.Entered.{entered}
 use Rattle.entry.specs.declared.EntryVerdict.{EntryVerdict}
 use Rattle.entry.specs.declared.EntryVerdict.the-variants as entry
 use Rattle.interpreter.specs.declared.Outcome.the-variants as outcome
 use Rattle.interpreter.specs.declared.Outcome.{Outcome}
-use Rattle.interpreter.specs.declared.Outcome.the-variants.{Done, Spent}
+use Rattle.interpreter.specs.declared.Outcome.the-variants.{Done, Spent, Stopped}
 
 allowed-inside : (D : List ℕ) (n : ℕ) (a : Access) → AccessAllowed D n a → AccessInside D a
 allowed-inside D n no-access h = tt
@@ -51,9 +56,34 @@ allowed-inside D n (access a o) h = h .inside
 
 -- ---- the answers at a point
 
-done-exactly : (b : Bool) (due statements n : ℕ) → ltb due statements ≡ b → (pickOutcome b (Spent n due) (Done n) ≡ Done n) ↔ (statements ≤ due)
-done-exactly true due statements n q = ((λ e. let z : _≡_ {A = ℕ} 0 1 = cc in absurd (omega arith)), (λ l. absurd (omega (arith, ltb-true due statements q))))
-done-exactly false due statements n q = ((λ e. ltb-false due statements q), (λ l. refl))
+going-done : (h : Sections) (s : Status) (steps due : ℕ) → s ≡ going → h .statements ≤ due → outcomeShown h s steps due ≡ Done steps
+going-done h s steps due e l = rw (e, le-ltb due (h .statements) l)
+
+-- The steps of a point that answers done, where no statement is due.
+done-steps : (h : Sections) (s : Status) (steps due n : ℕ) → s ≢ stuck → outcomeShown h s steps due ≡ Done n → (h .statements ≤ due) × (steps ≡ n)
+done-steps h going steps due n u e = go (ltb due (h .statements)) refl e
+  where
+    go : (b : Bool) → ltb due (h .statements) ≡ b → pickOutcome b (Spent steps due) (Done steps) ≡ Done n → (h .statements ≤ due) × (steps ≡ n)
+    go true q e = let z : _≡_ {A = ℕ} 0 1 = cc in absurd (omega arith)
+    go false q e = (ltb-false due (h .statements) q, cc)
+done-steps h (stopped k) steps due n u e = let z : _≡_ {A = ℕ} 0 1 = cc in absurd (omega arith)
+done-steps h stuck steps due n u e = absurd (u refl)
+
+-- The steps and the check of a point that answers stopped.
+pub record StoppedAt (s : Status) (steps due n : ℕ) (c : Check) : Type 0 where
+  pub number : ℕ
+  pub status : s ≡ stopped number
+  pub steps-made : steps ≡ n
+  pub check : c ≡ checkOf number due
+
+stopped-steps : (h : Sections) (s : Status) (steps due n : ℕ) (c : Check) → outcomeShown h s steps due ≡ Stopped n c → StoppedAt s steps due n c
+stopped-steps h going steps due n c e = go (ltb due (h .statements)) e
+  where
+    go : (b : Bool) → pickOutcome b (Spent steps due) (Done steps) ≡ Stopped n c → StoppedAt going steps due n c
+    go true e = let z : _≡_ {A = ℕ} 0 1 = cc in absurd (omega arith)
+    go false e = let z : _≡_ {A = ℕ} 0 1 = cc in absurd (omega arith)
+stopped-steps h (stopped k) steps due n c e = record { number = k; status = refl; steps-made = cc; check = cc }
+stopped-steps h stuck steps due n c e = let z : _≡_ {A = ℕ} 0 1 = cc in absurd (omega arith)
 
 -- The steps of a point that answers spent.
 spent-steps : (h : Sections) (s : Status) (steps due n a : ℕ) → outcomeShown h s steps due ≡ Spent n a → (s ≡ going) × (due < h .statements) × (steps ≡ n)
@@ -64,6 +94,10 @@ spent-steps h going steps due n a e = go (ltb due (h .statements)) refl e
     go false q e = let z : _≡_ {A = ℕ} 0 1 = cc in absurd (omega arith)
 spent-steps h (stopped k) steps due n a e = let z : _≡_ {A = ℕ} 0 1 = cc in absurd (omega arith)
 spent-steps h stuck steps due n a e = let z : _≡_ {A = ℕ} 0 1 = cc in absurd (omega arith)
+
+-- Two stops of one number of steps have one check.
+cc-stopped : {n : ℕ} {c d : Check} → Stopped n c ≡ Stopped n d → c ≡ d
+cc-stopped e = cc
 
 going-spent : (h : Sections) (s : Status) (steps due : ℕ) → s ≡ going → due < h .statements → outcomeShown h s steps due ≡ Spent steps due
 going-spent h s steps due e l = rw (e, lt-ltb due (h .statements) l)
@@ -86,6 +120,10 @@ module _ (T : List ℤ) (h : Sections) (formed : formOf T ≡ WellFormed h) (acc
   unstuck : (t : ℕ) → point t .status ≢ stuck
   unstuck t = right t .has-step
 
+  first-going : first .status ≡ going
+  unfolding start
+  first-going = refl
+
   none-yet : first .steps ≡ 0
   unfolding start
   none-yet = refl
@@ -97,8 +135,33 @@ module _ (T : List ℤ) (h : Sections) (formed : formOf T ≡ WellFormed h) (acc
   counted : (t : ℕ) → point t .status ≡ going → point t .due < h .statements → point t .steps ≡ t
   counted = steps-counted T h E D first unstuck none-yet
 
-  finished : (t : ℕ) → point t .status ≡ going → (answerAt h (point t) ≡ Done (point t .steps)) ↔ (h .statements ≤ point t .due)
-  finished t g = rw g (done-exactly (ltb (point t .due) (h .statements)) (point t .due) (h .statements) (point t .steps) refl)
+  -- A run that has ended stays where it ended; one that takes a step counts it.
+  ended-done : (limit t : ℕ) → t ≤ limit → point t .status ≡ going → h .statements ≤ point t .due → point limit ≡ point t
+  ended-done limit t l g d = let q : t + (limit - t) ≡ limit = omega arith in rw q at (done-on T h E D first t (limit - t) g d)
+
+  ended-stopped : (limit t n : ℕ) → t ≤ limit → point t .status ≡ stopped n → point limit ≡ point t
+  ended-stopped limit t n l g = let q : t + (limit - t) ≡ limit = omega arith in rw q at (stopped-on T h E D first t (limit - t) n g)
+
+  counts : (limit t : ℕ) → t < limit → point t .status ≡ going → point t .due < h .statements → point t .steps < point limit .steps
+  counts limit t l g d = let q : t + 1 + (limit - (t + 1)) ≡ limit = omega arith in rw q at (counts-on T h E D first unstuck t (limit - (t + 1)) g d)
+
+  finished : (limit t : ℕ) → t ≤ limit → point t .status ≡ going → (answerAt h (point limit) ≡ Done (point t .steps)) ↔ (h .statements ≤ point t .due)
+  finished limit t l g = (
+    (λ e. by-due e (ltb (point t .due) (h .statements)) refl),
+    (λ d. ap (answerAt h) (ended-done limit t l g d) ∙ going-done h (point t .status) (point t .steps) (point t .due) g d),
+  )
+    where
+      by-time : answerAt h (point limit) ≡ Done (point t .steps) → point t .due < h .statements → (t ≡ limit) ⊎ (t < limit) → ⊥
+      by-time e d (inl q) =
+          let f = done-steps h (point limit .status) (point limit .steps) (point limit .due) (point t .steps) (unstuck limit) e in
+          omega (arith, f .0, ap (λ (n : ℕ). point n .due) q)
+      by-time e d (inr q) =
+          let f = done-steps h (point limit .status) (point limit .steps) (point limit .due) (point t .steps) (unstuck limit) e in
+          omega (arith, f .1, counts limit t q g d)
+
+      by-due : answerAt h (point limit) ≡ Done (point t .steps) → (b : Bool) → ltb (point t .due) (h .statements) ≡ b → h .statements ≤ point t .due
+      by-due e true q = absurd (by-time e (ltb-true (point t .due) (h .statements) q) (eq-or-lt-of-le l))
+      by-due e false q = ltb-false (point t .due) (h .statements) q
 
   spent : (limit t : ℕ) → point t .status ≡ going → point t .due < h .statements → (answerAt h (point limit) ≡ Spent (point t .steps) (point t .due)) ↔ (t ≡ limit)
   spent limit t g l = (
@@ -106,19 +169,67 @@ module _ (T : List ℤ) (h : Sections) (formed : formOf T ≡ WellFormed h) (acc
     (λ e. rw (← e) (going-spent h (point t .status) (point t .steps) (point t .due) g l)),
   )
 
-  pub at-point : (limit t : ℕ) → AtPoint T h E D point limit t
-  at-point limit t = record {
+  abbrev FailingHere : ℕ → ℕ → Type 0
+  FailingHere t n = failingAt E (statementAt T h (point t .due)) (point t .values) ≡ fails n
+
+  answers-check : (limit t : ℕ) → point t .status ≡ going → point t .due < h .statements → t < limit → (c : Check)
+      → (answerAt h (point limit) ≡ Stopped (point t .steps + 1) c) ↔ (FailingHere t (checkNumber c) × (checkStatement c ≡ point t .due))
+  answers-check limit t g d l c = ((λ e. by-status e (point (t + 1) .status) refl), (λ w. answered (w .0) (w .1)))
+    where
+      facts : StepFacts (failingAt E (statementAt T h (point t .due)) (point t .values)) (point t) (point (t + 1))
+      facts = point-step T h E D first t g d (unstuck (t + 1))
+
+      -- The run has stopped with this step.
+      at-stop : (n : ℕ) → point (t + 1) .status ≡ stopped n → answerAt h (point limit) ≡ Stopped (point t .steps + 1) (checkOf n (point t .due))
+      at-stop n s =
+          let k = facts .same n s in
+          ap (answerAt h) (ended-stopped limit (t + 1) n (omega arith) s) ∙ rw (s, k .0, k .1) refl
+
+      answered : FailingHere t (checkNumber c) → checkStatement c ≡ point t .due → answerAt h (point limit) ≡ Stopped (point t .steps + 1) c
+      answered f q =
+          at-stop (checkNumber c) (facts .stops (checkNumber c) .1 f) ∙ ap (Stopped (point t .steps + 1)) (sym (check-of c (checkNumber c) (point t .due) refl q))
+
+      -- The run went on, so that it cannot have stopped with this step.
+      went-on : answerAt h (point limit) ≡ Stopped (point t .steps + 1) c → point (t + 1) .status ≡ going → ⊥
+      went-on e s = by-due (ltb (point (t + 1) .due) (h .statements)) refl
+        where
+          last : StoppedAt (point limit .status) (point limit .steps) (point limit .due) (point t .steps + 1) c
+          last = stopped-steps h (point limit .status) (point limit .steps) (point limit .due) (point t .steps + 1) c e
+
+          contrary : point limit .status ≡ going → ⊥
+          contrary g = let k = last .status in let z : _≡_ {A = ℕ} 0 1 = cc in omega arith
+
+          by-time : point (t + 1) .due < h .statements → (t + 1 ≡ limit) ⊎ (t + 1 < limit) → ⊥
+          by-time m (inl q) = contrary (ap (λ (n : ℕ). point n .status) (sym q) ∙ s)
+          by-time m (inr q) = omega (arith, last .steps-made, facts .counts s, counts limit (t + 1) q s m)
+
+          by-due : (b : Bool) → ltb (point (t + 1) .due) (h .statements) ≡ b → ⊥
+          by-due true q = by-time (ltb-true (point (t + 1) .due) (h .statements) q) (eq-or-lt-of-le (omega arith))
+          by-due false q = contrary (ap (λ (P : Point). P .status) (ended-done limit (t + 1) (omega arith) s (ltb-false (point (t + 1) .due) (h .statements) q)) ∙ s)
+
+      by-status : answerAt h (point limit) ≡ Stopped (point t .steps + 1) c → (s : Status) → point (t + 1) .status ≡ s
+          → FailingHere t (checkNumber c) × (checkStatement c ≡ point t .due)
+      by-status e going s = absurd (went-on e s)
+      by-status e (stopped n) s =
+          let k : c ≡ checkOf n (point t .due) = cc-stopped (sym e ∙ at-stop n s) in
+          let five = stopped-number T h E D (t + 1) n first first-going s in
+          (facts .stops n .0 s ∙ ap fails (sym (ap checkNumber k ∙ number-of n (point t .due) (five .0) (five .1))), ap checkStatement k ∙ statement-of n (point t .due))
+      by-status e stuck s = absurd (unstuck (t + 1) s)
+
+  pub at-point : (limit t : ℕ) (r : Outcome) → r ≡ answerAt h (point limit) → t ≤ limit → AtPoint T h E D point limit r t
+  at-point limit t r e l = rw e (record {
     bounds = right t .bounds;
-    accesses = λ s l. allowed-inside D (length (point s .cells)) (accessFrom T h E (point s .status) (point s)) (right s .access-allowed);
+    accesses = λ s b. allowed-inside D (length (point s .cells)) (accessFrom T h E (point s .status) (point s)) (right s .access-allowed);
     untouched = λ i o. right t .outside i o ∙ ap (λ (l : List ℕ). getD l i 0) (sym first-cells);
     has-step = unstuck t;
     counted = counted t;
-    finished = finished t;
+    finished = finished limit t l;
     spent = spent limit t;
-    stops = λ g l n. point-step T h E D first t g l (unstuck (t + 1)) .stops n;
+    stops = λ g d n. point-step T h E D first t g d (unstuck (t + 1)) .stops n;
+    answers-check = answers-check limit t;
     stop-changes-nothing = stop-same T h E D first unstuck t;
-    goes-on = λ g l f. let p = point-step T h E D first t g l (unstuck (t + 1)) in (p .goes f, p .counts (p .goes f));
-  }
+    goes-on = λ g d f. let p = point-step T h E D first t g d (unstuck (t + 1)) in (p .goes f, p .counts (p .goes f));
+  })
 
 -- ---- the contract of `run`
 
@@ -171,7 +282,7 @@ module _ (T : List ℤ) (h : Sections) (formed : formOf T ≡ WellFormed h) (acc
         answer = e .outcome ∙ ap (λ (o : Result). o .outcome) agrees;
         values = e .values ∙ ap (λ (o : Result). o .values) agrees;
         cells = e .cells ∙ ap (λ (o : Result). o .cells) agrees;
-        every-point = λ t l. at-point T h formed accepts D cs vs os begun limit t;
+        every-point = λ t l. at-point T h formed accepts D cs vs os begun limit t r (e .outcome ∙ ap (λ (o : Result). o .outcome) agrees) l;
       })
 
 -- ---- refusals of a run

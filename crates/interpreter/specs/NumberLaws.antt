@@ -10,7 +10,8 @@ use Rattle.facts.specs.Numbers.{bias}
 use Rattle.sections.specs.declared.Sections.{Sections}
 use Rattle.statements.specs.Statements.{statementAt}
 use Rattle.statements.specs.declared.Simple.{Simple}
-use Rattle.statements.specs.declared.Simple.the-variants.{Literal, AddConstant, Arithmetic, Null, Address, PointerOffset, PointerIndex, Load, Store, Check}
+use Rattle.statements.specs.declared.Simple.the-variants.{Literal, AddConstant, Arithmetic, Null, Address, PointerOffset, PointerIndex, Load, Store}
+use Rattle.statements.specs.declared.Simple.the-variants as simple
 use Rattle.statements.specs.declared.Statement.the-variants.{Plain, If, While, Bundle}
 use Rattle.statements.specs.declared.StatementRead.{StatementRead}
 use Rattle.statements.specs.declared.StatementRead.the-variants.{Read, Unread}
@@ -18,6 +19,8 @@ use Rattle.flow.specs.Flow.{Successors}
 use Rattle.rules.specs.declared.Environment.{Environment}
 use Rattle.machine.specs.Machine.{value, address, lowerEnd, upperEnd, conditionHolds, Failing, none, fails, firstOf, firstUnless, accessFailing, arithmeticFailing, failing, Status, going, stopped, stuck, Point, Performed, done, no-step, performed, memoryOf, afterPerformed, afterChecks, branched, statementStep, successorsOf, stepIfDue, nextPoint, pointAfter}
 use Rattle.stops.specs.Checks.{checkNumber, checkStatement, checkOf}
+use Rattle.stops.specs.declared.Check.{Check}
+use Rattle.stops.specs.declared.Check.the-variants.{ConditionFalse, NullAccess, OutOfBounds, NullArithmetic, AddressRange}
 
 -- The check that a stop answers has the machine's number, and the statement that was due.
 pub number-of : (n a : ℕ) → 1 ≤ n → n ≤ 5 → checkNumber (checkOf n a) ≡ n
@@ -36,6 +39,14 @@ statement-of (suc (suc zero)) a = refl
 statement-of (suc (suc (suc zero))) a = refl
 statement-of (suc (suc (suc (suc zero)))) a = refl
 statement-of (suc (suc (suc (suc (suc n))))) a = refl
+
+-- A check is that of its number and its statement.
+pub check-of : (c : Check) (n a : ℕ) → checkNumber c ≡ n → checkStatement c ≡ a → c ≡ checkOf n a
+check-of (ConditionFalse s) n a p q = rw (← p, ← q)
+check-of (NullAccess s) n a p q = rw (← p, ← q)
+check-of (OutOfBounds s) n a p q = rw (← p, ← q)
+check-of (NullArithmetic s) n a p q = rw (← p, ← q)
+check-of (AddressRange s) n a p q = rw (← p, ← q)
 
 abbrev Numbered : Failing → Type 0
 Numbered none = Unit {0}
@@ -71,7 +82,7 @@ failing-numbered E vs (PointerOffset p q k) = unless-numbered (eqb k bias) _ (ar
 failing-numbered E vs (PointerIndex p q i) = arithmetic-numbered _ _
 failing-numbered E vs (Load x p i k) = access-numbered E vs p (address vs p i k)
 failing-numbered E vs (Store p i k x) = access-numbered E vs p (address vs p i k)
-failing-numbered E vs (Check c) = first-numbered (not (conditionHolds vs c)) 1 none (omega arith) (omega arith) tt
+failing-numbered E vs (simple.Check c) = first-numbered (not (conditionHolds vs c)) 1 none (omega arith) (omega arith) tt
 
 abbrev Held : Status → Type 0
 Held going = Unit {0}

@@ -22,7 +22,7 @@ use Rattle.interpreter.specs.Claim.{failingAt}
 -- The step from P to Q, where f is the first check that fails.
 pub record StepFacts (f : Failing) (P Q : Point) : Type 0 where
   pub stops : (n : ℕ) → (Q .status ≡ stopped n) ↔ (f ≡ fails n)
-  pub same : (n : ℕ) → Q .status ≡ stopped n → (Q .due ≡ P .due) × (Q .steps ≡ P .steps + 1) × (Q .values ≡ P .values) × (Q .cells ≡ P .cells)
+  pub same : (n : ℕ) → Q .status ≡ stopped n → (Q .due ≡ P .due) × (Q .steps ≡ P .steps + 1) × (Q .values ≡ P .values) × (Q .cells ≡ P .cells) × (Q .origins ≡ P .origins)
   pub goes : f ≡ none → Q .status ≡ going
   pub counts : Q .status ≡ going → Q .steps ≡ P .steps + 1
 
@@ -41,7 +41,7 @@ moves P Q g c = record {
 halts : (P : Point) (k : ℕ) → StepFacts (fails k) P (halted P k)
 halts P k = record {
   stops = λ n. ((λ e. cc), (λ e. cc));
-  same = λ n e. (refl, refl, refl, refl);
+  same = λ n e. (refl, refl, refl, refl, refl);
   goes = λ e. let z : _≡_ {A = ℕ} 0 1 = cc in never z;
   counts = λ e. let z : _≡_ {A = ℕ} 0 1 = cc in never z;
 }
@@ -101,14 +101,28 @@ module _ (T : List ℤ) (h : Sections) (E : Environment) (D : List ℕ) where
     unfolding nextPoint
     stays-stopped t n g = after t ∙ ap (λ (s : Status). nextPoint T h E D s (point t)) g
 
+    pub done-on : (t d : ℕ) → point t .status ≡ going → h .statements ≤ point t .due → point (t + d) ≡ point t
+    done-on t zero g l = let q : t + 0 ≡ t = omega arith in ap point q
+    done-on t (suc d) g l =
+        let q : t + suc d ≡ t + d + 1 = omega arith in
+        let e = done-on t d g l in
+        ap point q ∙ stays-done (t + d) (ap (λ (Q : Point). Q .status) e ∙ g) (omega (arith, ap (λ (Q : Point). Q .due) e)) ∙ e
+
+    pub stopped-on : (t d n : ℕ) → point t .status ≡ stopped n → point (t + d) ≡ point t
+    stopped-on t zero n g = let q : t + 0 ≡ t = omega arith in ap point q
+    stopped-on t (suc d) n g =
+        let q : t + suc d ≡ t + d + 1 = omega arith in
+        let e = stopped-on t d n g in
+        ap point q ∙ stays-stopped (t + d) n (ap (λ (Q : Point). Q .status) e ∙ g) ∙ e
+
     module _ (unstuck : (t : ℕ) → point t .status ≢ stuck) where
       -- A stop is a step from a statement that is due.
       pub stop-same : (t : ℕ) → point t .status ≡ going → (n : ℕ) → point (t + 1) .status ≡ stopped n
-          → (point (t + 1) .due ≡ point t .due) × (point (t + 1) .steps ≡ point t .steps + 1) × (point (t + 1) .values ≡ point t .values) × (point (t + 1) .cells ≡ point t .cells)
+          → (point (t + 1) .due ≡ point t .due) × (point (t + 1) .steps ≡ point t .steps + 1) × (point (t + 1) .values ≡ point t .values) × (point (t + 1) .cells ≡ point t .cells) × (point (t + 1) .origins ≡ point t .origins)
       stop-same t g n e = go (ltb (point t .due) (h .statements)) refl
         where
           go : (b : Bool) → ltb (point t .due) (h .statements) ≡ b
-              → (point (t + 1) .due ≡ point t .due) × (point (t + 1) .steps ≡ point t .steps + 1) × (point (t + 1) .values ≡ point t .values) × (point (t + 1) .cells ≡ point t .cells)
+              → (point (t + 1) .due ≡ point t .due) × (point (t + 1) .steps ≡ point t .steps + 1) × (point (t + 1) .values ≡ point t .values) × (point (t + 1) .cells ≡ point t .cells) × (point (t + 1) .origins ≡ point t .origins)
           go true q = point-step t g (ltb-true _ _ q) (unstuck (t + 1)) .same n e
           go false q =
               let s : going ≡ stopped n = sym (ap (λ (Q : Point). Q .status) (stays-done t g (ltb-false _ _ q)) ∙ g) ∙ e in
@@ -137,3 +151,32 @@ module _ (T : List ℤ) (h : Sections) (E : Environment) (D : List ℕ) where
       pub steps-counted : P₀ .steps ≡ 0 → (t : ℕ) → point t .status ≡ going → point t .due < h .statements → point t .steps ≡ t
       steps-counted e zero g l = start-steps e
       steps-counted e (suc t) g l = rw (add-one t) at (count-next t (steps-counted e t) (rw (← add-one t) at g) (rw (← add-one t) at l))
+
+      -- A step from a statement that is due is counted.
+      step-counted : (t : ℕ) → point t .status ≡ going → point t .due < h .statements → point (t + 1) .steps ≡ point t .steps + 1
+      step-counted t g l = by-status (point (t + 1) .status) refl
+        where
+          by-status : (s : Status) → point (t + 1) .status ≡ s → point (t + 1) .steps ≡ point t .steps + 1
+          by-status going e = point-step t g l (unstuck (t + 1)) .counts e
+          by-status (stopped n) e = point-step t g l (unstuck (t + 1)) .same n e .1
+          by-status stuck e = absurd (unstuck (t + 1) e)
+
+      steps-grow : (t : ℕ) → point t .steps ≤ point (t + 1) .steps
+      steps-grow t = by-status (point t .status) refl
+        where
+          by-due : point t .status ≡ going → (b : Bool) → ltb (point t .due) (h .statements) ≡ b → point t .steps ≤ point (t + 1) .steps
+          by-due g true q = omega (arith, step-counted t g (ltb-true (point t .due) (h .statements) q))
+          by-due g false q = omega (arith, ap (λ (Q : Point). Q .steps) (stays-done t g (ltb-false (point t .due) (h .statements) q)))
+
+          by-status : (s : Status) → point t .status ≡ s → point t .steps ≤ point (t + 1) .steps
+          by-status going e = by-due e (ltb (point t .due) (h .statements)) refl
+          by-status (stopped n) e = omega (arith, ap (λ (Q : Point). Q .steps) (stays-stopped t n e))
+          by-status stuck e = absurd (unstuck t e)
+
+      steps-grow-on : (t d : ℕ) → point t .steps ≤ point (t + d) .steps
+      steps-grow-on t zero = let q : t + 0 ≡ t = omega arith in rw q (omega arith)
+      steps-grow-on t (suc d) = let q : t + suc d ≡ t + d + 1 = omega arith in rw q (omega (arith, steps-grow-on t d, steps-grow (t + d)))
+
+      -- A run that takes its step counts it in the end.
+      pub counts-on : (t d : ℕ) → point t .status ≡ going → point t .due < h .statements → point t .steps < point (t + 1 + d) .steps
+      counts-on t d g l = omega (arith, step-counted t g l, steps-grow-on (t + 1) d)
