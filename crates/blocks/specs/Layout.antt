@@ -66,7 +66,7 @@ nodeLayout false s rec T h d a b = []
 nodeLayout true Unread rec T h d a b = StatementRecord a ∷ []
 nodeLayout true (Read s) rec T h d a b = also (when (ltb maxDepth d) (BlockLayout a)) (kindLayout s rec T h d a b)
 
--- The block of a to b - 1 at the depth d; the fuel is the number of statements left, as in `parse`, and it is enough (`laid`).
+-- The block of a to b - 1 at the depth d; the fuel is the number of statements left, as in `parse`, and it is enough (`laid` in flow/specs/ShapeLaws).
 unfoldable pub blockLayout : ℕ → List ℤ → Sections → ℕ → ℕ → ℕ → List Refusal
 blockLayout zero T h d a b = []
 blockLayout (suc f) T h d a b = nodeLayout (ltb a b) (statementAt T h a) (λ e x y. blockLayout f T h e x y) T h d a b

@@ -5,7 +5,7 @@ use statements::Statement;
 use statements::StatementRead;
 use statements::read_statement;
 ghost use mathlib.Core.Path.{_≡_};
-ghost use Prim.Native.Nat.{_+_, _<_};
+ghost use Prim.Native.Nat.{_<_};
 ghost use Rattle.blocks.specs.Layout.{verdict, contents, bundleLayout, blockLayout, layout};
 
 // Blocks hold blocks to this depth; top statements have depth 0.

@@ -1,4 +1,4 @@
--- What the parts of a `match` or `let .. else` for several variants at once are told.
+-- What the last arm of the `match` in `access_shown` is told.
 use mathlib.Core.Path.{_≡_, refl}
 use mathlib.Core.Bool.{true}
 use mathlib.Core.List.{List, [], _∷_}
@@ -11,8 +11,6 @@ use Rattle.statements.proofs.Statement as statement-enum
 use Rattle.statements.proofs.Simple as simple-enum
 use Rattle.statements.specs.declared.Simple.{Simple}
 use Rattle.statements.specs.declared.Simple.the-variants.{Literal, AddConstant, Arithmetic, Null, Address, PointerOffset, PointerIndex, Load, Store, Check}
-use Rattle.statements.specs.declared.Statement.{Statement}
-use Rattle.statements.specs.declared.Statement.the-variants.{Plain}
 use Rattle.rules.specs.BoundsRules.{accessShown}
 use Rattle.rules.specs.declared.Bounds.{Bounds}
 use Rattle.rules.specs.declared.Environment.{Environment}

@@ -2,7 +2,7 @@
 use Prim.Native.Nat.{ℕ}
 use mathlib.Core.Bool.{Bool, false, not, _&&_}
 use lib.Dec.{eqb}
-use Rattle.rules.specs.BoundsRules.{pickBounds, names, forgetBounds, shiftBounds, objectBounds, effect}
+use Rattle.rules.specs.BoundsRules.{pickBounds, names, forgetBounds, shiftBounds, objectBounds}
 use Rattle.rules.specs.declared.KnownEnd.{KnownEnd}
 use Rattle.rules.specs.declared.KnownEnd.the-variants.{Known, Unknown}
 use Rattle.rules.specs.declared.Bounds.{Bounds}

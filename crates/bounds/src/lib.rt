@@ -1,7 +1,6 @@
 // The bounds in force: what an effect makes of known bounds, and which declared bounds are shown.
 use facts::FactSet;
 use refusals::Refusal;
-use rules::BIAS;
 use rules::Bounds;
 use rules::Effect;
 use rules::Environment;
@@ -10,9 +9,9 @@ use rules::Verdict;
 use rules::ZERO;
 use statements::Simple;
 use variables::End;
+use words::BIAS;
 ghost use mathlib.Core.Path.{_≡_};
-ghost use mathlib.Core.Bool.{Bool, true, not, _&&_};
-ghost use Prim.Native.Nat.{ℕ, _^_, _<_};
+ghost use Prim.Native.Nat.{_^_, _<_};
 ghost use lib.ListN.{getD};
 ghost use Rattle.rules.specs.BoundsRules.{nothingKnown, names, forgetEnd, shiftConstant, shiftEnd, forgetBounds, shiftBounds, objectBounds, boundsAfter, sameEnd, endAtMost, knownAtMost, boundsShown, unshown, accessShown};
 ghost use Rattle.rules.specs.Rules.{boundsAt};

@@ -1,7 +1,7 @@
 -- Each operation keeps the fact set exact, for what is known after it.
 use Prim.Native.Nat.{ℕ, _+_, _-_, _^_, _≤_, _<_, min, max}
 use mathlib.Core.Path.{_≡_, refl, sym, ap, _∙_}
-use mathlib.Core.Logic.{_≢_, _⊎_, inl, inr, _↔_}
+use mathlib.Core.Logic.{_≢_, inl, inr}
 use mathlib.Core.Bool.{Bool, true, false, false≢true}
 use native.Mathlib.Omega.{arith}
 use native.Mathlib.Decide.{ℕ-discrete}
@@ -9,12 +9,12 @@ use borrow.Author.Tests.{leb-true, leb-false, ltb-true, ltb-false, eqb-true, ne-
 use lib.Dec.{leb, ltb, eqb}
 use Rattle.facts.specs.Numbers.{bias, maxValue, zeroVar}
 use Rattle.facts.specs.Store.{pick, concatenated, negated, sumAt, leastSum, shown, newSet, lowered, marked, added, reassigned, dropped, ranged, shifted, related, joinedSum, joined}
-use Rattle.facts.specs.StoreLaws.{concat-plain, least-node, shown-clear, not-shown, added-shown, added-closed, added-lowered, dropped-variable, mark-dropped, ranged-variable, shifted-variable, joined-first, joined-second, joined-both, sum-new, sum-lowered, sum-reassigned, sum-joined, anewAt}
+use Rattle.facts.specs.StoreLaws.{concat-plain, least-node, shown-clear, not-shown, added-shown, added-closed, added-lowered, dropped-variable, ranged-variable, shifted-variable, joined-first, joined-second, joined-both, sum-new, sum-lowered, sum-reassigned, sum-joined, anewAt}
 use Rattle.chains.specs.Facts.{Variables, Node, Comparable, same-kind, from-zero, to-zero, Known, Always, lower, upper, Shown, Contradiction, With, before, fact, Without, kept, always, raise, Moved, moved, Shifted, Both, both, LeastSums}
 use Rattle.chains.specs.Chains.{one, more-contradiction, contradiction-of, zero-node, left-node, right-node, always-comparable, Sane, shows-every, closed, least-same, least-known}
 use Rattle.chains.specs.Operations.{with-comparable, without-comparable, moved-comparable, both-comparable, new-least, add-shown, add-contradiction, add-least, anewSums, anew-least, shift-least, closure-least}
 use Rattle.chains.specs.Join.{joinAt, join-least}
-use Rattle.chains.specs.Exact.{Exact, in-rows, contradiction-exact, high, low}
+use Rattle.chains.specs.Exact.{Exact, in-rows, high, low}
 use Rattle.facts.specs.declared.FactSet.{FactSet}
 
 -- ---- new
@@ -206,12 +206,6 @@ module _ (vars : Variables) (f : FactSet) (K : Known) (h : Exact vars f K) (x : 
       within a b c (before (before w)) = w
       within a b c (before fact) = always (upper hx)
       within a b c fact = always (lower hx)
-
-  -- Dropping keeps facts consistent.
-  pub dropped-consistent : (Contradiction K → ⊥) → Contradiction (Without vars x K) → ⊥
-  dropped-consistent sound c =
-      let k : dropped f x .contradiction ≡ true = contradiction-exact vars (dropped f x) (Without vars x K) (dropped-exact (λ d. absurd (sound d))) .1 c in
-      sound (h .clash (sym (mark-dropped f x) ∙ k))
 
 -- ---- shift
 

@@ -1,6 +1,6 @@
 -- The paper's section "Facts", sentence by sentence: facts, chains, what is shown, what contradicts, and what is known after each operation.
 -- These definitions say what is right; that the fact store does it is proved in Exact.
-use Prim.Native.Nat.{ℕ, _+_, _-_, _^_, _≤_, _<_}
+use Prim.Native.Nat.{ℕ, _+_, _-_, _≤_, _<_}
 use mathlib.Core.Path.{_≡_}
 use mathlib.Core.Logic.{_≢_, _⊎_}
 use mathlib.Core.Bool.{Bool, true, false}

@@ -12,7 +12,6 @@ use Rattle.facts.specs.Tabulate.{tabulate, length-tabulate, getD-tabulate}
 use Rattle.facts.specs.Store.{newSet}
 use Rattle.facts.specs.declared.FactSet.{FactSet}
 use Rattle.refusals.specs.declared.Refusal.{Refusal}
-use Rattle.refusals.specs.declared.Refusal.the-variants.{BoundsNotShown}
 use Rattle.words.specs.Words.{word}
 use Rattle.fields.specs.Fields.{plain, pickNumber}
 use Rattle.sections.specs.Sections.{inLimits, objectStart}
@@ -29,12 +28,11 @@ use Rattle.blocks.specs.declared.Layout.{Layout}
 use Rattle.blocks.specs.declared.Layout.the-variants as layout-variant
 use Rattle.rules.specs.Rules.{Fault, refusal, notShown, also, blockFaults}
 use Rattle.rules.specs.Verdict.{environmentOf, refusals, sectionFaults, formFaults, faults, Answers, lowestVerdict}
-use Rattle.rules.specs.RuleLaws.{no-first, no-rest}
 use Rattle.rules.specs.Ranges.{Measured}
 use Rattle.checker.specs.Walk.{Walks}
 use Rattle.rules.specs.declared.Environment.{Environment}
 use Rattle.rules.specs.declared.Verdict.{Verdict}
-use Rattle.rules.specs.declared.Verdict.the-variants.{Accepted, Refused}
+use Rattle.rules.specs.declared.Verdict.the-variants.{Refused}
 use Rattle.checker.specs.declared.walk.Walked.{Walked}
 
 -- The lengths that a well-formed table declares are in range.
@@ -102,36 +100,3 @@ module _ (T : List ℤ) {f : Form} (e : f ≡ formOf T) where
 
   pub form-formed : {h : Sections} → f ≡ form.WellFormed h → Formed T h
   form-formed p = well-formed T _ (sym e ∙ p)
-
--- ---- what an accepted table is
-
--- An answer that accepts says that there is no fault.
-pub accepted-clear : (xs : List Fault) {v : Verdict} → Answers xs v → v ≡ Accepted → xs ≡ []
-unfolding Answers
-accepted-clear [] a e = refl
-accepted-clear (refusal r ∷ xs) a e = cc
-accepted-clear (notShown n p ps ∷ xs) {v} a e = let z : v ≡ Refused (BoundsNotShown n (a .0)) = a .2 in cc
-
-pub record Clear (T : List ℤ) (h : Sections) : Type 0 where
-  pub form : formOf T ≡ form.WellFormed h
-  pub laid : layout T h ≡ []
-  pub walked : blockFaults T h (environmentOf T h) (tree T h) newSet ≡ []
-
-no-refusals : (xs : List Refusal) → refusals xs ≡ [] → xs ≡ []
-no-refusals [] e = refl
-no-refusals (x ∷ xs) e = cc
-
--- A table without a fault is well formed and laid out, and its walk has no fault.
-pub clear : (T : List ℤ) (h : Sections) → formOf T ≡ form.WellFormed h → faults T ≡ [] → Clear T h
-unfolding faults sectionFaults
-clear T h f e =
-    let s : formFaults T (form.WellFormed h) ≡ [] = rw f at e in
-    record { form = f; laid = no-refusals (layout T h) (no-first _ _ s); walked = no-rest _ _ s }
-
-pub faults-clear : (T : List ℤ) → faults T ≡ [] → (h : Sections) × Clear T h
-unfolding faults
-faults-clear T e = go (formOf T) refl e
-  where
-    go : (f : Form) → formOf T ≡ f → formFaults T f ≡ [] → (h : Sections) × Clear T h
-    go (form.Refused r) q e′ = let o : _≡_ {A = ℕ} 0 1 = cc in absurd (omega arith)
-    go (form.WellFormed h) q e′ = (h, clear T h q e)

@@ -16,7 +16,7 @@ use rules::Verdict;
 use sections::Sections;
 use statements::Statement;
 use statements::StatementRead;
-ghost use Prim.Native.Nat.{ℕ, _+_, _^_, _<_};
+ghost use Prim.Native.Nat.{_+_, _^_, _<_};
 ghost use Rattle.blocks.specs.Tree.{simples, parse};
 ghost use Rattle.rules.specs.BoundsRules.{unshown};
 ghost use Rattle.rules.specs.Rules.{boundsAt};

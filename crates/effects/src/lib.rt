@@ -4,14 +4,14 @@ mod loops; // loops.rt: the variables that a loop's body assigns
 use conditions::Condition;
 use facts::FactSet;
 pub use loops::lose;
-use rules::BIAS;
 use rules::Effect;
 use rules::MAX_VALUE;
 use rules::ZERO;
 use statements::Simple;
+use words::BIAS;
 ghost use mathlib.Core.Path.{_≡_};
 ghost use mathlib.Core.List.{[]};
-ghost use Prim.Native.Nat.{ℕ, _^_, _<_};
+ghost use Prim.Native.Nat.{_^_, _<_};
 ghost use lib.ListN.{getD};
 ghost use lib.Dec.{eqb};
 ghost use Rattle.statements.specs.declared.Simple.the-variants.{AddConstant, PointerOffset};

@@ -7,7 +7,7 @@ use statements::Statement;
 use statements::StatementRead;
 ghost use mathlib.Core.Path.{_≡_};
 ghost use mathlib.Core.Bool.{false};
-ghost use Prim.Native.Nat.{ℕ, _+_, _^_, _<_};
+ghost use Prim.Native.Nat.{_+_, _^_, _<_};
 ghost use lib.ListN.{getD};
 ghost use Rattle.flow.specs.Shape.{targetOf, targetsFrom};
 ghost use Rattle.rules.specs.FactRules.{droppedEach, loopFacts};

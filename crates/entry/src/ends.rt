@@ -4,7 +4,6 @@ use rules::Environment;
 use rules::KnownEnd;
 use variables::End;
 ghost use mathlib.Core.Path.{_≡_};
-ghost use Prim.Native.Nat.{_-_, _<_};
 ghost use Rattle.machine.specs.Machine.{endOf};
 ghost use Rattle.entry.specs.Ends.{endNumber, boundsNumber, endsOf};
 

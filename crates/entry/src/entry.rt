@@ -7,7 +7,7 @@ use refusals::Refusal;
 use rules::Environment;
 use sections::Sections;
 ghost use mathlib.Core.Path.{_≡_};
-ghost use Prim.Native.Nat.{_+_, _*_, _<_};
+ghost use Prim.Native.Nat.{_*_, _<_};
 ghost use lib.ListN.{length};
 ghost use Rattle.refusals.specs.declared.Refusal.the-variants.{DirectoryPair, EntryValue};
 ghost use Rattle.rules.specs.BoundsRules.{objectLength};

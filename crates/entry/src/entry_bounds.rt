@@ -1,13 +1,13 @@
 // Whether declared bounds are true at entry. Ends are whole numbers: a constant of any size is compared without a sum that wraps.
 use crate::ends::end_of;
-use machine::BIAS;
 use machine::value_at;
 use rules::Bounds;
 use rules::Environment;
 use rules::KnownEnd;
 use variables::End;
+use words::BIAS;
 ghost use mathlib.Core.Path.{_≡_};
-ghost use Prim.Native.Nat.{_+_, _^_, _<_};
+ghost use Prim.Native.Nat.{_^_, _<_};
 ghost use lib.Dec.{leb};
 ghost use Rattle.rules.specs.BoundsRules.{declared, isPointer};
 ghost use Rattle.machine.specs.Machine.{endValue, boundsTrue};

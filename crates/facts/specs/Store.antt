@@ -1,6 +1,6 @@
--- What each operation of the fact store makes of the 17 rows of 17 sums, as the code does. That this is what the paper says is proved in Exact.
+-- What each operation of the fact store makes of the 17 rows of 17 sums, as the code does. That this is what the paper says is proved in crate chains (Exact).
 use Prim.Native.Nat.{ℕ, _+_, _-_, _^_, min, max}
-use mathlib.Core.List.{List, [], _∷_}
+use mathlib.Core.List.{List, []}
 use mathlib.Core.Bool.{Bool, true, false, not}
 use lib.ListN.{getD, set}
 use lib.Dec.{ltb, leb, eqb}

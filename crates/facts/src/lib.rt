@@ -2,8 +2,8 @@
 // each of the 17 to each other one (a difference-bound matrix, closed under shortest paths) and a mark for facts that contradict.
 // A sum s is kept as the natural number s + 2^33. Nobody outside this crate reads the rows.
 ghost use mathlib.Core.Path.{_≡_};
-ghost use mathlib.Core.Bool.{Bool, true, false};
-ghost use Prim.Native.Nat.{ℕ, _<_};
+ghost use mathlib.Core.Bool.{false};
+ghost use Prim.Native.Nat.{_<_};
 ghost use lib.ListN.{getD};
 ghost use Rattle.facts.specs.Store.{contradictory, leastSum, shown, endShown, newSet, added, reassigned, dropped, ranged, shifted, joined};
 

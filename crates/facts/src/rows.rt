@@ -1,7 +1,7 @@
 // The rows of a fact set: the sums from one variable, or from zero, to each.
 ghost use mathlib.Core.Path.{_≡_};
-ghost use mathlib.Core.Bool.{Bool, true, false};
-ghost use Prim.Native.Nat.{ℕ, _<_};
+ghost use mathlib.Core.Bool.{false};
+ghost use Prim.Native.Nat.{_<_};
 ghost use lib.ListN.{getD};
 ghost use Rattle.facts.specs.Store.{newSum, newRow, loweredRow, ownRow, reroutedRow, same, related, joinedSum, joinedRow};
 use crate::sums;

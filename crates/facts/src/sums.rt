@@ -1,7 +1,6 @@
 // Sums of chains, each kept as the natural number that is 2^33 more.
 ghost use mathlib.Core.Path.{_≡_};
-ghost use mathlib.Core.Bool.{Bool, true, false};
-ghost use Prim.Native.Nat.{ℕ, min, max};
+ghost use Prim.Native.Nat.{min, max};
 ghost use Rattle.facts.specs.Store.{pick, concatenated, negated};
 
 // The sum 0.

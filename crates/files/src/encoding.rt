@@ -1,7 +1,7 @@
 // Words of a file: 32 bits, two's complement, little-endian.
 ghost use mathlib.Core.Path.{_≡_};
-ghost use Prim.Native.Nat.{ℕ, _+_, _*_, _<_, _≤_};
-ghost use lib.ListN.{length, getD};
+ghost use Prim.Native.Nat.{_+_, _<_, _≤_};
+ghost use lib.ListN.{length};
 ghost use Rattle.files.specs.Words.{signedOf, wordAt};
 
 fn wide(b: u8) -> u32

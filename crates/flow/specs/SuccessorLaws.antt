@@ -10,7 +10,7 @@ use Rattle.sections.specs.declared.Sections.{Sections}
 use Rattle.statements.specs.declared.Simple.{Simple}
 use Rattle.blocks.specs.Tree.{Block, nil, plain, branch, loop, bundle, unread, tree}
 use Rattle.blocks.specs.Layout.{layout}
-use Rattle.flow.specs.Flow.{Successors, successors, entry, lead, line, flow, tableFlow, tableEntry, put, written}
+use Rattle.flow.specs.Flow.{Successors, successors, entry, lead, line, flow, tableFlow, put, written}
 use Rattle.flow.specs.FlowLaws.{length-put}
 use Rattle.flow.specs.Along.{Along, along-left, along-right, along-at, along-getD}
 use Rattle.flow.specs.Shape.{size, Numbered, RightLine, Right, Bounded, Consecutive, entriesAt}
@@ -227,12 +227,6 @@ module _ (T : List ℤ) (h : Sections) (e : layout T h ≡ []) where
       let l = table-laid T h e in
       bounded-flow (tree T h) 0 (h .statements) (h .statements) (l .numbered) (omega (arith, l .ends)) (omega arith)
 
-  pub entry-bounded : tableEntry T h ≤ h .statements
-  unfolding tableEntry
-  entry-bounded =
-      let l = table-laid T h e in
-      small-entry (tree T h) 0 (h .statements) (h .statements) (l .numbered) (omega (arith, l .ends)) (omega arith)
-
   -- The successors of a statement in the flow are those at its node.
   pub flow-right : (d : Successors) → Right (λ s. getD (tableFlow T h) s d) (tree T h) (h .statements)
   unfolding tableFlow
@@ -242,11 +236,7 @@ module _ (T : List ℤ) (h : Sections) (e : layout T h ≡ []) where
     written-along : Along (entriesAt (written (tableFlow T h) w)) 0 (tableFlow T h)
     written-along = along-written (tableFlow T h) 0 (h .statements) w flow-consecutive (omega (arith, flow-long)) few flow-bounded
 
-    -- The entries written are right at each node, and those of the flow at each statement.
-    pub written-right : Right (entriesAt (written (tableFlow T h) w)) (tree T h) (h .statements)
-    unfolding tableFlow
-    written-right = right _ (tree T h) 0 (h .statements) (table-laid T h e .numbered) written-along
-
+    -- The entries written are those of the flow at each statement.
     pub written-at : (s : ℕ) (d : Successors) → s < h .statements → entriesAt (written (tableFlow T h) w) s ≡ getD (tableFlow T h) s d
     written-at s d p =
         let z : 0 + s ≡ s = omega arith in

@@ -20,7 +20,7 @@ use Rattle.table.specs.declared.Form.{Form}
 use Rattle.table.specs.declared.Form.the-variants.{WellFormed, Refused}
 use Rattle.flow.specs.Flow.{tableFlow, written, Written}
 use Rattle.rules.specs.EnvironmentLaws.{environment-declares}
-use Rattle.checker.specs.VerdictLaws.{clear, faults-clear}
+use Rattle.rules.specs.AcceptedLaws.{clear, faults-clear}
 use Rattle.rules.specs.Rules.{Fault, refusal, notShown, also}
 use Rattle.rules.specs.Verdict.{environmentOf, refusals, faults, Answers}
 use Rattle.rules.specs.declared.Verdict.{Verdict}

@@ -31,7 +31,7 @@ use Rattle.rules.specs.BoundsRules.{isPointer, declared}
 use Rattle.rules.specs.EnvironmentLaws.{Declares, environment-declares}
 use Rattle.rules.specs.Rules.{blockFacts}
 use Rattle.rules.specs.Verdict.{environmentOf, faults}
-use Rattle.checker.specs.VerdictLaws.{clear}
+use Rattle.rules.specs.AcceptedLaws.{clear}
 use Rattle.rules.specs.declared.Environment.{Environment}
 use Rattle.machine.specs.Machine.{value, boundsTrue, Failing, none, fails, failing, Memory, Status, going, stopped, stuck, Point, memoryOf, statementStep, successorsOf, stepIfDue, nextPoint, start, pointAfter}
 use Rattle.machine.specs.Points.{inBundle, simpleAccess, unlessFailing, statementAccess, accessIf, accessFrom}
@@ -40,7 +40,7 @@ use Rattle.machine.specs.Good.{Setting, Steady, Good}
 use Rattle.machine.specs.AccessSound.{Inside, Ready, inside-origin, access-inside}
 use Rattle.machine.specs.Places.{Linked, linked, Stands, At}
 use Rattle.machine.specs.BlockSound.{Fine, leads, stops, enter, block-step}
-use Rattle.machine.specs.Standing.{Standing, standing, past-bundles}
+use Rattle.machine.specs.Standing.{Standing, standing}
 use Rattle.machine.specs.EntrySound.{true-test, begun-good}
 
 module _ (T : List ℤ) (h : Sections) (E : Environment) (D cs : List ℕ) where
@@ -97,10 +97,6 @@ module _ (T : List ℤ) (h : Sections) (E : Environment) (D cs : List ℕ) where
         }
 
     -- ---- what the invariant says
-
-    -- Nothing is due in a bundle at the end of the table.
-    pub end-outside : inBundle (tree T h) (h .statements) ≡ false
-    end-outside = let l = table-laid T h (S .laid) in past-bundles (tree T h) 0 (h .statements) (l .numbered) (omega (arith, l .ends))
 
     abbrev Somewhere : Point → Type 0
     Somewhere P = Standing T h E D cs (tree T h) (P .due) (memoryOf P) ⊎ ((P .due ≡ h .statements) × Good h E D cs (blockFacts T h E (tree T h) newSet) (E .declared) (memoryOf P))

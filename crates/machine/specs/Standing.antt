@@ -1,11 +1,11 @@
 -- What holds at every place of an accepted routine: the memory is steady, and the statement due may make its access; outside a bundle the declared bounds are true.
 use Prim.Native.Nat.{ℕ, _+_, _≤_, _<_}
-use mathlib.Core.Path.{_≡_, refl, sym, _∙_, ap}
+use mathlib.Core.Path.{_≡_, sym, _∙_, ap}
 use mathlib.Core.Logic.{inl, inr}
-use mathlib.Core.Bool.{Bool, true, false, _&&_, _||_, false≢true}
+use mathlib.Core.Bool.{true, false, _&&_, _||_, false≢true}
 use mathlib.Core.List.{List, [], _∷_}
 use native.Mathlib.Omega.{arith}
-use borrow.Author.Tests.{lt-ltb, le-ltb}
+use borrow.Author.Tests.{lt-ltb}
 use lib.Dec.{ltb}
 use lib.IntN.{ℤ}
 use lib.ListN.{length}
@@ -20,9 +20,9 @@ use Rattle.statements.specs.declared.Statement.the-variants.{Plain, If, While, 
 use Rattle.statements.specs.declared.StatementRead.the-variants.{Read}
 use Rattle.blocks.specs.Tree.{Block, nil, plain, branch, loop, bundle, unread}
 use Rattle.flow.specs.Flow.{Successors, entry}
-use Rattle.flow.specs.Shape.{size, Numbered}
+use Rattle.flow.specs.Shape.{size}
 use Rattle.rules.specs.FactRules.{factsAfter, conditionFacts}
-use Rattle.rules.specs.FactsTrue.{neither, nor}
+use Rattle.rules.specs.FactsTrue.{neither}
 use Rattle.rules.specs.BoundsRules.{effect, boundsAfter, accessShown}
 use Rattle.rules.specs.Rules.{bundleFacts, bundleFaults, sidesJoined, blockFacts, blockFaults}
 use Rattle.rules.specs.RuleLaws.{no-first, no-rest, access-passed}
@@ -34,27 +34,6 @@ use Rattle.machine.specs.Good.{Setting, Good}
 use Rattle.machine.specs.AccessSound.{Ready}
 use Rattle.machine.specs.BlockSound.{ready-inside, ready-outside}
 use Rattle.machine.specs.Places.{LinkedLine, Linked, AtLine, headFacts, At}
-
--- Past the statements of a block no statement of a bundle is due.
-pub past-bundles : (b : Block) (lo d : ℕ) → Numbered b lo → lo + size b ≤ d → inBundle b d ≡ false
-unfolding inBundle size
-past-bundles nil lo d n l = refl
-past-bundles (plain a s r) lo d n l = past-bundles r (a + 1) d (n .1) (omega (arith, n .0))
-past-bundles (branch a c t e r) lo d n l =
-    let g = n .0 in
-    nor (inBundle t d) (inBundle e d || inBundle r d) (past-bundles t (a + 1) d (n .1) (omega arith))
-    (nor (inBundle e d) (inBundle r d) (past-bundles e (a + 1 + size t) d (n .2) (omega arith)) (past-bundles r (a + 1 + size t + size e) d (n .3) (omega arith)))
-past-bundles (loop a c k t r) lo d n l =
-    let g = n .0 in
-    nor (inBundle t d) (inBundle r d) (past-bundles t (a + 1) d (n .1) (omega arith)) (past-bundles r (a + 1 + size t) d (n .2) (omega arith))
-past-bundles (bundle a ss r) lo d n l =
-    let g = n .0 in
-    nor (ltb a d && ltb d (a + 1 + length ss)) (inBundle r d) (past (ltb a d) (le-ltb d (a + 1 + length ss) (omega arith))) (past-bundles r (a + 1 + length ss) d (n .1) (omega arith))
-  where
-    past : (b : Bool) → ltb d (a + 1 + length ss) ≡ false → (b && ltb d (a + 1 + length ss)) ≡ false
-    past true e = e
-    past false e = refl
-past-bundles (unread a) lo d n l = refl
 
 module _ (T : List ℤ) (h : Sections) (E : Environment) (D cs : List ℕ) where
   pub record Standing (b : Block) (d : ℕ) (m : Memory) : Type 0 where

@@ -3,9 +3,6 @@ ghost use mathlib.Core.Path.{_≡_};
 ghost use Prim.Native.Nat.{_^_, _<_};
 ghost use lib.ListN.{getD};
 
-// Constants and addresses carry this bias, so that none is below 0.
-pub const BIAS: u64 = 8589934592;
-
 pub fn wide(x: u32) -> u64
     ensures { λ r. ⌜ r ≡ x ⌝ }
     ensures small { λ r. ⌜ r < 2 ^ 32 ⌝ }

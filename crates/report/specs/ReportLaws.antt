@@ -9,7 +9,7 @@ use Rattle.stops.specs.Checks.{checkNumber, checkStatement}
 use Rattle.stops.specs.declared.Check.{Check}
 use Rattle.interpreter.specs.declared.Outcome.{Outcome}
 use Rattle.interpreter.specs.declared.Outcome.the-variants.{Done, Spent, Stopped, Refused}
-use Rattle.files.specs.Text.{bytesOf, textOf, Grown, Line}
+use Rattle.files.specs.Text.{bytesOf, Grown, Line}
 use Rattle.files.specs.declared.text.Text.{Text}
 use Rattle.report.specs.Report.{numeral, refusedText, stoppedText, entryText, leftLine, rowLine, firstRowLine}
 

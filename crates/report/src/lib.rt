@@ -5,7 +5,6 @@ use refusals::Refusal;
 use stops::Check;
 use stops::check_number;
 use stops::check_statement;
-ghost use mathlib.Core.Path.{_≡_};
 ghost use mathlib.Core.List.{_++_};
 ghost use Prim.Native.Nat.{_+_, _≤_};
 ghost use lib.ListN.{length};

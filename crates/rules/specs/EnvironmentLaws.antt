@@ -12,7 +12,7 @@ use lib.Dec.{ltb}
 use Rattle.facts.specs.Numbers.{bias}
 use Rattle.facts.specs.Tabulate.{tabulate, getD-tabulate, length-tabulate}
 use Rattle.sections.specs.Sections.{kindAt, integerAt, pointerAt}
-use Rattle.sections.specs.Typed.{IsInteger, IsPointer, IsIndex, missing, given, IsSmall}
+use Rattle.sections.specs.Typed.{IsInteger, IsPointer, IsIndex, missing, given}
 use Rattle.sections.specs.NameLaws.{pointer-limits}
 use Rattle.sections.specs.declared.Sections.{Sections}
 use Rattle.variables.specs.Typed.{EndTyped, PointerTyped}
@@ -37,8 +37,6 @@ pub record DeclaredEnds (E : Environment) (p : ℕ) : Type 0 where
   pub bounds : declared E p ≡ record { lower = Known low; upper = Known high }
   pub low-proper : Proper low
   pub high-proper : Proper high
-  pub low-small : IsSmall (low .constant)
-  pub high-small : IsSmall (high .constant)
 
 -- The environment is that of the table.
 pub record Declares (T : List ℤ) (h : Sections) (E : Environment) : Type 0 where
@@ -99,8 +97,6 @@ module _ (T : List ℤ) (h : Sections) where
         bounds = declared-at p l ∙ ap (λ (r : VariableRead). boundsOf r) e;
         low-proper = end-proper low few (t .lower);
         high-proper = end-proper high few (t .upper);
-        low-small = t .lower .constant;
-        high-small = t .upper .constant;
       }
 
 pub environment-declares : (T : List ℤ) (h : Sections) → Formed T h → Declares T h (environmentOf T h)

@@ -1,4 +1,4 @@
--- The facts that the walk meets are exact: each fact set comes about by legal operations of the fact store, so that what it shows is what chains of its known facts show.
+-- Each rule keeps a fact set exact: it comes about by legal operations of the fact store, so that what it shows is what chains of its known facts show.
 use Prim.Native.Nat.{ℕ, zero, suc, _+_, _-_, _≤_, _<_}
 use mathlib.Core.Path.{_≡_, refl, sym, ap, _∙_}
 use mathlib.Core.Logic.{_⊎_, inl, inr, ⊎-elim}

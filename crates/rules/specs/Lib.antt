@@ -4,6 +4,7 @@ pub mod Rules
 pub mod Verdict
 pub mod Ranges
 pub mod RuleLaws
+pub mod AcceptedLaws
 pub mod Routines
 pub mod Exactness
 pub mod FactsTrue

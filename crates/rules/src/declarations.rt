@@ -6,7 +6,6 @@ use sections::Sections;
 use variables::Variable;
 use variables::VariableRead;
 ghost use mathlib.Core.Path.{_≡_};
-ghost use Prim.Native.Nat.{ℕ};
 ghost use Rattle.facts.specs.Tabulate.{tabulate};
 ghost use Rattle.sections.specs.Sections.{pointerAt};
 ghost use Rattle.variables.specs.Variables.{variableAt, objectAt};

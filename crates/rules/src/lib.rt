@@ -4,9 +4,6 @@ mod declarations; // declarations.rt: what a table declares
 pub use declarations::read_environment;
 use variables::End;
 
-// A constant, a sum or an end is kept as the number that is this much more, so that it may be negative.
-pub const BIAS: u64 = 8589934592;
-
 // The greatest value of a variable.
 pub const MAX_VALUE: u32 = 4294967295;
 

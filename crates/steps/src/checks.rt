@@ -2,12 +2,12 @@
 use crate::Step;
 use crate::numbers::condition_holds;
 use conditions::Condition;
-use machine::BIAS;
 use machine::value_at;
 use stops::Check;
+use words::BIAS;
 ghost use mathlib.Core.Path.{_≡_};
 ghost use mathlib.Core.Bool.{not};
-ghost use Prim.Native.Nat.{ℕ, _+_, _*_, _^_, _<_};
+ghost use Prim.Native.Nat.{ℕ, _+_, _^_, _<_};
 ghost use lib.ListN.{length, getD};
 ghost use Rattle.machine.specs.Machine.{endValue, conditionHolds, none, firstOf, accessFailing, arithmeticFailing};
 ghost use Rattle.steps.specs.Bare.{endAt, declaredIn, pickStep, stepUnless};

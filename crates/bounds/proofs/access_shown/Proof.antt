@@ -1,4 +1,4 @@
--- `checker::known::access_shown` meets its contract.
+-- `bounds::access_shown` meets its contract.
 use borrow.Author.Needs.{needs}
 use Rattle.bounds.specs.BoundsRulesLaws.{load-shown, store-shown}
 use Rattle.bounds.proofs.Variants.{no-access}

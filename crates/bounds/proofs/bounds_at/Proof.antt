@@ -1,4 +1,4 @@
--- `checker::known::bounds_at` meets its contract.
+-- `bounds::bounds_at` meets its contract.
 use borrow.Author.Needs.{needs}
 use mathlib.Core.Path.{sym}
 use lib.ListN.{List·getD-eq-default}

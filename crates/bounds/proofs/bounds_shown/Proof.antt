@@ -1,4 +1,4 @@
--- `checker::known::bounds_shown` meets its contract.
+-- `bounds::bounds_shown` meets its contract.
 use borrow.Author.Needs.{needs}
 use mathlib.Core.Path.{sym, _∙_}
 use Rattle.rules.specs.BoundsRules.{boundsShown}

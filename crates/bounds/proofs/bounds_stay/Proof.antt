@@ -1,4 +1,4 @@
--- `checker::known::bounds_stay` meets its contract.
+-- `bounds::bounds_stay` meets its contract.
 use borrow.Author.Needs.{needs}
 use Rattle.bounds.specs.Stays.{boundsStay}
 use Rattle.bounds.proofs.bounds_stay.Statement.{statement}

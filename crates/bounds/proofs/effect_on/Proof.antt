@@ -1,4 +1,4 @@
--- `checker::known::effect_on` meets its contract, effect by effect.
+-- `bounds::effect_on` meets its contract, effect by effect.
 use borrow.Author.Needs.{needs}
 use borrow.Author.Tests.{eq-eqb, ne-eqb}
 use Rattle.bounds.proofs.effect_on.Statement.{statement}

@@ -1,4 +1,4 @@
--- `checker::known::end_at_most` meets its contract.
+-- `bounds::end_at_most` meets its contract.
 use borrow.Author.Needs.{needs}
 use mathlib.Core.Path.{sym, _∙_}
 use Rattle.rules.specs.BoundsRules.{endAtMost}

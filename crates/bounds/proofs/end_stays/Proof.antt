@@ -1,4 +1,4 @@
--- `checker::known::end_stays` meets its contract.
+-- `bounds::end_stays` meets its contract.
 use borrow.Author.Needs.{needs}
 use Rattle.bounds.specs.Stays.{endStays}
 use Rattle.bounds.proofs.end_stays.Statement.{statement}

@@ -1,4 +1,4 @@
--- `checker::known::forget_bounds` meets its contract.
+-- `bounds::forget_bounds` meets its contract.
 use borrow.Author.Needs.{needs}
 use Rattle.rules.specs.BoundsRules.{forgetBounds}
 use Rattle.bounds.proofs.forget_bounds.Statement.{statement}

@@ -1,4 +1,4 @@
--- `checker::known::forget_end` meets its contract.
+-- `bounds::forget_end` meets its contract.
 use borrow.Author.Needs.{needs}
 use mathlib.Core.Path.{sym, _∙_}
 use Rattle.rules.specs.BoundsRules.{forgetEnd}

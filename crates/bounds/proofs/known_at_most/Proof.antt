@@ -1,4 +1,4 @@
--- `checker::known::known_at_most` meets its contract.
+-- `bounds::known_at_most` meets its contract.
 use borrow.Author.Needs.{needs}
 use Rattle.rules.specs.BoundsRules.{knownAtMost}
 use Rattle.bounds.proofs.known_at_most.Statement.{statement}

@@ -1,4 +1,4 @@
--- `checker::known::object_bounds` meets its contract.
+-- `bounds::object_bounds` meets its contract.
 use borrow.Author.Needs.{needs}
 use mathlib.Core.Path.{refl}
 use Rattle.rules.specs.BoundsRules.{objectBounds}

@@ -1,4 +1,4 @@
--- `checker::known::shift_bounds` meets its contract.
+-- `bounds::shift_bounds` meets its contract.
 use borrow.Author.Needs.{needs}
 use Rattle.rules.specs.BoundsRules.{shiftBounds}
 use Rattle.bounds.proofs.shift_bounds.Statement.{statement}

@@ -1,4 +1,4 @@
--- `checker::known::shift_constant` meets its contract.
+-- `bounds::shift_constant` meets its contract.
 use borrow.Author.Needs.{needs}
 use borrow.Author.Tests.{lt-ltb, le-ltb, le-leb, lt-leb}
 use Rattle.rules.specs.BoundsRules.{shiftConstant}

@@ -1,4 +1,4 @@
--- `checker::known::shift_end` meets its contract.
+-- `bounds::shift_end` meets its contract.
 use borrow.Author.Needs.{needs}
 use mathlib.Core.Path.{sym, _∙_}
 use Rattle.rules.specs.BoundsRules.{shiftEnd}

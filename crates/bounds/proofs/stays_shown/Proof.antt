@@ -1,4 +1,4 @@
--- `checker::known::stays_shown` meets its contract, effect by effect.
+-- `bounds::stays_shown` meets its contract, effect by effect.
 use borrow.Author.Needs.{needs}
 use Rattle.bounds.specs.Stays.{stays}
 use Rattle.bounds.proofs.stays_shown.Statement.{statement}

@@ -1,4 +1,4 @@
--- `checker::effects::add_constant` meets its contract.
+-- `effects::add_constant` meets its contract.
 use borrow.Author.Needs.{needs}
 use mathlib.Core.Path.{sym, _∙_}
 use borrow.Author.Tests.{not-true, not-false}

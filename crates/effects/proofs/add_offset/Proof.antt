@@ -1,4 +1,4 @@
--- `checker::effects::add_offset` meets its contract.
+-- `effects::add_offset` meets its contract.
 use borrow.Author.Needs.{needs}
 use Rattle.effects.specs.FactRulesLaws.{offset-shifted, offset-shifted-positive, offset-copied, offset-positive}
 use Rattle.effects.proofs.add_offset.Statement.{statement}

@@ -1,4 +1,4 @@
--- `checker::effects::apply` meets its contract, kind by kind.
+-- `effects::apply` meets its contract, kind by kind.
 use borrow.Author.Needs.{needs}
 use native.Mathlib.Omega.{arith}
 use Rattle.rules.specs.FactRules.{factsAfter}

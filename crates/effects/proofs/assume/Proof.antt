@@ -1,4 +1,4 @@
--- `checker::effects::assume` meets its contract, relation by relation.
+-- `effects::assume` meets its contract, relation by relation.
 use borrow.Author.Needs.{needs}
 use mathlib.Core.Path.{refl}
 use Rattle.effects.specs.FactRulesLaws.{condition-less, condition-not-less, condition-greater, condition-not-greater, condition-equal, differs-variable, differs-literal, differs-zero}

@@ -1,4 +1,4 @@
--- `checker::effects::in_range` meets its contract.
+-- `effects::in_range` meets its contract.
 use borrow.Author.Needs.{needs}
 use mathlib.Core.Path.{sym}
 use Rattle.effects.specs.FactRulesLaws.{plain-in-range, range-shown, range-lost}

@@ -1,4 +1,4 @@
--- `checker::effects::index_effect` meets its contract.
+-- `effects::index_effect` meets its contract.
 use borrow.Author.Tests.{eq-eqb, ne-eqb}
 use Rattle.effects.proofs.index_effect.Statement.{statement}
 use Rattle.effects.proofs.index_effect.Tie as tie

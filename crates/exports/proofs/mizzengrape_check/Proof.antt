@@ -1,5 +1,4 @@
 -- `exports::mizzengrape_check` meets its contract.
-use mathlib.Core.Path.{_≡_, _∙_}
 use borrow.Author.Needs.{needs}
 use Rattle.exports.specs.WordLaws.{no-room, checked-words}
 use Rattle.exports.proofs.mizzengrape_check.Statement.{statement}

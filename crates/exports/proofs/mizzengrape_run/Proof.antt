@@ -1,5 +1,4 @@
 -- `exports::mizzengrape_run` meets its contract.
-use mathlib.Core.Path.{_≡_, _∙_}
 use borrow.Author.Needs.{needs}
 use Rattle.exports.specs.WordLaws.{no-room-to-run, ran-words}
 use Rattle.exports.proofs.mizzengrape_run.Statement.{statement}

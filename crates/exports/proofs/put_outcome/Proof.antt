@@ -1,5 +1,4 @@
 -- `exports::put_outcome` meets its contract.
-use mathlib.Core.Path.{_≡_, _∙_}
 use borrow.Author.Needs.{needs}
 use Rattle.exports.specs.WordLaws.{done-words, spent-words, stopped-words, not-begun-words}
 use Rattle.exports.proofs.put_outcome.Statement.{statement}

@@ -1,5 +1,4 @@
 -- `exports::put_verdict` meets its contract.
-use mathlib.Core.Path.{_≡_, _∙_}
 use borrow.Author.Needs.{needs}
 use Rattle.exports.specs.WordLaws.{accepted-words, refused-words}
 use Rattle.exports.proofs.put_verdict.Statement.{statement}

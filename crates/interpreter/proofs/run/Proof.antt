@@ -1,6 +1,6 @@
 -- `interpreter::run` meets its contract: the verdict refuses, or the accepted table is run.
 use borrow.Author.Needs.{needs}
-use Rattle.checker.specs.VerdictLaws.{accepted-clear}
+use Rattle.rules.specs.AcceptedLaws.{accepted-clear}
 use Rattle.interpreter.specs.ClaimLaws.{check-refused}
 use Rattle.interpreter.proofs.run.Statement.{statement}
 use Rattle.interpreter.proofs.run.Tie as tie

@@ -1,4 +1,4 @@
--- `checker::loops::lose` meets its contract.
+-- `effects::loops::lose` meets its contract.
 use borrow.Author.Needs.{needs}
 use mathlib.Core.Path.{_∙_}
 use Rattle.effects.specs.FactRulesLaws.{loop-facts}

@@ -1,4 +1,4 @@
--- `checker::loops::mark_target` meets its contract.
+-- `effects::loops::mark_target` meets its contract.
 use borrow.Author.Needs.{needs}
 use Rattle.effects.specs.Applied.{marked}
 use Rattle.effects.specs.FactRulesLaws.{read-target, read-past, read-other}

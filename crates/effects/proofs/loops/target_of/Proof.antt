@@ -1,4 +1,4 @@
--- `checker::loops::target_of` meets its contract.
+-- `effects::loops::target_of` meets its contract.
 use borrow.Author.Needs.{needs}
 use Rattle.effects.proofs.loops.target_of.Statement.{statement}
 use Rattle.effects.proofs.loops.target_of.Tie as tie

@@ -1,5 +1,5 @@
 -- `facts::FactSet::add` meets its contract: each turn fills one more row.
-use Prim.Native.Nat.{ℕ, _-_, _≤_, _<_}
+use Prim.Native.Nat.{ℕ, _-_}
 use mathlib.Core.Path.{_≡_, ap₂, sym, _∙_}
 use borrow.Author.Needs.{needs}
 use lib.ListN.{getD}

@@ -1,5 +1,5 @@
 -- `facts::FactSet::assign_range` meets its contract.
-use mathlib.Core.Path.{_≡_, sym, _∙_}
+use mathlib.Core.Path.{sym, _∙_}
 use borrow.Author.Needs.{needs}
 use Rattle.facts.specs.StoreLaws.{ranged-other, ranged-variable}
 use Rattle.facts.proofs.FactSet.assign_range.Statement.{statement}

@@ -1,5 +1,5 @@
 -- `facts::FactSet::join` meets its contract: each turn fills one more row.
-use Prim.Native.Nat.{_-_, _≤_, _<_}
+use Prim.Native.Nat.{_-_}
 use mathlib.Core.Path.{_≡_, ap₂, sym, _∙_}
 use mathlib.Core.Bool.{false}
 use borrow.Author.Needs.{needs}

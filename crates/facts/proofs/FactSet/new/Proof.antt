@@ -1,6 +1,6 @@
 -- `facts::FactSet::new` meets its contract: each turn fills one more row.
 use Prim.Native.Nat.{_-_}
-use mathlib.Core.Path.{_≡_, ap₂, _∙_}
+use mathlib.Core.Path.{_≡_, ap₂}
 use borrow.Author.Needs.{needs}
 use Rattle.facts.specs.Tabulate.{Filled, filled-none, filled-more, filled-whole, length-under}
 use Rattle.facts.specs.Store.{newRow, newSet, setOf}

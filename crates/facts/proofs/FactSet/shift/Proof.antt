@@ -1,5 +1,5 @@
 -- `facts::FactSet::shift` meets its contract.
-use mathlib.Core.Path.{_≡_, sym, _∙_}
+use mathlib.Core.Path.{sym}
 use borrow.Author.Needs.{needs}
 use Rattle.facts.specs.StoreLaws.{shifted-other, shifted-variable}
 use Rattle.facts.proofs.FactSet.shift.Statement.{statement}

@@ -1,6 +1,6 @@
 -- `facts::rows::joined_row` meets its contract: each turn fills one more sum.
 use Prim.Native.Nat.{ℕ, _-_}
-use mathlib.Core.Path.{_≡_, ap, _∙_}
+use mathlib.Core.Path.{ap}
 use mathlib.Core.List.{List}
 use mathlib.Core.Bool.{false}
 use borrow.Author.Needs.{needs}

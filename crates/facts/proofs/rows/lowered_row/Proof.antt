@@ -1,6 +1,6 @@
 -- `facts::rows::lowered_row` meets its contract: each turn fills one more sum.
 use Prim.Native.Nat.{ℕ, _-_}
-use mathlib.Core.Path.{_≡_, ap, _∙_}
+use mathlib.Core.Path.{ap, _∙_}
 use mathlib.Core.List.{List}
 use borrow.Author.Needs.{needs}
 use Prim.Native.Nat.{min}

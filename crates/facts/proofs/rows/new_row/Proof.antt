@@ -1,6 +1,6 @@
 -- `facts::rows::new_row` meets its contract: each turn fills one more sum.
 use Prim.Native.Nat.{ℕ, _-_}
-use mathlib.Core.Path.{_≡_, ap, _∙_}
+use mathlib.Core.Path.{ap}
 use mathlib.Core.List.{List}
 use borrow.Author.Needs.{needs}
 use Rattle.facts.specs.Tabulate.{Filled, filled-none, filled-more, filled-whole}

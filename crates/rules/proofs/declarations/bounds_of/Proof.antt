@@ -1,4 +1,4 @@
--- `checker::declarations::bounds_of` meets its contract.
+-- `rules::declarations::bounds_of` meets its contract.
 use borrow.Author.Needs.{needs}
 use Rattle.rules.proofs.declarations.bounds_of.Statement.{statement}
 use Rattle.rules.proofs.declarations.bounds_of.Tie as tie

@@ -1,4 +1,4 @@
--- `checker::declarations::read_environment` meets its contract.
+-- `rules::declarations::read_environment` meets its contract.
 use borrow.Author.Needs.{needs}
 use Rattle.rules.specs.Verdict.{environmentOf}
 use Rattle.rules.proofs.declarations.read_environment.Statement.{statement}

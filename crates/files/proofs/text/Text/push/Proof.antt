@@ -1,5 +1,5 @@
 -- `files::text::Text::push` meets its contract.
-use mathlib.Core.Path.{_≡_, refl}
+use mathlib.Core.Path.{refl}
 use native.Mathlib.Numerals.{add-one}
 use lib.Seq.{take-suc-set}
 use borrow.Author.Needs.{needs}

@@ -1,0 +1,51 @@
+-- What an accepted table is: no fault, so well formed and laid out, and its walk has no fault.
+use Prim.Native.Nat.{ℕ}
+use mathlib.Core.Path.{_≡_, refl}
+use mathlib.Core.List.{List, [], _∷_}
+use native.Mathlib.Omega.{arith}
+use lib.IntN.{ℤ}
+use Rattle.facts.specs.Store.{newSet}
+use Rattle.refusals.specs.declared.Refusal.{Refusal}
+use Rattle.refusals.specs.declared.Refusal.the-variants.{BoundsNotShown}
+use Rattle.sections.specs.declared.Sections.{Sections}
+use Rattle.table.specs.Form.{formOf}
+use Rattle.table.specs.declared.Form.{Form}
+use Rattle.table.specs.declared.Form.the-variants as form
+use Rattle.blocks.specs.Tree.{tree}
+use Rattle.blocks.specs.Layout.{layout}
+use Rattle.rules.specs.Rules.{Fault, refusal, notShown, blockFaults}
+use Rattle.rules.specs.Verdict.{environmentOf, refusals, sectionFaults, formFaults, faults, Answers}
+use Rattle.rules.specs.RuleLaws.{no-first, no-rest}
+use Rattle.rules.specs.declared.Verdict.{Verdict}
+use Rattle.rules.specs.declared.Verdict.the-variants.{Accepted, Refused}
+
+-- An answer that accepts says that there is no fault.
+pub accepted-clear : (xs : List Fault) {v : Verdict} → Answers xs v → v ≡ Accepted → xs ≡ []
+unfolding Answers
+accepted-clear [] a e = refl
+accepted-clear (refusal r ∷ xs) a e = cc
+accepted-clear (notShown n p ps ∷ xs) {v} a e = let z : v ≡ Refused (BoundsNotShown n (a .0)) = a .2 in cc
+
+pub record Clear (T : List ℤ) (h : Sections) : Type 0 where
+  pub form : formOf T ≡ form.WellFormed h
+  pub laid : layout T h ≡ []
+  pub walked : blockFaults T h (environmentOf T h) (tree T h) newSet ≡ []
+
+no-refusals : (xs : List Refusal) → refusals xs ≡ [] → xs ≡ []
+no-refusals [] e = refl
+no-refusals (x ∷ xs) e = cc
+
+-- A table without a fault is well formed and laid out, and its walk has no fault.
+pub clear : (T : List ℤ) (h : Sections) → formOf T ≡ form.WellFormed h → faults T ≡ [] → Clear T h
+unfolding faults sectionFaults
+clear T h f e =
+    let s : formFaults T (form.WellFormed h) ≡ [] = rw f at e in
+    record { form = f; laid = no-refusals (layout T h) (no-first _ _ s); walked = no-rest _ _ s }
+
+pub faults-clear : (T : List ℤ) → faults T ≡ [] → (h : Sections) × Clear T h
+unfolding faults
+faults-clear T e = go (formOf T) refl e
+  where
+    go : (f : Form) → formOf T ≡ f → formFaults T f ≡ [] → (h : Sections) × Clear T h
+    go (form.Refused r) q e′ = let o : _≡_ {A = ℕ} 0 1 = cc in absurd (omega arith)
+    go (form.WellFormed h) q e′ = (h, clear T h q e)
