@@ -4,7 +4,7 @@ use libc::STDOUT_FILENO;
 ghost use mathlib.Core.Path.{_≡_};
 ghost use Prim.Native.Nat.{min};
 
-// Hands the text to standard output and answers how many bytes that were.
+// Hands the text to standard output and answers how many bytes it handed over.
 pub fn write_text(text: Text) -> usize
     ensures { λ r. ⌜ r ≡ min (text .len) 120 ⌝ }
 {
