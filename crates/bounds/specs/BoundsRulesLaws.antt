@@ -9,7 +9,6 @@ use borrow.Author.Tests.{eq-eqb, not-true}
 use lib.Dec.{eqb}
 use lib.ListN.{length, getD}
 use Rattle.facts.specs.Numbers.{bias, zeroVar}
-use Rattle.facts.specs.Tabulate.{getD-tabulate}
 use Rattle.facts.specs.Store.{shown, endShown}
 use Rattle.facts.specs.declared.FactSet.{FactSet}
 use Rattle.refusals.specs.declared.Refusal.the-variants.{BoundsNotShown}
@@ -17,7 +16,8 @@ use Rattle.sections.specs.SectionsLaws.{both}
 use Rattle.statements.specs.declared.Simple.{Simple}
 use Rattle.statements.specs.declared.Simple.the-variants.{Literal, AddConstant, Arithmetic, Null, Address, PointerOffset, PointerIndex, Load, Store, Check}
 use Rattle.variables.specs.declared.End.{End}
-use Rattle.rules.specs.BoundsRules.{pickEnd, pickBounds, pickEffect, isPointer, declared, known, names, nothingKnown, forgetEnd, shiftConstant, shiftEnd, forgetBounds, shiftBounds, objectBounds, effectOn, boundsAfter, effect, sameEnd, endAtMost, knownAtMost, boundsShown, consIf, unshownFrom, unshown, accessShown}
+use Rattle.rules.specs.BoundsRules.{pickEnd, pickBounds, pickEffect, isPointer, declared, known, names, forgetEnd, shiftConstant, shiftEnd, forgetBounds, shiftBounds, objectBounds, effectOn, boundsAfter, effect, sameEnd, endAtMost, knownAtMost, boundsShown, consIf, unshownFrom, unshown, accessShown}
+use Rattle.rules.specs.BoundsTrue.{known-after}
 use Rattle.rules.specs.FactRules.{sumInRange}
 use Rattle.rules.specs.Rules.{boundsAt}
 use Rattle.rules.specs.Verdict.{lowestVerdict}
@@ -188,11 +188,6 @@ module _ {E : Environment} {f : FactSet} {K : List Bounds} {p : ℕ} (q : Passed
       let n : 16 - p ≡ 0 = omega arith in
       sym (ap (λ (ps : List ℕ). lowestVerdict (boundsAt a ps)) (q .same ∙ ap (λ (m : ℕ). unshownFrom E f K m p) n))
 
--- The known bounds of p after an effect on the declared ones.
-after-effect : (e : Effect) (K : List Bounds) (p : ℕ) → p < 16 → known (boundsAfter e K) p ≡ effectOn e K p
-unfolding boundsAfter
-after-effect e K p h = getD-tabulate 16 (effectOn e K) p nothingKnown h
-
 missed-shown : (a : Bool) {b c : Bool} → b ≡ c → not b ≡ false → (a && not c) ≡ false
 missed-shown true e t = ap not (sym e) ∙ t
 missed-shown false e t = refl
@@ -235,7 +230,7 @@ module _ (E : Environment) (f : FactSet) (e : Effect) (p : ℕ) (h : p < 16) (d 
 
   pub effect-unasked : (isPointer E p && not st) ≡ false → missed E f (boundsAfter e (E .declared)) p ≡ false
   unfolding missed
-  effect-unasked t = ap (λ (b : Bounds). isPointer E p && not (boundsShown f p b (declared E p))) (after-effect e (E .declared) p h)
+  effect-unasked t = ap (λ (b : Bounds). isPointer E p && not (boundsShown f p b (declared E p))) (known-after e (E .declared) p h)
       ∙ go (isPointer E p) (stays e p (declared E p)) (boundsShown f p anew (declared E p)) (sym asked ∙ t) (stays-shown f e (E .declared) p)
     where
       go : (a b c : Bool) → (a && not b) ≡ false → (b ≡ true → c ≡ true) → (a && not c) ≡ false
@@ -245,7 +240,7 @@ module _ (E : Environment) (f : FactSet) (e : Effect) (p : ℕ) (h : p < 16) (d 
 
   module _ {g : Bounds} (q : ℕ) {b : Bool} (s : q < length (E .declared)) (z : q ≡ sourceOf e) (t : g ≡ effectOnOne e p (stored (E .declared) p) (stored (E .declared) q)) (u : b ≡ boundsShown f p g (stored (E .declared) p)) where
     anew-known : g ≡ known (boundsAfter e (E .declared)) p
-    anew-known = effect-on-read e (E .declared) p q d s z t ∙ sym (after-effect e (E .declared) p h)
+    anew-known = effect-on-read e (E .declared) p q d s z t ∙ sym (known-after e (E .declared) p h)
 
     pub effect-shown : not b ≡ false → missed E f (boundsAfter e (E .declared)) p ≡ false
     effect-shown n = anew-shown E f (boundsAfter e (E .declared)) p d anew-known u n

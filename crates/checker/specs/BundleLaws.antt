@@ -4,7 +4,6 @@ use mathlib.Core.Path.{_≡_, refl, sym, _∙_, ap, ap₂}
 use mathlib.Core.Bool.{Bool, true, false}
 use mathlib.Core.List.{List, [], _∷_}
 use native.Mathlib.Omega.{arith}
-use native.Mathlib.Numerals.{sub-one}
 use lib.IntN.{ℤ}
 use Rattle.facts.specs.Store.{contradictory}
 use Rattle.facts.specs.declared.FactSet.{FactSet}
@@ -14,10 +13,10 @@ use Rattle.sections.specs.declared.Sections.{Sections}
 use Rattle.statements.specs.declared.Simple.{Simple}
 use Rattle.statements.specs.declared.Statement.{Statement}
 use Rattle.statements.specs.declared.Statement.the-variants.{Plain, If, While, Bundle}
-use Rattle.statements.specs.declared.StatementRead.{StatementRead}
 use Rattle.statements.specs.declared.StatementRead.the-variants.{Read, Unread}
 use Rattle.statements.specs.Statements.{statementAt}
 use Rattle.blocks.specs.Tree.{simples, simplesFrom}
+use Rattle.flow.specs.FlowLaws.{simples-some}
 use Rattle.rules.specs.FactRules.{factsAfter}
 use Rattle.rules.specs.BoundsRules.{effect, boundsAfter, unshown, accessShown}
 use Rattle.rules.specs.Rules.{Fault, refusal, notShown, also, faultIf, accessAt, boundsAt, bundleFacts, bundleBounds, bundleFaults}
@@ -106,11 +105,6 @@ unfolding simples
 simples-none zero T h a p = refl
 simples-none (suc n) T h a p = absurd (omega arith)
 
-simples-some : (n : ℕ) (T : List ℤ) (h : Sections) (a : ℕ) {s : StatementRead} → 0 < n → statementAt T h a ≡ s → simples n T h a ≡ simplesFrom s (simples (n - 1) T h (a + 1))
-unfolding simples
-simples-some zero T h a p e = absurd (omega arith)
-simples-some (suc n) T h a p e = rw (e, sub-one)
-
 -- The faults of a bundle from statement a on, with the question at its head's end; and the bundle's loop invariant: what is left of it is the whole.
 abbrev pub lineFaults : Environment → ℕ → ℕ → List Simple → FactSet → List Bounds → List Fault
 lineFaults E head a ss f K = also (bundleFaults E a ss f K) (boundsAt head (unshown E (bundleFacts ss f) (bundleBounds E ss f K)))
@@ -164,7 +158,7 @@ module _ {T : List ℤ} {h : Sections} {E : Environment} {head count : ℕ} {f�
 
   module _ (some : 0 < left) where
     pub held-unread : {w : Walked} → statementAt T h at ≡ Unread → Passes (boundsAt head (unshown E f K)) f w → WalksBundle E head (simples count T h (head + 1)) f₀ K₀ w
-    held-unread e p = held-end (simples-some left T h at some e) p
+    held-unread e p = held-end (simples-some left T h at _ some e) p
 
     cut : (s : Statement) → ((p : Simple) → s ≡ Plain p → ⊥) → (ss : List Simple) → simplesFrom (Read s) ss ≡ []
     cut (Plain p) n ss = absurd (n p refl)
@@ -174,11 +168,11 @@ module _ {T : List ℤ} {h : Sections} {E : Environment} {head count : ℕ} {f�
 
     pub held-other : {w : Walked} {s : Statement} → statementAt T h at ≡ Read s → ((p : Simple) → s ≡ Plain p → ⊥) → Passes (boundsAt head (unshown E f K)) f w
         → WalksBundle E head (simples count T h (head + 1)) f₀ K₀ w
-    held-other {w} {s} e n p = held-end (simples-some left T h at some e ∙ cut s n (simples (left - 1) T h (at + 1))) p
+    held-other {w} {s} e n p = held-end (simples-some left T h at _ some e ∙ cut s n (simples (left - 1) T h (at + 1))) p
 
     module _ {s : Statement} {p : Simple} (e : statementAt T h at ≡ Read s) (d : s ≡ Plain p) where
       line : simples left T h at ≡ p ∷ simples (left - 1) T h (at + 1)
-      line = simples-some left T h at some (e ∙ ap Read d)
+      line = simples-some left T h at _ some (e ∙ ap Read d)
 
       line-here : lineFaults E head (head + 1) (simples count T h (head + 1)) f₀ K₀ ≡ also (faultIf (contradictory f) (Contradiction at)) (also (accessAt (accessShown E f K p) at)
           (lineFaults E head (at + 1) (simples (left - 1) T h (at + 1)) (factsAfter p f) (boundsAfter (effect E f p) K)))

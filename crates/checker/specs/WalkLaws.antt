@@ -10,6 +10,7 @@ use Rattle.facts.specs.declared.FactSet.{FactSet}
 use Rattle.refusals.specs.declared.Refusal.{Refusal}
 use Rattle.refusals.specs.declared.Refusal.the-variants.{StatementRecord, Contradiction}
 use Rattle.sections.specs.declared.Sections.{Sections}
+use Rattle.conditions.specs.ConditionLaws.{offset-small}
 use Rattle.conditions.specs.declared.Condition.{Condition}
 use Rattle.conditions.specs.Negation.{negatedOf}
 use Rattle.statements.specs.declared.Simple.{Simple}
@@ -28,7 +29,7 @@ use Rattle.rules.specs.Verdict.{lowestVerdict}
 use Rattle.rules.specs.Ranges.{InRange}
 use Rattle.effects.specs.Applied.{applied}
 use Rattle.checker.specs.Walk.{WalksBundle, Walks}
-use Rattle.effects.specs.FactRulesLaws.{offset-ranged, read-ranged}
+use Rattle.effects.specs.FactRulesLaws.{read-ranged}
 use Rattle.rules.specs.declared.Environment.{Environment}
 use Rattle.rules.specs.declared.Effect.{Effect}
 use Rattle.rules.specs.declared.Verdict.{Verdict}
@@ -148,10 +149,10 @@ module _ {T : List ℤ} {h : Sections} {E : Environment} {end allowed : ℕ} {b 
   bundle-count {n} u = read-counts-bundle T h at n (u .read)
 
   pub if-offset : {c : Condition} {n m : ℕ} → Turn T h E end allowed b f₀ at left f (If c n m) → c .offset < 2 ^ 32
-  if-offset {c} {n} {m} u = offset-ranged (read-typed T h at (If c n m) (u .read) .condition)
+  if-offset {c} {n} {m} u = offset-small (read-typed T h at (If c n m) (u .read) .condition)
 
   pub while-offset : {c : Condition} {n : ℕ} → Turn T h E end allowed b f₀ at left f (While c n) → c .offset < 2 ^ 32
-  while-offset {c} {n} u = offset-ranged (read-typed T h at (While c n) (u .read) .condition)
+  while-offset {c} {n} u = offset-small (read-typed T h at (While c n) (u .read) .condition)
 
   pub plain-ranged : {p : Simple} → Turn T h E end allowed b f₀ at left f (Plain p) → InRange p
   plain-ranged {p} u = read-ranged T h at p (u .read)

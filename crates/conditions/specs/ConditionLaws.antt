@@ -1,5 +1,5 @@
 -- What the tests of a condition say.
-use Prim.Native.Nat.{ℕ, _+_}
+use Prim.Native.Nat.{ℕ, _+_, _^_, _<_}
 use mathlib.Core.Path.{_≡_, refl}
 use mathlib.Core.Bool.{Bool, true, false, _&&_, _||_}
 use mathlib.Core.List.{List}
@@ -16,6 +16,7 @@ use Rattle.sections.specs.SectionsLaws.{both}
 use Rattle.sections.specs.NameLaws.{either, below-holds, literal-small, integer-named, pointer-named}
 use Rattle.sections.specs.declared.Sections.{Sections}
 use Rattle.conditions.specs.Conditions.{sameKind, besideLiteral, conditionRight, conditionOf, rightOf, offsetOf}
+use Rattle.conditions.specs.declared.Condition.{Condition}
 use Rattle.conditions.specs.Typed.{Sides, integers, pointers, literal, null, ConditionTyped}
 
 module _ (table : List ℤ) (h : Sections) where
@@ -57,3 +58,13 @@ module _ (table : List ℤ) (h : Sections) where
           absurd (omega arith))
           (either (sameKind table h (f .first) (f .fourth)) (eqb (f .third) (bias + 1) && besideLiteral table h (f .first) (f .fourth)) g)
       go false q g = literal-sides (f .first) (f .fourth) (both (eqb (f .third) (bias + 1)) (besideLiteral table h (f .first) (f .fourth)) g .1)
+
+-- A literal beside a condition's left side is below 2^32, and so is the offset of every condition.
+sides-small : {T : List ℤ} {h : Sections} (l r k : ℕ) → Sides T h l r k → k < 2 ^ 32
+sides-small l r k (integers a b e) = omega arith
+sides-small l r k (pointers a b e) = omega arith
+sides-small l r k (literal a b e) = omega arith
+sides-small l r k (null a b e) = omega arith
+
+pub offset-small : {T : List ℤ} {h : Sections} {c : Condition} → ConditionTyped T h c → c .offset < 2 ^ 32
+offset-small t = sides-small _ _ _ (t .sides)

@@ -1,5 +1,5 @@
 -- Laws of the facts after conditions, statements and before loops, as the code meets them.
-use Prim.Native.Nat.{ℕ, zero, suc, _+_, _-_, _^_, _≤_, _<_}
+use Prim.Native.Nat.{ℕ, zero, suc, _+_, _-_, _≤_, _<_}
 use mathlib.Core.Path.{_≡_, refl, sym, ap, _∙_}
 use mathlib.Core.Bool.{Bool, true, false, _&&_, _||_}
 use mathlib.Core.List.{List, [], _∷_, _++_}
@@ -16,8 +16,8 @@ use Rattle.facts.specs.Store.{shown, added, dropped, shifted}
 use Rattle.facts.specs.declared.FactSet.{FactSet}
 use Rattle.sections.specs.declared.Sections.{Sections}
 use Rattle.sections.specs.SectionsLaws.{Limits}
+use Rattle.conditions.specs.ConditionLaws.{offset-small}
 use Rattle.conditions.specs.declared.Condition.{Condition}
-use Rattle.conditions.specs.Typed.{ConditionTyped, Sides, integers, pointers, literal, null}
 use Rattle.statements.specs.declared.Simple.{Simple}
 use Rattle.statements.specs.declared.Simple.the-variants.{Literal, AddConstant, Arithmetic, Null, Address, PointerOffset, PointerIndex, Load, Store, Check}
 use Rattle.statements.specs.declared.Statement.{Statement}
@@ -153,15 +153,6 @@ module _ (lengths : List ℕ) (f : FactSet) (p q k : ℕ) where
 
 -- ---- statements that were read
 
-condition-ranged : {T : List ℤ} {h : Sections} (l r k : ℕ) → Sides T h l r k → k < 2 ^ 32
-condition-ranged l r k (integers a b e) = omega arith
-condition-ranged l r k (pointers a b e) = omega arith
-condition-ranged l r k (literal a b e) = omega arith
-condition-ranged l r k (null a b e) = omega arith
-
-pub offset-ranged : {T : List ℤ} {h : Sections} {c : Condition} → ConditionTyped T h c → c .offset < 2 ^ 32
-offset-ranged t = condition-ranged _ _ _ (t .sides)
-
 simple-ranged : (T : List ℤ) (h : Sections) → Limits h → (s : Simple) → SimpleTyped T h s → InRange s
 simple-ranged T h l (Literal x k) t = omega (arith, t .value)
 simple-ranged T h l (AddConstant x y k) t = omega (arith, t .constant .high)
@@ -172,7 +163,7 @@ simple-ranged T h l (PointerOffset p q k) t = (omega (arith, t .constant .high),
 simple-ranged T h l (PointerIndex p q i) t = omega (arith, t .source .below, l .variables)
 simple-ranged T h l (Load x p i k) t = tt
 simple-ranged T h l (Store p i k x) t = tt
-simple-ranged T h l (Check c) t = offset-ranged t
+simple-ranged T h l (Check c) t = offset-small t
 
 module _ (T : List ℤ) (h : Sections) (a : ℕ) where
   pub read-ranged : (s : Simple) → statementAt T h a ≡ Read (Plain s) → InRange s

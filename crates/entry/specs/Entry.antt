@@ -4,6 +4,7 @@ use mathlib.Core.Bool.{Bool, true, false, not, _&&_}
 use mathlib.Core.List.{List, [], _∷_, _++_}
 use lib.Dec.{leb, eqb}
 use lib.ListN.{length, getD}
+use Rattle.facts.specs.Store.{pickBool}
 use Rattle.refusals.specs.declared.Refusal.{Refusal}
 use Rattle.refusals.specs.declared.Refusal.the-variants.{MemorySize, DirectoryPair, EntryLengths, EntryValue}
 use Rattle.sections.specs.declared.Sections.{Sections}
@@ -28,10 +29,6 @@ pairRight E D cs o =
 -- "values or origins of another length": "one value per variable and one origin per variable".
 unfoldable pub lengthsRight : Sections → List ℕ → List ℕ → Bool
 lengthsRight h vs os = eqb (length vs) (h .variables) && eqb (length os) (h .variables)
-
-abbrev pub pickBool : Bool → Bool → Bool → Bool
-pickBool true a b = a
-pickBool false a b = b
 
 -- "entry origin or bounds untrue": "0 for integers and null, else object number plus 1".
 unfoldable pub entryRight : Sections → Environment → List ℕ → List ℕ → List ℕ → ℕ → Bool

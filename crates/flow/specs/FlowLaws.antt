@@ -79,7 +79,7 @@ unfolding simples
 simples-none zero T h a p e = omega arith
 simples-none (suc n) T h a p e = absurd (omega arith)
 
-simples-some : (n : ℕ) (T : List ℤ) (h : Sections) (a : ℕ) (s : StatementRead) → 0 < n → statementAt T h a ≡ s
+pub simples-some : (n : ℕ) (T : List ℤ) (h : Sections) (a : ℕ) (s : StatementRead) → 0 < n → statementAt T h a ≡ s
     → simples n T h a ≡ simplesFrom s (simples (n - 1) T h (a + 1))
 unfolding simples
 simples-some zero T h a s p e = absurd (omega arith)

@@ -9,12 +9,13 @@ use native.Mathlib.Decide.{ℕ-discrete}
 use borrow.Author.Tests.{leb-true, eqb-true, ne-eqb, eq-eqb}
 use lib.Dec.{leb, eqb}
 use lib.ListN.{length, getD}
+use Rattle.facts.specs.Store.{pickBool}
 use Rattle.facts.specs.Numbers.{maxValue}
 use Rattle.sections.specs.declared.Sections.{Sections}
 use Rattle.rules.specs.BoundsRules.{isPointer, objectLength}
 use Rattle.rules.specs.declared.Environment.{Environment}
 use Rattle.machine.specs.Machine.{value, boundsTrue}
-use Rattle.entry.specs.Entry.{pickBool, endBefore, pairRight, entryRight}
+use Rattle.entry.specs.Entry.{endBefore, pairRight, entryRight}
 use Rattle.machine.specs.Soundness.{Placed, Begun}
 use Rattle.interpreter.specs.StartLaws.{Admitted}
 

@@ -30,7 +30,7 @@ use Rattle.rules.specs.declared.Bounds.{Bounds}
 use Rattle.rules.specs.declared.Environment.{Environment}
 use Rattle.machine.specs.Machine.{value, endValue, endOf, lowerEnd, upperEnd, address, none, firstOf, accessFailing, failing}
 use Rattle.entry.specs.Ends.{endNumber, boundsNumber, endsOf}
-use Rattle.steps.specs.Bare.{boundsAt, declaredIn}
+use Rattle.steps.specs.Bare.{boundsIn, declaredIn}
 
 pub ends-long : (E : Environment) → length (endsOf E) ≡ 96
 unfolding endsOf
@@ -52,13 +52,13 @@ module _ (E : Environment) (vs : List ℕ) (p : ℕ) (few : p < 16) where
   lower-same : lowerEnd (declaredIn (endsOf E)) vs p ≡ lowerEnd E vs p
   unfolding declaredIn boundsNumber endNumber
   lower-same =
-      ap (λ (b : Bounds). endValue vs (endOf (b .lower))) (getD-tabulate 16 (boundsAt (endsOf E)) p nothingKnown few)
+      ap (λ (b : Bounds). endValue vs (endOf (b .lower))) (getD-tabulate 16 (boundsIn (endsOf E)) p nothingKnown few)
       ∙ sum-same _ _ _ _ _ _ (number (6 * p) 0 (omega arith) (omega arith)) (number (6 * p + 1) 1 refl (omega arith)) (number (6 * p + 2) 2 refl (omega arith))
 
   upper-same : upperEnd (declaredIn (endsOf E)) vs p ≡ upperEnd E vs p
   unfolding declaredIn boundsNumber endNumber
   upper-same =
-      ap (λ (b : Bounds). endValue vs (endOf (b .upper))) (getD-tabulate 16 (boundsAt (endsOf E)) p nothingKnown few)
+      ap (λ (b : Bounds). endValue vs (endOf (b .upper))) (getD-tabulate 16 (boundsIn (endsOf E)) p nothingKnown few)
       ∙ sum-same _ _ _ _ _ _ (number (6 * p + 3) 3 refl (omega arith)) (number (6 * p + 3 + 1) 4 (omega arith) (omega arith)) (number (6 * p + 3 + 2) 5 (omega arith) (omega arith))
 
   access-same : (a : ℕ) → accessFailing (declaredIn (endsOf E)) vs p a ≡ accessFailing E vs p a

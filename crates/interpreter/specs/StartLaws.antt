@@ -10,6 +10,7 @@ use borrow.Author.Tests.{ltb-true, ltb-false, leb-true, eqb-true}
 use lib.Dec.{leb, ltb, eqb}
 use lib.IntN.{ℤ}
 use lib.ListN.{length, getD, List·getD-eq-default}
+use Rattle.facts.specs.Store.{pickBool}
 use Rattle.refusals.specs.declared.Refusal.{Refusal}
 use Rattle.refusals.specs.declared.Refusal.the-variants.{MemorySize, DirectoryPair, EntryLengths, EntryValue}
 use Rattle.sections.specs.SectionsLaws.{both}
@@ -24,7 +25,7 @@ use Rattle.rules.specs.BoundsRules.{isPointer, objectLength}
 use Rattle.rules.specs.Verdict.{environmentOf}
 use Rattle.rules.specs.declared.Environment.{Environment}
 use Rattle.machine.specs.Machine.{value, high, boundsTrue, stuck, start, pointAfter}
-use Rattle.entry.specs.Entry.{memoryRight, endBefore, pairRight, lengthsRight, pickBool, entryRight, consUnless, failures, entryRefusals}
+use Rattle.entry.specs.Entry.{memoryRight, endBefore, pairRight, lengthsRight, entryRight, consUnless, failures, entryRefusals}
 use Rattle.steps.specs.Bare.{Prepared}
 use Rattle.interpreter.specs.BareRun.{bareRun, SafeRun}
 use Rattle.entry.specs.Ends.{endsOf}

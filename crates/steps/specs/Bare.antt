@@ -30,15 +30,15 @@ use Rattle.steps.specs.declared.Step.the-variants.{Go, Stop}
 
 -- ---- declared bounds in a slice of 96 numbers, six a pointer: pointer, integer and constant of the lower end, then of the upper end
 
-abbrev pub endAt : List ℕ → ℕ → End
-endAt W i = record { pointer = getD W i 0; integer = getD W (i + 1) 0; constant = getD W (i + 2) 0 }
+abbrev pub endIn : List ℕ → ℕ → End
+endIn W i = record { pointer = getD W i 0; integer = getD W (i + 1) 0; constant = getD W (i + 2) 0 }
 
-abbrev pub boundsAt : List ℕ → ℕ → Bounds
-boundsAt W p = record { lower = Known (endAt W (6 * p)); upper = Known (endAt W (6 * p + 3)) }
+abbrev pub boundsIn : List ℕ → ℕ → Bounds
+boundsIn W p = record { lower = Known (endIn W (6 * p)); upper = Known (endIn W (6 * p + 3)) }
 
 -- What such a slice declares.
 unfoldable pub declaredIn : List ℕ → Environment
-declaredIn W = record { pointers = []; declared = tabulate 16 (boundsAt W); lengths = [] }
+declaredIn W = record { pointers = []; declared = tabulate 16 (boundsIn W); lengths = [] }
 
 -- ---- what a statement of kinds 1 to 10 leaves where no check fails: the values and cells of `performed`
 

@@ -10,7 +10,7 @@ use Rattle.facts.specs.Numbers.{bias, maxValue}
 use Rattle.facts.specs.Tabulate.{getD-tabulate}
 use Rattle.rules.specs.BoundsRules.{nothingKnown}
 use Rattle.machine.specs.Machine.{value, endValue, relates, none, firstOf, accessFailing, arithmeticFailing, combined}
-use Rattle.steps.specs.Bare.{endAt, boundsAt, declaredIn, pickStep, stepUnless}
+use Rattle.steps.specs.Bare.{endIn, boundsIn, declaredIn, pickStep, stepUnless}
 use Rattle.stops.specs.declared.Check.the-variants.{NullAccess, OutOfBounds, NullArithmetic, AddressRange}
 use Rattle.steps.specs.declared.Step.the-variants.{Go, Stop}
 
@@ -55,8 +55,8 @@ module _ (at next : ℕ) where
 
   -- Checks 2 and 3, by the ends in the slice W.
   pub access-step : (W vs : List ℕ) (p a : ℕ) → p < 16 →
-      pickStep (eqb (value vs p) 0) (Stop (NullAccess at)) (pickStep (ltb a (endValue vs (endAt W (6 * p))) || leb (endValue vs (endAt W (6 * p + 3))) a) (Stop (OutOfBounds at)) (Go next))
+      pickStep (eqb (value vs p) 0) (Stop (NullAccess at)) (pickStep (ltb a (endValue vs (endIn W (6 * p))) || leb (endValue vs (endIn W (6 * p + 3))) a) (Stop (OutOfBounds at)) (Go next))
       ≡ stepUnless (accessFailing (declaredIn W) vs p a) at next
   unfolding accessFailing declaredIn
   access-step W vs p a few =
-      rw (getD-tabulate 16 (boundsAt W) p nothingKnown few) (access-picked (eqb (value vs p) 0) (ltb a (endValue vs (endAt W (6 * p))) || leb (endValue vs (endAt W (6 * p + 3))) a))
+      rw (getD-tabulate 16 (boundsIn W) p nothingKnown few) (access-picked (eqb (value vs p) 0) (ltb a (endValue vs (endIn W (6 * p))) || leb (endValue vs (endIn W (6 * p + 3))) a))

@@ -8,7 +8,7 @@ use lib.ListN.{length, getD}
 use Rattle.fields.specs.Fields.{pickNumber}
 use Rattle.sections.specs.SectionsLaws.{Limits}
 use Rattle.sections.specs.declared.Sections.{Sections}
-use Rattle.conditions.specs.Typed.{ConditionTyped, Sides, integers, pointers, literal, null}
+use Rattle.conditions.specs.ConditionLaws.{offset-small}
 use Rattle.conditions.specs.declared.Condition.{Condition}
 use Rattle.statements.specs.Statements.{statementAt}
 use Rattle.statements.specs.Typed.{SimpleTyped, AccessTyped}
@@ -24,15 +24,6 @@ use Rattle.machine.specs.Machine.{address, conditionHolds, none, failing, acces
 use Rattle.steps.specs.Bare.{declaredIn, InCells, InsideSimple, Inside, Accessible, Operable, Ready, Prepared, simpleMove, statementMove, bareMove, Moves}
 use Rattle.steps.specs.declared.Step.{Step}
 use Rattle.steps.specs.declared.Step.the-variants.{Go}
-
-offset-small : (T : List ℤ) (h : Sections) (l r o : ℕ) → Sides T h l r o → o < 2 ^ 32
-offset-small T h l r o (integers a b e) = omega arith
-offset-small T h l r o (pointers a b e) = omega arith
-offset-small T h l r o (literal a e p) = omega arith
-offset-small T h l r o (null a e z) = omega arith
-
-condition-small : (T : List ℤ) (h : Sections) (c : Condition) → ConditionTyped T h c → c .offset < 2 ^ 32
-condition-small T h c t = offset-small T h (c .left) (c .right) (c .offset) (t .sides)
 
 module _ (T : List ℤ) (h : Sections) (W D S vs cs : List ℕ) (few : Limits h) (P : Prepared T h W D S vs) where
   accessible : (x p i k : ℕ) → AccessTyped T h x p i k → (accessFailing (declaredIn W) vs p (address vs p i k) ≡ none → InCells (address vs p i k) cs) → Accessible W x p i k vs cs
@@ -61,7 +52,7 @@ module _ (T : List ℤ) (h : Sections) (W D S vs cs : List ℕ) (few : Limits h)
       (omega (arith, t .target .below, P .values), omega (arith, t .source .below, P .values), omega (arith, t .index .below, P .values))
   operable (Load x p i k) t n = accessible x p i k t n
   operable (Store p i k x) t n = accessible x p i k t n
-  operable (Test c) t n = condition-small T h c t
+  operable (Test c) t n = offset-small t
 
 -- A statement that is ready.
 module _ (T : List ℤ) (h : Sections) (W : List ℕ) (a : ℕ) (vs cs : List ℕ) where
@@ -74,10 +65,10 @@ module _ (T : List ℤ) (h : Sections) (W : List ℕ) (a : ℕ) (vs cs : List �
       (r .reads ∙ ap Read g, rw g at (r .inside))
 
   pub ready-if : (c : Condition) (n m : ℕ) → Ready T h W a vs cs → decodedAt T h a ≡ If c n m → c .offset < 2 ^ 32
-  ready-if c n m r e = condition-small T h c (read-typed T h a (If c n m) (ready-reads (If c n m) r e .0) .condition)
+  ready-if c n m r e = offset-small (read-typed T h a (If c n m) (ready-reads (If c n m) r e .0) .condition)
 
   pub ready-while : (c : Condition) (n : ℕ) → Ready T h W a vs cs → decodedAt T h a ≡ While c n → c .offset < 2 ^ 32
-  ready-while c n r e = condition-small T h c (read-typed T h a (While c n) (ready-reads (While c n) r e .0) .condition)
+  ready-while c n r e = offset-small (read-typed T h a (While c n) (ready-reads (While c n) r e .0) .condition)
 
 -- The record of a statement that reads lies in the table.
 pub ready-start : {T : List ℤ} {h : Sections} {W D S vs cs : List ℕ} {a : ℕ} → Prepared T h W D S vs → Ready T h W a vs cs → decodeStart h a + 7 ≤ length T

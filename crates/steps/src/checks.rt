@@ -10,13 +10,13 @@ ghost use mathlib.Core.Bool.{not};
 ghost use Prim.Native.Nat.{ℕ, _+_, _^_, _<_};
 ghost use lib.ListN.{length, getD};
 ghost use Rattle.machine.specs.Machine.{endValue, conditionHolds, none, firstOf, accessFailing, arithmeticFailing};
-ghost use Rattle.steps.specs.Bare.{endAt, declaredIn, pickStep, stepUnless};
+ghost use Rattle.steps.specs.Bare.{endIn, declaredIn, pickStep, stepUnless};
 ghost use Rattle.steps.specs.declared.Step.the-variants.{Go, Stop};
 
 // The whole number of the end whose three numbers start at `first`, with the bias.
 fn end_value(ends: &[u64], values: &[u32], first: usize) -> u64
     requires { ⌜ (first + 2 < length (now ends)) × (getD (now ends) (first + 2) 0 < 2 ^ 34) ⌝ }
-    ensures { λ r. ⌜ r ≡ endValue (now (values .entry)) (endAt (now (ends .entry)) first) ⌝ }
+    ensures { λ r. ⌜ r ≡ endValue (now (values .entry)) (endIn (now (ends .entry)) first) ⌝ }
 {
     let pointer = ends[first] as usize;
     let integer = ends[first + 1] as usize;
