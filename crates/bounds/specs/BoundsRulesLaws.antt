@@ -3,26 +3,29 @@ use Prim.Native.Nat.{ℕ, zero, suc, _+_, _-_, _≤_, _<_}
 use mathlib.Core.Path.{_≡_, refl, sym, ap, _∙_}
 use mathlib.Core.Bool.{Bool, true, false, not, _&&_, _||_, false≢true}
 use mathlib.Core.List.{List, [], _∷_}
+use mathlib.Core.Logic.{_⊎_, inl, inr}
 use native.Mathlib.Omega.{arith}
 use native.Mathlib.Numerals.{sub-one}
-use borrow.Author.Tests.{eq-eqb, not-true}
+use borrow.Author.Tests.{eq-eqb, ne-eqb, not-true}
 use lib.Dec.{eqb}
 use lib.ListN.{length, getD}
+use lib.Seq.{ext-getD}
 use Rattle.facts.specs.Numbers.{bias, zeroVar}
-use Rattle.facts.specs.Store.{shown, endShown}
+use Rattle.facts.specs.Store.{shown, endShown, inRange}
+use Rattle.facts.specs.Tabulate.{tabulate, length-tabulate, getD-tabulate}
 use Rattle.facts.specs.declared.FactSet.{FactSet}
 use Rattle.refusals.specs.declared.Refusal.the-variants.{BoundsNotShown}
 use Rattle.sections.specs.SectionsLaws.{both}
 use Rattle.statements.specs.declared.Simple.{Simple}
 use Rattle.statements.specs.declared.Simple.the-variants.{Literal, AddConstant, Arithmetic, Null, Address, PointerOffset, PointerIndex, Load, Store, Check}
 use Rattle.variables.specs.declared.End.{End}
-use Rattle.rules.specs.BoundsRules.{pickEnd, pickBounds, pickEffect, isPointer, declared, known, names, forgetEnd, shiftConstant, shiftEnd, forgetBounds, shiftBounds, objectBounds, effectOn, boundsAfter, effect, sameEnd, endAtMost, knownAtMost, boundsShown, consIf, unshownFrom, unshown, accessShown}
+use Rattle.rules.specs.BoundsRules.{nothingKnown, pickEnd, pickBounds, pickEffect, isPointer, declared, known, names, forgetEnd, shiftConstant, shiftEnd, forgetBounds, shiftBounds, objectBounds, effectOn, boundsAfter, effect, sameEnd, endAtMost, knownAtMost, boundsShown, consIf, unshownFrom, unshown, accessShown}
 use Rattle.rules.specs.BoundsTrue.{known-after}
-use Rattle.rules.specs.FactRules.{sumInRange}
+use Rattle.rules.specs.FactsTrue.{neither}
 use Rattle.rules.specs.Rules.{boundsAt}
 use Rattle.rules.specs.Verdict.{lowestVerdict}
 use Rattle.rules.specs.Ranges.{InRange, Measured, Short}
-use Rattle.bounds.specs.Stays.{sourceOf, effectOnOne, endStays, boundsStay, stays}
+use Rattle.bounds.specs.Stays.{sourceOf, effectOnOne, keepsAll, endStays, boundsStay, stays, changedBy, replacedBy, leftAlone, touchedAt, touchedFrom, touched, sameKnown, sameBounds}
 use Rattle.rules.specs.declared.KnownEnd.{KnownEnd}
 use Rattle.rules.specs.declared.KnownEnd.the-variants.{Known, Unknown}
 use Rattle.rules.specs.declared.Bounds.{Bounds}
@@ -58,6 +61,16 @@ pub effect-on-read : (e : Effect) (K : List Bounds) (p : ℕ) {r : Bounds} (q : 
 effect-on-read e K p q h i z t =
     t ∙ (ap (λ (b : Bounds). effectOnOne e p b (stored K q)) (stored-known K p h) ∙ (ap (effectOnOne e p (known K p)) (stored-known K q i ∙ ap (known K) z) ∙ sym (effect-on-one e K p)))
 
+-- An effect that keeps all bounds makes the same list again.
+pub all-kept : (e : Effect) (K : List Bounds) {b : Bool} → length K ≡ 16 → b ≡ keepsAll e → b ≡ true → K ≡ boundsAfter e K
+unfolding boundsAfter effectOn
+all-kept Keep K l s t =
+    ext-getD nothingKnown K (tabulate 16 (known K)) (l ∙ sym (length-tabulate 16 (known K))) (λ i h. sym (getD-tabulate 16 (known K) i nothingKnown (omega arith)))
+all-kept (Forget v) K l s t = absurd (false≢true (sym s ∙ t))
+all-kept (Shift v k) K l s t = absurd (false≢true (sym s ∙ t))
+all-kept (Copy v q) K l s t = absurd (false≢true (sym s ∙ t))
+all-kept (Object v n) K l s t = absurd (false≢true (sym s ∙ t))
+
 -- The source of an effect is a variable.
 pub source-below : (e : Effect) → Short e → sourceOf e < 16
 source-below Keep s = omega arith
@@ -76,7 +89,7 @@ short-picked false e g p q = q
 pub effect-short : (E : Environment) (f : FactSet) (s : Simple) → Measured E → InRange s → Short (effect E f s)
 unfolding effect
 effect-short E f (Literal x k) m r = tt
-effect-short E f (AddConstant x y k) m r = short-picked (sumInRange f y k && eqb x y) (Shift x k) (Forget x) tt tt
+effect-short E f (AddConstant x y k) m r = short-picked (inRange f y k && eqb x y) (Shift x k) (Forget x) tt tt
 effect-short E f (Arithmetic x y z op) m r = tt
 effect-short E f (Null p) m r = tt
 effect-short E f (Address p o) m r = m o
@@ -108,6 +121,26 @@ end-stays f v (Known e) h =
       shown = ap (λ (b : Bool). b || endShown f (e .pointer) (e .integer) (e .constant) (e .pointer) (e .integer) (e .constant)) (same-refl e);
     }
 
+-- Declared bounds are shown by both ends, or by a null pointer.
+module _ (f : FactSet) (p : ℕ) (k d : Bounds) where
+  pub ends-shown : knownAtMost f (k .lower) (d .lower) ≡ true → knownAtMost f (d .upper) (k .upper) ≡ true → boundsShown f p k d ≡ true
+  unfolding boundsShown
+  ends-shown s t = go (shown f p zeroVar bias) s t
+    where
+      go : (a : Bool) {c d : Bool} → c ≡ true → d ≡ true → (a || c && d) ≡ true
+      go true s t = refl
+      go false s t = rw (s, t)
+
+  pub null-shown : {r : Bool} → (knownAtMost f (k .lower) (d .lower) ≡ false) ⊎ (knownAtMost f (d .upper) (k .upper) ≡ false) → r ≡ shown f p zeroVar bias → r ≡ boundsShown f p k d
+  unfolding boundsShown
+  null-shown h e = e ∙ go (shown f p zeroVar bias) (knownAtMost f (k .lower) (d .lower)) (knownAtMost f (d .upper) (k .upper)) h
+    where
+      go : (a b c : Bool) → (b ≡ false) ⊎ (c ≡ false) → a ≡ (a || b && c)
+      go true b c h = refl
+      go false false c h = refl
+      go false true c (inl e) = absurd (false≢true (sym e))
+      go false true c (inr e) = sym e
+
 module _ (f : FactSet) (v : ℕ) (b : Bounds) (h : boundsStay v b ≡ true) where
   lower-stays : Stays f v (b .lower)
   unfolding boundsStay
@@ -126,12 +159,7 @@ module _ (f : FactSet) (v : ℕ) (b : Bounds) (h : boundsStay v b ≡ true) wher
   stay-moved k = let e₁ = lower-stays .moved k in let e₂ = upper-stays .moved k in rw (e₁, e₂)
 
   stay-shown : (p : ℕ) → boundsShown f p b b ≡ true
-  unfolding boundsShown
-  stay-shown p = go (shown f p zeroVar bias) (lower-stays .shown) (upper-stays .shown)
-    where
-      go : (a : Bool) {c d : Bool} → c ≡ true → d ≡ true → (a || c && d) ≡ true
-      go true s t = refl
-      go false s t = rw (s, t)
+  stay-shown p = ends-shown f p b b (lower-stays .shown) (upper-stays .shown)
 
   stay-keeps : (p : ℕ) (g : Bounds) → g ≡ b → boundsShown f p g b ≡ true
   stay-keeps p g e = rw e (stay-shown p)
@@ -147,6 +175,32 @@ stays-shown f (Copy v q) K p h =
 stays-shown f (Object v n) K p h =
     let t = both (not (eqb p v)) (boundsStay v (known K p)) h in
     stay-keeps f v (known K p) (t .1) p _ (ap (λ (b : Bool). pickBounds b (objectBounds v n) (forgetBounds v (known K p))) (not-true (eqb p v) (t .0)) ∙ stay-forgotten f v (known K p) (t .1))
+
+-- The two numbers of an effect say which bounds it leaves as they are: no pointer has the number 17.
+left-alone : (e : Effect) (p : ℕ) (b : Bounds) → p < 16 → leftAlone (changedBy e) (replacedBy e) p b ≡ stays e p b
+unfolding leftAlone stays
+left-alone Keep p b h = ap (λ (t : Bool). not t && boundsStay 17 b) (ne-eqb p 17 (λ e. omega arith))
+left-alone (Forget v) p b h = ap (λ (t : Bool). not t && boundsStay v b) (ne-eqb p 17 (λ e. omega arith))
+left-alone (Shift v k) p b h = ap (λ (t : Bool). not t && boundsStay v b) (ne-eqb p 17 (λ e. omega arith))
+left-alone (Copy v q) p b h = refl
+left-alone (Object v n) p b h = refl
+
+pub stays-read : (e : Effect) (p : ℕ) (b : Bounds) {c r : ℕ} {st : Bool} → p < 16 → c ≡ changedBy e → r ≡ replacedBy e → st ≡ leftAlone c r p b → st ≡ stays e p b
+stays-read e p b h x y s = rw (x, y) at s ∙ left-alone e p b h
+
+-- ---- bounds that are the same are shown
+
+same-at-most : (f : FactSet) (a b : KnownEnd) → sameKnown a b ≡ true → knownAtMost f a b ≡ true
+unfolding sameKnown knownAtMost endAtMost
+same-at-most f Unknown b h = absurd (false≢true h)
+same-at-most f (Known e) Unknown h = absurd (false≢true h)
+same-at-most f (Known e) (Known g) h = ap (λ (b : Bool). b || endShown f (e .pointer) (e .integer) (e .constant) (g .pointer) (g .integer) (g .constant)) h
+
+same-shown : (f : FactSet) (p : ℕ) (k d : Bounds) → sameBounds k d ≡ true → boundsShown f p k d ≡ true
+unfolding sameBounds
+same-shown f p k d h =
+    let t = both (sameKnown (k .lower) (d .lower)) (sameKnown (d .upper) (k .upper)) h in
+    ends-shown f p k d (same-at-most f (k .lower) (d .lower) (t .0)) (same-at-most f (d .upper) (k .upper) (t .1))
 
 -- ---- the pointers that are not shown, one after the other
 
@@ -195,12 +249,14 @@ missed-shown false e t = refl
 missed-not : {a b c : Bool} → a ≡ true → b ≡ c → not b ≡ true → (a && not c) ≡ true
 missed-not {a} {b} {c} p e t = ap (λ (x : Bool). x && not c) p ∙ (ap not (sym e) ∙ t)
 
+-- A pointer that is not asked, where its test says that it is shown.
+missed-unasked : (a b c : Bool) → (a && not b) ≡ false → (b ≡ true → c ≡ true) → (a && not c) ≡ false
+missed-unasked true true c t k = ap not (k refl)
+missed-unasked true false c t k = absurd (false≢true (sym t))
+missed-unasked false b c t k = refl
+
 -- A pointer that is asked with its known bounds.
 module _ (E : Environment) (f : FactSet) (K : List Bounds) (p : ℕ) where
-  pub known-none : isPointer E p ≡ false → missed E f K p ≡ false
-  unfolding missed
-  known-none e = ap (λ (a : Bool). a && not (boundsShown f p (known K p) (declared E p))) e
-
   module _ (d : p < length (E .declared)) {k : Bounds} {b : Bool} (e : k ≡ known K p) (s : b ≡ boundsShown f p k (stored (E .declared) p)) where
     said : b ≡ boundsShown f p (known K p) (declared E p)
     said = s ∙ (ap (λ (x : Bounds). boundsShown f p x (stored (E .declared) p)) e ∙ ap (boundsShown f p (known K p)) (stored-known (E .declared) p d))
@@ -213,30 +269,35 @@ module _ (E : Environment) (f : FactSet) (K : List Bounds) (p : ℕ) where
     unfolding missed
     anew-missed i t = missed-not i said t
 
-  module _ (l : p < length K) (d : p < length (E .declared)) {b : Bool} (s : b ≡ boundsShown f p (stored K p) (stored (E .declared) p)) where
-    pub known-shown : not b ≡ false → missed E f K p ≡ false
-    known-shown t = anew-shown d (stored-known K p l) s t
+  -- It is asked only where its known bounds are not the declared ones.
+  module _ (l : p < length K) (d : p < length (E .declared)) {st : Bool} (w : st ≡ sameBounds (stored K p) (stored (E .declared) p)) where
+    pub known-unasked : (isPointer E p && not st) ≡ false → missed E f K p ≡ false
+    unfolding missed
+    known-unasked t =
+        missed-unasked (isPointer E p) st (boundsShown f p (known K p) (declared E p)) t
+        (λ e. same-shown f p (known K p) (declared E p) (rw (stored-known K p l, stored-known (E .declared) p d) at (sym w ∙ e)))
 
-    pub known-missed : isPointer E p ≡ true → not b ≡ true → missed E f K p ≡ true
-    known-missed i t = anew-missed d (stored-known K p l) s i t
+    module _ {b : Bool} (s : b ≡ boundsShown f p (stored K p) (stored (E .declared) p)) where
+      pub known-shown : not b ≡ false → missed E f K p ≡ false
+      known-shown t = anew-shown d (stored-known K p l) s t
+
+      pub known-missed : (isPointer E p && not st) ≡ true → not b ≡ true → missed E f K p ≡ true
+      known-missed a t = anew-missed d (stored-known K p l) s (both (isPointer E p) (not st) a .0) t
 
 -- A pointer after an effect on the declared bounds: it is asked only where the effect touches its bounds.
+pub asked : (E : Environment) (e : Effect) (p : ℕ) {st : Bool} → p < length (E .declared) → st ≡ stays e p (stored (E .declared) p) → (isPointer E p && not st) ≡ touchedAt E e p
+unfolding touchedAt
+asked E e p d w = ap (λ (x : Bool). isPointer E p && not x) (w ∙ ap (stays e p) (stored-known (E .declared) p d))
+
+unasked : (E : Environment) (f : FactSet) (e : Effect) (p : ℕ) → p < 16 → touchedAt E e p ≡ false → missed E f (boundsAfter e (E .declared)) p ≡ false
+unfolding missed touchedAt
+unasked E f e p h t =
+    ap (λ (b : Bounds). isPointer E p && not (boundsShown f p b (declared E p))) (known-after e (E .declared) p h)
+    ∙ missed-unasked (isPointer E p) (stays e p (declared E p)) (boundsShown f p (effectOn e (E .declared) p) (declared E p)) t (stays-shown f e (E .declared) p)
+
 module _ (E : Environment) (f : FactSet) (e : Effect) (p : ℕ) (h : p < 16) (d : p < length (E .declared)) {st : Bool} (w : st ≡ stays e p (stored (E .declared) p)) where
-  abbrev anew : Bounds
-  anew = effectOn e (E .declared) p
-
-  asked : (isPointer E p && not st) ≡ (isPointer E p && not (stays e p (declared E p)))
-  asked = ap (λ (x : Bool). isPointer E p && not x) (w ∙ ap (stays e p) (stored-known (E .declared) p d))
-
   pub effect-unasked : (isPointer E p && not st) ≡ false → missed E f (boundsAfter e (E .declared)) p ≡ false
-  unfolding missed
-  effect-unasked t = ap (λ (b : Bounds). isPointer E p && not (boundsShown f p b (declared E p))) (known-after e (E .declared) p h)
-      ∙ go (isPointer E p) (stays e p (declared E p)) (boundsShown f p anew (declared E p)) (sym asked ∙ t) (stays-shown f e (E .declared) p)
-    where
-      go : (a b c : Bool) → (a && not b) ≡ false → (b ≡ true → c ≡ true) → (a && not c) ≡ false
-      go true true c t k = ap not (k refl)
-      go true false c t k = absurd (false≢true (sym t))
-      go false b c t k = refl
+  effect-unasked t = unasked E f e p h (sym (asked E e p d w) ∙ t)
 
   module _ {g : Bounds} (q : ℕ) {b : Bool} (s : q < length (E .declared)) (z : q ≡ sourceOf e) (t : g ≡ effectOnOne e p (stored (E .declared) p) (stored (E .declared) q)) (u : b ≡ boundsShown f p g (stored (E .declared) p)) where
     anew-known : g ≡ known (boundsAfter e (E .declared)) p
@@ -247,6 +308,56 @@ module _ (E : Environment) (f : FactSet) (e : Effect) (p : ℕ) (h : p < 16) (d 
 
     pub effect-missed : (isPointer E p && not st) ≡ true → not b ≡ true → missed E f (boundsAfter e (E .declared)) p ≡ true
     effect-missed a n = anew-missed E f (boundsAfter e (E .declared)) p d anew-known u (both (isPointer E p) (not st) a .0) n
+
+-- ---- whether an effect touches the declared bounds of some pointer
+
+touched-some : (E : Environment) (e : Effect) (n p : ℕ) → 0 < n → touchedFrom E e n p ≡ (touchedAt E e p || touchedFrom E e (n - 1) (p + 1))
+unfolding touchedFrom
+touched-some E e zero p h = absurd (omega arith)
+touched-some E e (suc n) p h = rw sub-one
+
+-- The loop's invariant: no pointer below p is touched.
+pub record Spared (E : Environment) (e : Effect) (p : ℕ) : Type 0 where
+  pub within : p ≤ 16
+  pub same : touched E e ≡ touchedFrom E e (16 - p) p
+
+pub spared-none : (E : Environment) (e : Effect) → Spared E e 0
+unfolding touched
+spared-none E e = record { within = omega arith; same = refl }
+
+module _ {E : Environment} {e : Effect} {p : ℕ} (q : Spared E e p) where
+  spared-next : {b : Bool} → p < 16 → touchedAt E e p ≡ b → touched E e ≡ (b || touchedFrom E e (16 - p - 1) (p + 1))
+  spared-next h t = q .same ∙ (touched-some E e (16 - p) p (omega arith) ∙ ap (λ (b : Bool). b || touchedFrom E e (16 - p - 1) (p + 1)) t)
+
+  pub spared-more : p < 16 → touchedAt E e p ≡ false → Spared E e (p + 1)
+  spared-more h t =
+      let n : 16 - p - 1 ≡ 16 - (p + 1) = omega arith in
+      record { within = omega arith; same = spared-next h t ∙ ap (λ (m : ℕ). touchedFrom E e m (p + 1)) n }
+
+  pub spared-touched : p < 16 → touchedAt E e p ≡ true → true ≡ touched E e
+  spared-touched h t = sym (spared-next h t)
+
+  pub spared-all : 16 ≤ p → false ≡ touched E e
+  unfolding touchedFrom
+  spared-all h =
+      let n : 16 - p ≡ 0 = omega arith in
+      sym (q .same ∙ ap (λ (m : ℕ). touchedFrom E e m p) n)
+
+untouched-from : (E : Environment) (e : Effect) (f : FactSet) (n p : ℕ) → n + p ≤ 16 → touchedFrom E e n p ≡ false → unshownFrom E f (boundsAfter e (E .declared)) n p ≡ []
+unfolding touchedFrom unshownFrom missed
+untouched-from E e f zero p h t = refl
+untouched-from E e f (suc n) p h t = ap (λ (b : Bool). consIf b p (unshownFrom E f (boundsAfter e (E .declared)) n (p + 1))) first ∙ untouched-from E e f n (p + 1) (omega arith) (u .1)
+  where
+    u : (touchedAt E e p ≡ false) × (touchedFrom E e n (p + 1) ≡ false)
+    u = neither (touchedAt E e p) (touchedFrom E e n (p + 1)) t
+
+    first : (isPointer E p && not (boundsShown f p (known (boundsAfter e (E .declared)) p) (declared E p))) ≡ false
+    first = unasked E f e p (omega arith) (u .0)
+
+-- Where an effect touches no pointer's declared bounds, all stay shown, whatever the facts.
+pub untouched : (e : Environment) (x : Effect) → touched e x ≡ false → (f : FactSet) → unshown e f (boundsAfter x (e .declared)) ≡ []
+unfolding touched unshown
+untouched e x t f = untouched-from e x f 16 0 (omega arith) t
 
 -- ---- accesses
 

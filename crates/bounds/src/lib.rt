@@ -17,7 +17,7 @@ ghost use Rattle.rules.specs.BoundsRules.{nothingKnown, names, forgetEnd, shift
 ghost use Rattle.rules.specs.Rules.{boundsAt};
 ghost use Rattle.rules.specs.Verdict.{lowestVerdict};
 ghost use Rattle.rules.specs.Ranges.{Short};
-ghost use Rattle.bounds.specs.Stays.{endStays, boundsStay, stays, sourceOf, effectOnOne};
+ghost use Rattle.bounds.specs.Stays.{endStays, boundsStay, leftAlone, changedBy, replacedBy, touched, sameKnown, sameBounds, keepsAll, sourceOf, effectOnOne};
 
 // The known bounds of each pointer, inside a bundle.
 pub struct KnownBounds {
@@ -170,10 +170,35 @@ fn effect_on(effect: Effect, p: usize, own: Bounds, source: Bounds) -> Bounds
     }
 }
 
+// The effect leaves all known bounds as they are.
+fn keeps_all(effect: Effect) -> bool
+    ensures { λ r. ⌜ r ≡ keepsAll effect ⌝ }
+{
+    match effect {
+        Effect::Keep => true,
+        Effect::Forget { target: _ } => false,
+        Effect::Shift {
+            target: _,
+            constant: _,
+        } => false,
+        Effect::Copy {
+            target: _,
+            source: _,
+        } => false,
+        Effect::Object {
+            target: _,
+            length: _,
+        } => false,
+    }
+}
+
 pub fn bounds_after(effect: Effect, known: KnownBounds) -> KnownBounds
     requires { ⌜ Short effect ⌝ }
     ensures { λ r. ⌜ r .each ≡ boundsAfter effect (known .each) ⌝ }
 {
+    if keeps_all(effect) {
+        return known;
+    }
     let from = source_of(effect);
     let source = known.each[from];
     let mut next = known;
@@ -189,6 +214,29 @@ fn same_end(a: End, b: End) -> bool
     ensures { λ r. ⌜ r ≡ sameEnd a b ⌝ }
 {
     (a.pointer == b.pointer) & (a.integer == b.integer) & (a.constant == b.constant)
+}
+
+fn same_known(a: KnownEnd, b: KnownEnd) -> bool
+    ensures { λ r. ⌜ r ≡ sameKnown a b ⌝ }
+{
+    let KnownEnd::Known(e) = a else {
+        return false;
+    };
+    let KnownEnd::Known(g) = b else {
+        return false;
+    };
+    same_end(e, g)
+}
+
+// Known and declared bounds are the same, end by end: then they are shown, whatever the facts.
+fn same_bounds(known: Bounds, declared: Bounds) -> bool
+    ensures { λ r. ⌜ r ≡ sameBounds known declared ⌝ }
+{
+    let known_lower = known.lower;
+    let declared_lower = declared.lower;
+    let known_upper = known.upper;
+    let declared_upper = declared.upper;
+    same_known(known_lower, declared_lower) & same_known(declared_upper, known_upper)
 }
 
 // The end a is at most the end b.
@@ -220,21 +268,20 @@ fn known_at_most(facts: FactSet, a: KnownEnd, b: KnownEnd) -> bool
     end_at_most(facts, e, g)
 }
 
-// The declared bounds of p are shown where `known` are its known bounds.
+// The declared bounds of p are shown where `known` are its known bounds. The ends come first: where they are the same, the facts are not asked.
 fn bounds_shown(facts: FactSet, p: usize, known: Bounds, declared: Bounds) -> bool
     ensures { λ r. ⌜ r ≡ boundsShown facts p known declared ⌝ }
 {
-    if facts.shows(p, ZERO, BIAS) {
-        return true;
-    }
     let known_lower = known.lower;
     let declared_lower = declared.lower;
     if known_at_most(facts, known_lower, declared_lower) {
         let known_upper = known.upper;
         let declared_upper = declared.upper;
-        return known_at_most(facts, declared_upper, known_upper);
+        if known_at_most(facts, declared_upper, known_upper) {
+            return true;
+        }
     }
-    false
+    facts.shows(p, ZERO, BIAS)
 }
 
 // An end that is known and does not name v.
@@ -255,20 +302,59 @@ fn bounds_stay(v: usize, b: Bounds) -> bool
     end_stays(v, lower) & end_stays(v, upper)
 }
 
-// The effect leaves the declared bounds of p as they are, so that they need not be shown again.
-fn stays_shown(effect: Effect, p: usize, declared: Bounds) -> bool
-    ensures { λ r. ⌜ r ≡ stays effect p declared ⌝ }
+// The variable that an effect changes: an end that names it has to be looked at again. No variable has the number 17.
+fn changed_by(effect: Effect) -> usize
+    ensures { λ r. ⌜ r ≡ changedBy effect ⌝ }
 {
     match effect {
-        Effect::Keep => bounds_stay(17, declared),
-        Effect::Forget { target } => bounds_stay(target, declared),
+        Effect::Keep => 17,
+        Effect::Forget { target } => target,
         Effect::Shift {
             target,
             constant: _,
-        } => bounds_stay(target, declared),
-        Effect::Copy { target, source: _ } => (p != target) & bounds_stay(target, declared),
-        Effect::Object { target, length: _ } => (p != target) & bounds_stay(target, declared),
+        } => target,
+        Effect::Copy { target, source: _ } => target,
+        Effect::Object { target, length: _ } => target,
     }
+}
+
+// The pointer whose bounds an effect replaces by others, or 17.
+fn replaced_by(effect: Effect) -> usize
+    ensures { λ r. ⌜ r ≡ replacedBy effect ⌝ }
+{
+    match effect {
+        Effect::Keep => 17,
+        Effect::Forget { target: _ } => 17,
+        Effect::Shift {
+            target: _,
+            constant: _,
+        } => 17,
+        Effect::Copy { target, source: _ } => target,
+        Effect::Object { target, length: _ } => target,
+    }
+}
+
+// An effect with these two numbers leaves the declared bounds of p as they are: they need not be shown again.
+fn left_alone(changed: usize, replaced: usize, p: usize, declared: Bounds) -> bool
+    ensures { λ r. ⌜ r ≡ leftAlone changed replaced p declared ⌝ }
+{
+    (p != replaced) & bounds_stay(changed, declared)
+}
+
+// Some pointer's declared bounds have to be shown again after the effect; where none have, `check_effect` accepts with any facts.
+pub fn touches(environment: Environment, effect: Effect) -> bool
+    ensures { λ r. ⌜ r ≡ touched environment effect ⌝ }
+{
+    let changed = changed_by(effect);
+    let replaced = replaced_by(effect);
+    let mut p = 0;
+    while p < 16 {
+        if environment.pointers[p] & !left_alone(changed, replaced, p, environment.declared[p]) {
+            return true;
+        }
+        p += 1;
+    }
+    false
 }
 
 // The first pointer whose declared bounds are not shown after the effect, where the declared bounds were the known ones.
@@ -278,10 +364,12 @@ pub fn check_effect(environment: Environment, facts: FactSet, effect: Effect, at
 {
     let from = source_of(effect);
     let source = environment.declared[from];
+    let changed = changed_by(effect);
+    let replaced = replaced_by(effect);
     let mut p = 0;
     while p < 16 {
         let own = environment.declared[p];
-        if environment.pointers[p] & !stays_shown(effect, p, own) {
+        if environment.pointers[p] & !left_alone(changed, replaced, p, own) {
             if !bounds_shown(facts, p, effect_on(effect, p, own, source), own) {
                 return Verdict::Refused(Refusal::BoundsNotShown {
                     statement: at,
@@ -305,8 +393,10 @@ pub fn check_known(
 {
     let mut p = 0;
     while p < 16 {
-        if environment.pointers[p] {
-            if !bounds_shown(facts, p, known.each[p], environment.declared[p]) {
+        let own = known.each[p];
+        let declared = environment.declared[p];
+        if environment.pointers[p] & !same_bounds(own, declared) {
+            if !bounds_shown(facts, p, own, declared) {
                 return Verdict::Refused(Refusal::BoundsNotShown {
                     statement: at,
                     pointer: p,

@@ -22,7 +22,7 @@ use Rattle.rules.specs.BoundsRules.{effect, boundsAfter, unshown, accessShown}
 use Rattle.rules.specs.Rules.{Fault, refusal, notShown, also, faultIf, accessAt, boundsAt, bundleFacts, bundleBounds, bundleFaults}
 use Rattle.rules.specs.Verdict.{lowestVerdict}
 use Rattle.rules.specs.Ranges.{InRange, Measured, Short}
-use Rattle.effects.specs.Applied.{applied}
+use Rattle.effects.specs.Applied.{Applied, applied}
 use Rattle.checker.specs.Walk.{Passes, WalksBundle}
 use Rattle.effects.specs.FactRulesLaws.{effect-lengths}
 use Rattle.bounds.specs.BoundsRulesLaws.{effect-short}
@@ -31,7 +31,6 @@ use Rattle.rules.specs.declared.Environment.{Environment}
 use Rattle.rules.specs.declared.Effect.{Effect}
 use Rattle.rules.specs.declared.Verdict.{Verdict}
 use Rattle.rules.specs.declared.Verdict.the-variants.{Accepted, Refused}
-use Rattle.effects.specs.declared.Applied.{Applied}
 use Rattle.checker.specs.declared.walk.Walked.{Walked}
 
 -- ---- faults in order

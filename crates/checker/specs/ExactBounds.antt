@@ -11,7 +11,7 @@ use lib.IntN.{ℤ}
 use lib.ListN.{length, getD, List·getD-eq-default}
 use Rattle.facts.specs.Numbers.{bias, zeroVar}
 use Rattle.facts.specs.Tabulate.{tabulate, length-tabulate, getD-tabulate}
-use Rattle.facts.specs.Store.{shown}
+use Rattle.facts.specs.Store.{shown, inRange}
 use Rattle.chains.specs.Facts.{Variables, Node, Known as Facts, Shown, EndShown}
 use Rattle.chains.specs.History.{known as known-facts}
 use Rattle.facts.specs.declared.FactSet.{FactSet}
@@ -31,7 +31,7 @@ use Rattle.variables.specs.declared.VariableRead.{VariableRead}
 use Rattle.variables.specs.declared.VariableRead.the-variants.{Read, Unread}
 use Rattle.table.specs.FormLaws.{Formed}
 use Rattle.flow.specs.Shape.{ReadsLine}
-use Rattle.rules.specs.FactRules.{sumInRange, factsAfter}
+use Rattle.rules.specs.FactRules.{factsAfter}
 use Rattle.rules.specs.BoundsRules.{pickEnd, pickBounds, pickEffect, nothingKnown, declared, known, names, objectLength, forgetEnd, shiftConstant, shiftEnd, forgetBounds, shiftBounds, objectBounds, effectOn, boundsAfter, effect, knownAtMost, boundsShown}
 use Rattle.rules.specs.Rules.{bundleBounds}
 use Rattle.rules.specs.Verdict.{boundsOf, environmentOf}
@@ -225,7 +225,7 @@ module _ (T : List ℤ) (h : Sections) (w : Formed T h) where
   statement-fair : (f : FactSet) (s : Simple) → SimpleTyped T h s → FairEffect vars (effect (environmentOf T h) f s)
   unfolding effect
   statement-fair f (Literal x k) s = tt
-  statement-fair f (AddConstant x y k) s = pick-fair (sumInRange f y k && eqb x y) (Shift x k) (Forget x) (s .constant) tt
+  statement-fair f (AddConstant x y k) s = pick-fair (inRange f y k && eqb x y) (Shift x k) (Forget x) (s .constant) tt
   statement-fair f (Arithmetic x y z op) s = tt
   statement-fair f (Null p) s = tt
   statement-fair f (Address p o) s = (s .target .below, length-fair o (s .object))

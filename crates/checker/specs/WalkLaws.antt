@@ -27,14 +27,15 @@ use Rattle.rules.specs.BoundsRules.{isPointer, effect, boundsAfter, unshown}
 use Rattle.rules.specs.Rules.{Fault, also, faultIf, boundsAt, bundleFacts, bundleBounds, bundleFaults, blockFacts, blockFaults}
 use Rattle.rules.specs.Verdict.{lowestVerdict}
 use Rattle.rules.specs.Ranges.{InRange}
-use Rattle.effects.specs.Applied.{applied}
+use Rattle.effects.specs.Applied.{Applied, applied}
+use Rattle.bounds.specs.Stays.{touched}
+use Rattle.bounds.specs.BoundsRulesLaws.{untouched}
 use Rattle.checker.specs.Walk.{WalksBundle, Walks}
 use Rattle.effects.specs.FactRulesLaws.{read-ranged}
 use Rattle.rules.specs.declared.Environment.{Environment}
 use Rattle.rules.specs.declared.Effect.{Effect}
 use Rattle.rules.specs.declared.Verdict.{Verdict}
 use Rattle.rules.specs.declared.Verdict.the-variants.{Accepted, Refused}
-use Rattle.effects.specs.declared.Applied.{Applied}
 use Rattle.checker.specs.declared.walk.Walked.{Walked}
 use Rattle.checker.specs.BundleLaws.{pass, skip, stops, fault-verdict, ends, carry, also-assoc, none-refused, applied-facts, applied-effect, lineFaults}
 
@@ -190,6 +191,12 @@ module _ {T : List ℤ} {h : Sections} {E : Environment} {end allowed : ℕ} {b 
 
     pub turn-plain : v ≡ Accepted → Kept T h E end allowed b f₀ (at + 1) (left - 1) (d .facts)
     turn-plain x = next u (here (Plain p) u calm ∙ pass _ _ (none-refused _ shown-here x)) (whole-facts (Plain p) u) (applied-facts E f p e)
+
+  -- Nothing has to be shown again.
+  pub turn-untouched : {p : Simple} → Turn T h E end allowed b f₀ at left f (Plain p) → contradictory f ≡ false → {d : Applied} → d ≡ applied (E .lengths) f p → touched E (d .effect) ≡ false
+      → Kept T h E end allowed b f₀ (at + 1) (left - 1) (d .facts)
+  unfolding boundsAt lowestVerdict
+  turn-untouched u calm {d} e x = turn-plain u calm e {v = Accepted} (sym (ap (λ (ps : List ℕ). lowestVerdict (boundsAt at ps)) (untouched E (d .effect) x (d .facts)))) refl
 
   module _ {c : Condition} {n m : ℕ} (u : Turn T h E end allowed b f₀ at left f (If c n m)) (calm : contradictory f ≡ false)
       {g : FactSet} (e : g ≡ conditionFacts f c) {r : Walked} (w : Walks T h E (rest T h left (at + 1) (at + 1 + n)) g r) where

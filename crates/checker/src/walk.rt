@@ -4,10 +4,12 @@ use bounds::access_shown;
 use bounds::bounds_after;
 use bounds::check_effect;
 use bounds::check_known;
+use bounds::touches;
 use conditions::negated;
-use effects::apply;
+use effects::asked_sum;
 use effects::assume;
 use effects::lose;
+use effects::plan_statement;
 use facts::FactSet;
 use reader::read_due;
 use refusals::Refusal;
@@ -77,10 +79,12 @@ fn walk_bundle(
                 facts,
             };
         }
-        let done = apply(facts, lengths, simple);
-        let effect = done.effect;
+        let sum = asked_sum(simple);
+        let fits = facts.in_range(sum.source, sum.constant);
+        let plan = plan_statement(lengths, simple, fits);
+        let effect = plan.effect;
         known = bounds_after(effect, known);
-        facts = done.facts;
+        facts = facts.after(plan.change);
         at += 1;
         left -= 1;
     }
@@ -126,13 +130,17 @@ pub(crate) fn walk(
         let inner = at + 1;
         match statement {
             Statement::Plain(simple) => {
-                let done = apply(facts, lengths, simple);
-                let effect = done.effect;
-                let verdict = check_effect(environment, done.facts, effect, at);
-                let Verdict::Accepted = verdict else {
-                    return Walked { verdict, facts };
-                };
-                facts = done.facts;
+                let sum = asked_sum(simple);
+                let fits = facts.in_range(sum.source, sum.constant);
+                let plan = plan_statement(lengths, simple, fits);
+                let effect = plan.effect;
+                facts = facts.after(plan.change);
+                if touches(environment, effect) {
+                    let verdict = check_effect(environment, facts, effect, at);
+                    let Verdict::Accepted = verdict else {
+                        return Walked { verdict, facts };
+                    };
+                }
                 at = inner;
             }
             Statement::If {
@@ -149,7 +157,7 @@ pub(crate) fn walk(
                     inner,
                     middle,
                     left,
-                    assume(facts, condition),
+                    facts.after(assume(condition)),
                 );
                 let then_verdict = then.verdict;
                 let Verdict::Accepted = then_verdict else {
@@ -162,7 +170,7 @@ pub(crate) fn walk(
                     middle,
                     rest,
                     left,
-                    assume(facts, negated(condition)),
+                    facts.after(assume(negated(condition))),
                 );
                 let other_verdict = other.verdict;
                 let Verdict::Accepted = other_verdict else {
@@ -182,13 +190,13 @@ pub(crate) fn walk(
                     inner,
                     rest,
                     left,
-                    assume(lost, condition),
+                    lost.after(assume(condition)),
                 );
                 let body_verdict = body.verdict;
                 let Verdict::Accepted = body_verdict else {
                     return body;
                 };
-                facts = assume(lost, negated(condition));
+                facts = lost.after(assume(negated(condition)));
                 at = rest;
             }
             Statement::Bundle { count } => {

@@ -1,6 +1,6 @@
 -- Laws of the facts after conditions, statements and before loops, as the code meets them.
 use Prim.Native.Nat.{ℕ, zero, suc, _+_, _-_, _≤_, _<_}
-use mathlib.Core.Path.{_≡_, refl, sym, ap, _∙_}
+use mathlib.Core.Path.{_≡_, refl, sym, ap, ap₂, _∙_}
 use mathlib.Core.Bool.{Bool, true, false, _&&_, _||_}
 use mathlib.Core.List.{List, [], _∷_, _++_}
 use mathlib.Core.Logic.{_≢_}
@@ -12,7 +12,7 @@ use lib.IntN.{ℤ}
 use lib.ListN.{length, getD, set, length-set, getD-replicate}
 use lib.Seq.{getD-set-same, getD-set-other}
 use Rattle.facts.specs.Numbers.{bias, maxValue, zeroVar}
-use Rattle.facts.specs.Store.{shown, added, dropped, shifted}
+use Rattle.facts.specs.Store.{inRange, added, changed, dropped, shifted}
 use Rattle.facts.specs.declared.FactSet.{FactSet}
 use Rattle.sections.specs.declared.Sections.{Sections}
 use Rattle.sections.specs.SectionsLaws.{Limits}
@@ -29,14 +29,15 @@ use Rattle.statements.specs.Typed.{SimpleTyped}
 use Rattle.statements.specs.StatementLaws.{read-typed, read-limits}
 use Rattle.blocks.specs.Tree.{target}
 use Rattle.flow.specs.Shape.{targetOf, targetsFrom}
-use Rattle.rules.specs.FactRules.{pickFacts, equated, positive, differs, relationFacts, conditionFacts, sumInRange, sumFacts, offsetFacts, factsAfter, among, droppedEach, loopFacts}
+use Rattle.rules.specs.FactRules.{pickFacts, equated, positive, differs, relationFacts, conditionFacts, sumFacts, offsetFacts, factsAfter, among, droppedEach, loopFacts}
 use Rattle.rules.specs.BoundsRules.{effect}
 use Rattle.rules.specs.Ranges.{InRange}
-use Rattle.effects.specs.Applied.{withLengths, applied, targetNumber, noMarks, marked}
+use Rattle.effects.specs.declared.Plan.{Plan}
+use Rattle.effects.specs.declared.Sum.{Sum}
+use Rattle.effects.specs.Applied.{Applied, withLengths, applied, sourceAsked, constantAsked, Plans, targetNumber, noMarks, marked}
 use Rattle.rules.specs.declared.Effect.{Effect}
 use Rattle.rules.specs.declared.Effect.the-variants.{Forget, Shift, Copy}
 use Rattle.rules.specs.declared.Environment.{Environment}
-use Rattle.effects.specs.declared.Applied.{Applied}
 
 -- ---- conditions
 
@@ -99,63 +100,53 @@ module _ (f : FactSet) (c : Condition) {g : FactSet} where
 
 -- ---- x := y + k and p := q + k
 
-module _ (f : FactSet) (y k : ℕ) where
-  pub plain-in-range : k ≡ bias → sumInRange f y k ≡ true
-  unfolding sumInRange
-  plain-in-range e = rw (eq-eqb k bias e)
+-- p := q + k gives p >= 1 unless k is 0.
+module _ (f : FactSet) (p k : ℕ) where
+  pub plain-kept : k ≡ bias → f ≡ pickFacts (eqb k bias) f (positive f p)
+  plain-kept e = rw (eq-eqb k bias e)
 
-  shown-in-range : k ≢ bias → sumInRange f y k ≡ (shown f zeroVar y k && shown f y zeroVar (bias + maxValue + bias - k))
-  unfolding sumInRange
-  shown-in-range n = rw (ne-eqb k bias n)
-
-  pub range-shown : {b r : Bool} → k ≢ bias → b ≡ shown f zeroVar y k → b ≡ true → r ≡ shown f y zeroVar (bias + maxValue + bias - k) → r ≡ sumInRange f y k
-  range-shown n s t e = e ∙ sym (shown-in-range n ∙ ap (λ (a : Bool). a && shown f y zeroVar (bias + maxValue + bias - k)) (sym s ∙ t))
-
-  pub range-lost : {b : Bool} → k ≢ bias → b ≡ shown f zeroVar y k → b ≡ false → false ≡ sumInRange f y k
-  range-lost n s t = sym (shown-in-range n ∙ ap (λ (a : Bool). a && shown f y zeroVar (bias + maxValue + bias - k)) (sym s ∙ t))
+  pub positive-added : k ≢ bias → added f zeroVar p (bias - 1) ≡ pickFacts (eqb k bias) f (positive f p)
+  unfolding positive
+  positive-added n = rw (ne-eqb k bias n)
 
 abbrev pub appliedOf : FactSet → Effect → Applied
 appliedOf f e = record { facts = f; effect = e }
 
-module _ (lengths : List ℕ) (f : FactSet) (x y k : ℕ) where
-  pub sum-dropped : {g : FactSet} → sumInRange f y k ≡ false → g ≡ dropped f x → appliedOf g (Forget x) ≡ applied lengths f (AddConstant x y k)
+module _ (lengths : List ℕ) (f : FactSet) (x y k : ℕ) {g : FactSet} where
+  pub sum-dropped : inRange f y k ≡ false → g ≡ dropped f x → appliedOf g (Forget x) ≡ applied lengths f (AddConstant x y k)
   unfolding applied factsAfter sumFacts effect
   sum-dropped r e = rw (r, e)
 
-  module _ (r : sumInRange f y k ≡ true) where
-    pub sum-shifted : {g : FactSet} → x ≡ y → g ≡ shifted f x k → appliedOf g (Shift x k) ≡ applied lengths f (AddConstant x y k)
-    unfolding applied factsAfter sumFacts effect
-    sum-shifted p e = rw (r, eq-eqb x y p, e)
+  pub sum-shifted : inRange f y k ≡ true → x ≡ y → g ≡ shifted f x k → appliedOf g (Shift x k) ≡ applied lengths f (AddConstant x y k)
+  unfolding applied factsAfter sumFacts effect
+  sum-shifted r p e = rw (r, eq-eqb x y p, e)
 
-    pub sum-equated : {g₁ g₂ g₃ : FactSet} → x ≢ y → g₁ ≡ dropped f x → g₂ ≡ added g₁ x y k → g₃ ≡ added g₂ y x (bias + bias - k)
-        → appliedOf g₃ (Forget x) ≡ applied lengths f (AddConstant x y k)
-    unfolding applied factsAfter sumFacts effect equated
-    sum-equated n e₁ e₂ e₃ = rw (r, ne-eqb x y n, e₃, e₂, e₁)
+  pub sum-equated : inRange f y k ≡ true → x ≢ y → g ≡ equated (dropped f x) x y k → appliedOf g (Forget x) ≡ applied lengths f (AddConstant x y k)
+  unfolding applied factsAfter sumFacts effect
+  sum-equated r n e = rw (r, ne-eqb x y n, e)
 
-module _ (lengths : List ℕ) (f : FactSet) (p q k : ℕ) where
-  pub offset-shifted : {g : FactSet} → p ≡ q → k ≡ bias → g ≡ shifted f p k → appliedOf g (Shift p k) ≡ applied lengths f (PointerOffset p q k)
+module _ (lengths : List ℕ) (f : FactSet) (p q k : ℕ) {g : FactSet} where
+  pub offset-shifted : p ≡ q → g ≡ pickFacts (eqb k bias) (shifted f p k) (positive (shifted f p k) p) → appliedOf g (Shift p k) ≡ applied lengths f (PointerOffset p q k)
   unfolding applied factsAfter offsetFacts effect
-  offset-shifted s b e = rw (eq-eqb p q s, eq-eqb k bias b, e)
+  offset-shifted s e = rw (eq-eqb p q s, e)
 
-  pub offset-shifted-positive : {g₁ g₂ : FactSet} → p ≡ q → k ≢ bias → g₁ ≡ shifted f p k → g₂ ≡ added g₁ zeroVar p (bias - 1)
-      → appliedOf g₂ (Shift p k) ≡ applied lengths f (PointerOffset p q k)
-  unfolding applied factsAfter offsetFacts effect positive
-  offset-shifted-positive s b e₁ e₂ = rw (eq-eqb p q s, ne-eqb k bias b, e₂, e₁)
+  pub offset-copied : p ≢ q → g ≡ pickFacts (eqb k bias) (equated (dropped f p) p q k) (positive (equated (dropped f p) p q k) p)
+      → appliedOf g (Copy p q) ≡ applied lengths f (PointerOffset p q k)
+  unfolding applied factsAfter offsetFacts effect
+  offset-copied n e = rw (ne-eqb p q n, e)
 
-  module _ {g₁ g₂ g₃ : FactSet} (n : p ≢ q) (e₁ : g₁ ≡ dropped f p) (e₂ : g₂ ≡ added g₁ p q k) (e₃ : g₃ ≡ added g₂ q p (bias + bias - k)) where
-    pub offset-copied : k ≡ bias → appliedOf g₃ (Copy p q) ≡ applied lengths f (PointerOffset p q k)
-    unfolding applied factsAfter offsetFacts effect equated
-    offset-copied b = rw (ne-eqb p q n, eq-eqb k bias b, e₃, e₂, e₁)
+-- ---- a plan that is carried out
 
-    pub offset-positive : {g₄ : FactSet} → k ≢ bias → g₄ ≡ added g₃ zeroVar p (bias - 1) → appliedOf g₄ (Copy p q) ≡ applied lengths f (PointerOffset p q k)
-    unfolding applied factsAfter offsetFacts effect equated positive
-    offset-positive b e₄ = rw (ne-eqb p q n, ne-eqb k bias b, e₄, e₃, e₂, e₁)
+-- Where the sum was asked for, the plan made for the answer, and the change made, the facts and the effect are the statement's.
+pub carried-out : (lengths : List ℕ) (f : FactSet) (s : Simple) (r : Plan) {g : FactSet} {m : Sum} {fits : Bool} → (m .source ≡ sourceAsked s) × (m .constant ≡ constantAsked s)
+    → fits ≡ inRange f (m .source) (m .constant) → Plans lengths s fits r → g ≡ changed f (r .change) → appliedOf g (r .effect) ≡ applied lengths f s
+carried-out lengths f s r a b p e = ap (λ (i : FactSet). appliedOf i (r .effect)) e ∙ p f (b ∙ ap₂ (inRange f) (a .0) (a .1))
 
 -- ---- statements that were read
 
 simple-ranged : (T : List ℤ) (h : Sections) → Limits h → (s : Simple) → SimpleTyped T h s → InRange s
 simple-ranged T h l (Literal x k) t = omega (arith, t .value)
-simple-ranged T h l (AddConstant x y k) t = omega (arith, t .constant .high)
+simple-ranged T h l (AddConstant x y k) t = (omega (arith, t .constant .high), omega (arith, t .source .below, l .variables))
 simple-ranged T h l (Arithmetic x y z op) t = tt
 simple-ranged T h l (Null p) t = tt
 simple-ranged T h l (Address p o) t = tt

@@ -1,8 +1,19 @@
-// What a condition and a statement of kinds 1 to 10 do to the facts, and what the statement does to known bounds.
+// What a condition and a statement of kinds 1 to 10 do to the facts, planned as a change of the fact set, and what the statement does to known bounds.
+// No function here takes a fact set but those for loops: the caller asks the one question a plan may need, and makes the change.
+mod changes; // changes.rt: the changes that plans are made of
 mod loops; // loops.rt: the variables that a loop's body assigns
 
+use changes::add;
+use changes::equal;
+use changes::fact;
+use changes::forget;
+use changes::keep;
+use changes::no_fact;
+use changes::range;
+use changes::shift;
 use conditions::Condition;
-use facts::FactSet;
+use facts::Change;
+use facts::Fact;
 pub use loops::lose;
 use rules::Effect;
 use rules::MAX_VALUE;
@@ -11,124 +22,131 @@ use statements::Simple;
 use words::BIAS;
 ghost use mathlib.Core.Path.{_≡_};
 ghost use mathlib.Core.List.{[]};
+ghost use mathlib.Core.Bool.{true};
 ghost use Prim.Native.Nat.{_^_, _<_};
 ghost use lib.ListN.{getD};
 ghost use lib.Dec.{eqb};
+ghost use Rattle.facts.specs.Numbers.{bias};
 ghost use Rattle.statements.specs.declared.Simple.the-variants.{AddConstant, PointerOffset};
-ghost use Rattle.rules.specs.FactRules.{conditionFacts, sumInRange};
+ghost use Rattle.rules.specs.FactRules.{pickFacts, positive};
 ghost use Rattle.rules.specs.BoundsRules.{pickEffect};
 ghost use Rattle.rules.specs.Ranges.{InRange};
-ghost use Rattle.effects.specs.Applied.{applied};
+ghost use Rattle.effects.specs.Applied.{Adds, Assumes, Plans, sourceAsked, constantAsked};
 
-// The facts after a statement, and what it does to known bounds.
-pub struct Applied {
-    pub facts: FactSet,
+// What a statement does to the facts and to known bounds.
+pub struct Plan {
+    pub change: Change,
     pub effect: Effect,
 }
 
+// A sum, source + constant.
+pub struct Sum {
+    pub source: usize,
+    pub constant: u64,
+}
+
 // The facts that a condition gives: left RELATION right + offset.
-pub fn assume(facts: FactSet, condition: Condition) -> FactSet
+pub fn assume(condition: Condition) -> Change
     requires { ⌜ condition .offset < 2 ^ 32 ⌝ }
-    ensures { λ r. ⌜ r ≡ conditionFacts facts condition ⌝ }
+    ensures { λ r. ⌜ Assumes condition r ⌝ }
 {
     let relation = condition.relation;
     let x = condition.left;
     let y = condition.right;
     let k = condition.offset;
     match relation {
-        0 => facts.add(x, y, BIAS + k - 1),
-        1 => facts.add(y, x, BIAS - k),
-        2 => facts.add(y, x, BIAS - k - 1),
-        3 => facts.add(x, y, BIAS + k),
-        4 => facts.add(x, y, BIAS + k).add(y, x, BIAS - k),
+        0 => add(fact(x, y, BIAS + k - 1), no_fact()),
+        1 => add(fact(y, x, BIAS - k), no_fact()),
+        2 => add(fact(y, x, BIAS - k - 1), no_fact()),
+        3 => add(fact(x, y, BIAS + k), no_fact()),
+        4 => add(fact(x, y, BIAS + k), fact(y, x, BIAS - k)),
         _ => {
             if y != ZERO {
-                return facts;
+                return keep();
             }
             if k != 0 {
-                return facts;
+                return keep();
             }
-            facts.add(ZERO, x, BIAS - 1)
+            add(fact(ZERO, x, BIAS - 1), no_fact())
         }
     }
 }
 
-// 0 <= y + k <= 4,294,967,295 is shown; a plain copy always counts as shown.
-fn in_range(facts: FactSet, y: usize, k: u64) -> bool
-    requires { ⌜ k < 2 ^ 34 ⌝ }
-    ensures { λ r. ⌜ r ≡ sumInRange facts y k ⌝ }
+// The sum of which a plan has to know whether it is in range; of a kind that need not know, a plain copy, which always counts as in range.
+pub fn asked_sum(simple: Simple) -> Sum
+    ensures { λ r. ⌜ (r .source ≡ sourceAsked simple) × (r .constant ≡ constantAsked simple) ⌝ }
 {
-    if k == BIAS {
-        return true;
+    match simple {
+        Simple::AddConstant {
+            target: _,
+            source,
+            constant,
+        } => Sum { source, constant },
+        _ => Sum {
+            source: 0,
+            constant: BIAS,
+        },
     }
-    if facts.shows(ZERO, y, k) {
-        return facts.shows(y, ZERO, BIAS + (MAX_VALUE as u64) + BIAS - k);
-    }
-    false
 }
 
-// x := y + k
-fn add_constant(facts: FactSet, x: usize, y: usize, k: u64) -> Applied
-    requires { ⌜ k < 2 ^ 34 ⌝ }
-    ensures { λ r. ⌜ r ≡ applied [] facts (AddConstant x y k) ⌝ }
+// x := y + k; `fits` tells whether y + k is in range.
+fn add_constant(x: usize, y: usize, k: u64, fits: bool) -> Plan
+    requires { ⌜ (k < 2 ^ 34) × (y < 16) ⌝ }
+    ensures { λ r. ⌜ Plans [] (AddConstant x y k) fits r ⌝ }
 {
     let forgotten = Effect::Forget { target: x };
-    if !in_range(facts, y, k) {
-        return Applied {
-            facts: facts.drop(x),
+    if !fits {
+        return Plan {
+            change: forget(x),
             effect: forgotten,
         };
     }
     if x == y {
-        return Applied {
-            facts: facts.shift(x, k),
+        return Plan {
+            change: shift(x, k, no_fact()),
             effect: Effect::Shift {
                 target: x,
                 constant: k,
             },
         };
     }
-    Applied {
-        facts: facts.drop(x).add(x, y, k).add(y, x, BIAS + BIAS - k),
+    Plan {
+        change: equal(x, y, k, no_fact()),
         effect: forgotten,
     }
 }
 
-// p := q + k
-fn add_offset(facts: FactSet, p: usize, q: usize, k: u64) -> Applied
-    requires { ⌜ k < 2 ^ 34 ⌝ }
-    ensures { λ r. ⌜ r ≡ applied [] facts (PointerOffset p q k) ⌝ }
+// p >= 1, which p := q + k gives unless k is 0.
+fn above_zero(p: usize, k: u64) -> Fact
+    ensures { λ r. ⌜ Adds r (λ f. pickFacts (eqb k bias) f (positive f p)) ⌝ }
 {
-    if p == q {
-        let shift = Effect::Shift {
-            target: p,
-            constant: k,
-        };
-        if k == BIAS {
-            return Applied {
-                facts: facts.shift(p, k),
-                effect: shift,
-            };
-        }
-        return Applied {
-            facts: facts.shift(p, k).add(ZERO, p, BIAS - 1),
-            effect: shift,
-        };
-    }
-    let copy = Effect::Copy {
-        target: p,
-        source: q,
-    };
-    let moved = facts.drop(p).add(p, q, k).add(q, p, BIAS + BIAS - k);
     if k == BIAS {
-        return Applied {
-            facts: moved,
-            effect: copy,
+        return no_fact();
+    }
+    fact(ZERO, p, BIAS - 1)
+}
+
+// p := q + k
+fn add_offset(p: usize, q: usize, k: u64) -> Plan
+    requires { ⌜ (k < 2 ^ 34) × (q < 16) ⌝ }
+    ensures { λ r. ⌜ Plans [] (PointerOffset p q k) true r ⌝ }
+{
+    let third = above_zero(p, k);
+    if p == q {
+        return Plan {
+            change: shift(p, k, third),
+            effect: Effect::Shift {
+                target: p,
+                constant: k,
+            },
         };
     }
-    Applied {
-        facts: moved.add(ZERO, p, BIAS - 1),
-        effect: copy,
+    Plan {
+        change: equal(p, q, k, third),
+        effect: Effect::Copy {
+            target: p,
+            source: q,
+        },
     }
 }
 
@@ -155,36 +173,36 @@ fn length_at(lengths: [u64; 16], o: usize) -> u64
     0
 }
 
-// A statement of kinds 1 to 10.
-pub fn apply(facts: FactSet, lengths: [u64; 16], simple: Simple) -> Applied
+// A statement of kinds 1 to 10; `fits` tells whether the sum that is asked for is in range.
+pub fn plan_statement(lengths: [u64; 16], simple: Simple, fits: bool) -> Plan
     requires { ⌜ InRange simple ⌝ }
-    ensures { λ r. ⌜ r ≡ applied lengths facts simple ⌝ }
+    ensures { λ r. ⌜ Plans lengths simple fits r ⌝ }
 {
     match simple {
-        Simple::Literal { target, value } => Applied {
-            facts: facts.assign_range(target, value as u32, value as u32),
+        Simple::Literal { target, value } => Plan {
+            change: range(target, value as u32, value as u32),
             effect: Effect::Forget { target },
         },
         Simple::AddConstant {
             target,
             source,
             constant,
-        } => add_constant(facts, target, source, constant),
+        } => add_constant(target, source, constant, fits),
         Simple::Arithmetic {
             target,
             left: _,
             right: _,
             operation: _,
-        } => Applied {
-            facts: facts.drop(target),
+        } => Plan {
+            change: forget(target),
             effect: Effect::Forget { target },
         },
-        Simple::Null { target } => Applied {
-            facts: facts.assign_range(target, 0, 0),
+        Simple::Null { target } => Plan {
+            change: range(target, 0, 0),
             effect: Effect::Forget { target },
         },
-        Simple::Address { target, object } => Applied {
-            facts: facts.assign_range(target, 1, MAX_VALUE),
+        Simple::Address { target, object } => Plan {
+            change: range(target, 1, MAX_VALUE),
             effect: Effect::Object {
                 target,
                 length: length_at(lengths, object),
@@ -194,13 +212,13 @@ pub fn apply(facts: FactSet, lengths: [u64; 16], simple: Simple) -> Applied
             target,
             source,
             constant,
-        } => add_offset(facts, target, source, constant),
+        } => add_offset(target, source, constant),
         Simple::PointerIndex {
             target,
             source,
             index: _,
-        } => Applied {
-            facts: facts.assign_range(target, 1, MAX_VALUE),
+        } => Plan {
+            change: range(target, 1, MAX_VALUE),
             effect: index_effect(target, source),
         },
         Simple::Load {
@@ -208,8 +226,8 @@ pub fn apply(facts: FactSet, lengths: [u64; 16], simple: Simple) -> Applied
             pointer: _,
             index: _,
             constant: _,
-        } => Applied {
-            facts: facts.drop(target),
+        } => Plan {
+            change: forget(target),
             effect: Effect::Forget { target },
         },
         Simple::Store {
@@ -217,12 +235,12 @@ pub fn apply(facts: FactSet, lengths: [u64; 16], simple: Simple) -> Applied
             index: _,
             constant: _,
             source: _,
-        } => Applied {
-            facts,
+        } => Plan {
+            change: keep(),
             effect: Effect::Keep,
         },
-        Simple::Check { condition } => Applied {
-            facts: assume(facts, condition),
+        Simple::Check { condition } => Plan {
+            change: assume(condition),
             effect: Effect::Keep,
         },
     }

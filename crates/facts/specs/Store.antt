@@ -1,12 +1,14 @@
 -- What each operation of the fact store makes of the 17 rows of 17 sums, as the code does. That this is what the paper says is proved in crate chains (Exact).
-use Prim.Native.Nat.{ℕ, _+_, _-_, _^_, min, max}
+use Prim.Native.Nat.{ℕ, zero, suc, _+_, _-_, _^_, min, max}
 use mathlib.Core.List.{List, []}
-use mathlib.Core.Bool.{Bool, true, false, not}
+use mathlib.Core.Bool.{Bool, true, false, not, _&&_, _||_}
 use lib.ListN.{getD, set}
 use lib.Dec.{ltb, leb, eqb}
 use Rattle.facts.specs.Numbers.{bias, maxValue, zeroVar}
 use Rattle.facts.specs.Tabulate.{tabulate}
 use Rattle.facts.specs.declared.rows.Row.{Row}
+use Rattle.facts.specs.declared.Fact.{Fact}
+use Rattle.facts.specs.declared.Change.{Change}
 use Rattle.facts.specs.declared.FactSet.{FactSet}
 
 abbrev pub pick : Bool → ℕ → ℕ → ℕ
@@ -38,6 +40,10 @@ concatenated a b = pick (leb (2 ^ 40) a) unbounded (pick (leb (2 ^ 40) b) unboun
 -- The sum with the other sign.
 abbrev pub negated : ℕ → ℕ
 negated a = bias + bias - a
+
+-- The greatest value less a.
+abbrev pub roomAbove : ℕ → ℕ
+roomAbove a = bias + maxValue + bias - a
 
 -- ---- rows and sets, as lists
 
@@ -73,6 +79,10 @@ shown f x y k = pickBool (f .contradiction) true (leb (leastSum f x y) k)
 
 unfoldable pub endShown : FactSet → ℕ → ℕ → ℕ → ℕ → ℕ → ℕ → Bool
 endShown f q n k r m j = pickBool (f .contradiction) true (leb (concatenated (concatenated (leastSum f q r) (leastSum f n m)) k) j)
+
+-- 0 <= y + k <= 4,294,967,295 is shown; a plain copy always counts as shown.
+unfoldable pub inRange : FactSet → ℕ → ℕ → Bool
+inRange f y k = eqb k bias || shown f zeroVar y k && shown f y zeroVar (roomAbove k)
 
 -- ---- new
 
@@ -128,6 +138,24 @@ dropped f x = pickSet (ltb 15 x) f (reassigned f x zeroVar (bias + maxValue) bia
 
 unfoldable pub shifted : FactSet → ℕ → ℕ → FactSet
 shifted f x k = pickSet (ltb 15 x) f (added (added (reassigned f x x k (negated k)) zeroVar x bias) x zeroVar (bias + maxValue))
+
+-- ---- a change: a variable anew, then three facts besides
+
+unfoldable pub anew : FactSet → ℕ → ℕ → ℕ → ℕ → FactSet
+anew f x y up down = pickSet (ltb 15 x) f (pickSet (ltb zeroVar y) f (reassigned f x y up down))
+
+abbrev pub factAt : List Fact → ℕ → Fact
+factAt facts n = getD facts n (record { x = 0; y = 0; k = 0 })
+
+abbrev pub addedFact : FactSet → Fact → FactSet
+addedFact f fact = added f (fact .x) (fact .y) (fact .k)
+
+unfoldable pub addedFirst : ℕ → List Fact → FactSet → FactSet
+addedFirst zero facts f = f
+addedFirst (suc n) facts f = addedFact (addedFirst n facts f) (factAt facts n)
+
+unfoldable pub changed : FactSet → Change → FactSet
+changed f c = addedFirst 3 (c .facts) (anew f (c .target) (c .base) (c .up) (c .down))
 
 -- ---- join
 

@@ -2,15 +2,16 @@
 use Prim.Native.Nat.{ℕ, _+_, _-_, _^_, _≤_, _<_, min}
 use mathlib.Core.Path.{_≡_, refl, sym, ap, _∙_}
 use mathlib.Core.Logic.{_≢_}
-use mathlib.Core.Bool.{Bool, true, false, false≢true}
-use borrow.Author.Tests.{lt-ltb, le-ltb, lt-leb, eqb-true, eqb-false}
+use mathlib.Core.Bool.{Bool, true, false, false≢true, _&&_}
+use borrow.Author.Tests.{lt-ltb, le-ltb, lt-leb, eqb-true, eqb-false, eq-eqb, ne-eqb}
 use lib.Dec.{ltb, leb, eqb}
 use lib.Seq.{getD-set-same, getD-set-other}
 use native.Mathlib.Omega.{arith}
 use Rattle.facts.specs.Numbers.{bias, maxValue, zeroVar}
 use Rattle.facts.specs.Tabulate.{tabulate, length-tabulate, getD-tabulate}
-use Rattle.facts.specs.Store.{pick, pickBool, pickRow, pickSet, concatenated, negated, noRow, rowAt, inRow, sumAt, rowOf, setOf, leastSum, shown, newSum, newRow, newSet, loweredRow, lowered, marked, added, ownRow, reroutedRow, rerouted, reassigned, dropped, ranged, shifted, related, joinedSum, joinedRow, joined}
+use Rattle.facts.specs.Store.{pick, pickBool, pickRow, pickSet, concatenated, negated, roomAbove, noRow, rowAt, inRow, sumAt, rowOf, setOf, leastSum, shown, inRange, newSum, newRow, newSet, loweredRow, lowered, marked, added, ownRow, reroutedRow, rerouted, reassigned, anew, factAt, addedFact, addedFirst, changed, dropped, ranged, shifted, related, joinedSum, joinedRow, joined}
 use Rattle.facts.specs.declared.rows.Row.{Row}
+use Rattle.facts.specs.declared.Change.{Change}
 use Rattle.facts.specs.declared.FactSet.{FactSet}
 
 pub picked : {b : Bool} (f g : FactSet) → b ≡ true → pickSet b f g ≡ f
@@ -62,6 +63,23 @@ not-shown f x y k s = go (f .contradiction) s
     go true s = s
     go false s = refl
 
+-- ---- a sum in range
+
+module _ (f : FactSet) (y k : ℕ) where
+  pub plain-in-range : k ≡ bias → inRange f y k ≡ true
+  unfolding inRange
+  plain-in-range e = rw (eq-eqb k bias e)
+
+  shown-in-range : k ≢ bias → inRange f y k ≡ (shown f zeroVar y k && shown f y zeroVar (roomAbove k))
+  unfolding inRange
+  shown-in-range n = rw (ne-eqb k bias n)
+
+  pub range-shown : {b r : Bool} → k ≢ bias → b ≡ shown f zeroVar y k → b ≡ true → r ≡ shown f y zeroVar (roomAbove k) → r ≡ inRange f y k
+  range-shown n s t e = e ∙ sym (shown-in-range n ∙ ap (λ (a : Bool). a && shown f y zeroVar (roomAbove k)) (sym s ∙ t))
+
+  pub range-lost : {b : Bool} → k ≢ bias → b ≡ shown f zeroVar y k → b ≡ false → false ≡ inRange f y k
+  range-lost n s t = sym (shown-in-range n ∙ ap (λ (a : Bool). a && shown f y zeroVar (roomAbove k)) (sym s ∙ t))
+
 -- ---- add
 
 module _ (f : FactSet) (x y k : ℕ) where
@@ -84,6 +102,29 @@ module _ (f : FactSet) (x y k : ℕ) where
   pub added-lowered : x ≤ 16 → y ≤ 16 → shown f x y k ≡ false → bias ≤ concatenated (sumAt f y x) k → added f x y k ≡ lowered f x y k
   unfolding added
   added-lowered hx hy s h = passed _ _ (le-ltb _ _ hx) ∙ passed _ _ (le-ltb _ _ hy) ∙ passed _ _ s ∙ passed _ _ (le-ltb _ _ h)
+
+-- ---- a variable anew
+
+module _ (f : FactSet) (x y up down : ℕ) where
+  pub anew-left : 15 < x → anew f x y up down ≡ f
+  unfolding anew
+  anew-left h = picked _ _ (lt-ltb _ _ h)
+
+  pub anew-right : x ≤ 15 → 16 < y → anew f x y up down ≡ f
+  unfolding anew
+  anew-right hx h = passed _ _ (le-ltb _ _ hx) ∙ picked _ _ (lt-ltb _ _ h)
+
+  pub anew-variable : x ≤ 15 → y ≤ 16 → anew f x y up down ≡ reassigned f x y up down
+  unfolding anew
+  anew-variable hx hy = passed _ _ (le-ltb _ _ hx) ∙ passed _ _ (le-ltb _ _ hy)
+
+-- A change, step by step.
+pub changed-steps : (f : FactSet) (c : Change) {g₀ g₁ g₂ g₃ : FactSet} → g₀ ≡ anew f (c .target) (c .base) (c .up) (c .down)
+    → g₁ ≡ addedFact g₀ (factAt (c .facts) 0) → g₂ ≡ addedFact g₁ (factAt (c .facts) 1) → g₃ ≡ addedFact g₂ (factAt (c .facts) 2) → g₃ ≡ changed f c
+unfolding changed addedFirst
+changed-steps f c e₀ e₁ e₂ e₃ =
+    let more : ℕ → FactSet → FactSet = λ n g. addedFact g (factAt (c .facts) n) in
+    e₃ ∙ ap (more 2) (e₂ ∙ ap (more 1) (e₁ ∙ ap (more 0) e₀))
 
 -- ---- drop, a range, shift
 

@@ -5,7 +5,7 @@ ghost use mathlib.Core.Path.{_≡_};
 ghost use mathlib.Core.Bool.{false};
 ghost use Prim.Native.Nat.{_<_};
 ghost use lib.ListN.{getD};
-ghost use Rattle.facts.specs.Store.{contradictory, leastSum, shown, endShown, newSet, added, reassigned, dropped, ranged, shifted, joined};
+ghost use Rattle.facts.specs.Store.{contradictory, leastSum, shown, endShown, inRange, newSet, added, reassigned, anew, changed, dropped, ranged, shifted, joined};
 
 mod rows;
 mod sums;
@@ -15,6 +15,23 @@ use rows::Row;
 pub struct FactSet {
     rows: [Row; 17],
     contradiction: bool,
+}
+
+// A fact x <= y + k, the sum k with the bias; where x or y is neither a variable nor zero it says nothing.
+pub struct Fact {
+    pub x: usize,
+    pub y: usize,
+    pub k: u64,
+}
+
+// What a statement or a condition does to the facts: the variable `target` anew, `base` - `down` <= `target` <= `base` + `up`, where it is one; then three facts
+// besides.
+pub struct Change {
+    pub target: usize,
+    pub base: usize,
+    pub up: u64,
+    pub down: u64,
+    pub facts: [Fact; 3],
 }
 
 impl FactSet {
@@ -75,6 +92,19 @@ impl FactSet {
         sums::concat(sums::concat(self.sum(q, r), self.sum(n, m)), k) <= j
     }
 
+    // 0 <= y + k <= 4,294,967,295 is shown; a plain copy always counts as shown.
+    pub fn in_range(self, y: usize, k: u64) -> bool
+        ensures { λ r. ⌜ r ≡ inRange self y k ⌝ }
+    {
+        if k == sums::BIAS {
+            return true;
+        }
+        if self.shows(16, y, k) {
+            return self.shows(y, 16, sums::room_above(k));
+        }
+        false
+    }
+
     // With x <= y + k besides. A fact that is shown already changes nothing.
     pub fn add(mut self, x: usize, y: usize, k: u64) -> FactSet
         ensures { λ r. ⌜ r ≡ added self x y k ⌝ }
@@ -114,6 +144,33 @@ impl FactSet {
         }
         self.rows[x] = own;
         self
+    }
+
+    // The variable x anew, if it is one.
+    fn renew(self, x: usize, y: usize, up: u64, down: u64) -> FactSet
+        ensures { λ r. ⌜ r ≡ anew self x y up down ⌝ }
+    {
+        if 15 < x {
+            return self;
+        }
+        if 16 < y {
+            return self;
+        }
+        self.reassign(x, y, up, down)
+    }
+
+    // The facts after a change.
+    pub fn after(self, change: Change) -> FactSet
+        ensures { λ r. ⌜ r ≡ changed self change ⌝ }
+    {
+        let facts = change.facts;
+        let first = facts[0];
+        let second = facts[1];
+        let third = facts[2];
+        self.renew(change.target, change.base, change.up, change.down)
+            .add(first.x, first.y, first.k)
+            .add(second.x, second.y, second.k)
+            .add(third.x, third.y, third.k)
     }
 
     // Without x: what is shown of the others, and what is always known of x.

@@ -1,7 +1,7 @@
 // Sums of chains, each kept as the natural number that is 2^33 more.
 ghost use mathlib.Core.Path.{_≡_};
 ghost use Prim.Native.Nat.{min, max};
-ghost use Rattle.facts.specs.Store.{pick, concatenated, negated};
+ghost use Rattle.facts.specs.Store.{pick, concatenated, negated, roomAbove};
 
 // The sum 0.
 pub const BIAS: u64 = 8589934592;
@@ -40,6 +40,16 @@ pub fn negate(a: u64) -> u64
         return 0;
     }
     17179869184 - a
+}
+
+// The greatest value less a: how far below the greatest value a variable stays that can be raised by a.
+pub fn room_above(a: u64) -> u64
+    ensures { λ r. ⌜ r ≡ roomAbove a ⌝ }
+{
+    if 21474836479 < a {
+        return 0;
+    }
+    21474836479 - a
 }
 
 pub fn least(a: u64, b: u64) -> u64

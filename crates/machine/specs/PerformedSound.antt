@@ -10,6 +10,7 @@ use lib.Dec.{leb, ltb, eqb}
 use lib.IntN.{ℤ}
 use lib.ListN.{getD, set, length-set}
 use lib.Seq.{getD-set-other}
+use Rattle.facts.specs.Store.{inRange}
 use Rattle.facts.specs.Numbers.{bias, maxValue}
 use Rattle.chains.specs.Sound.{Holds}
 use Rattle.facts.specs.declared.FactSet.{FactSet}
@@ -19,7 +20,7 @@ use Rattle.statements.specs.Typed.{SimpleTyped}
 use Rattle.statements.specs.declared.Simple.{Simple}
 use Rattle.statements.specs.declared.Simple.the-variants.{Literal, AddConstant, Arithmetic, Null, Address, PointerOffset, PointerIndex, Load, Store, Check}
 use Rattle.blocks.specs.Tree.{target}
-use Rattle.rules.specs.FactRules.{sumInRange, factsAfter, conditionFacts}
+use Rattle.rules.specs.FactRules.{factsAfter, conditionFacts}
 use Rattle.rules.specs.FactsTrue.{neither}
 use Rattle.rules.specs.BoundsRules.{declared, effectOn, boundsAfter, effect}
 use Rattle.rules.specs.BoundsTrue.{known-after}
@@ -126,7 +127,7 @@ module _ (T : List ℤ) (h : Sections) (E : Environment) (D cs : List ℕ) (S : 
   performed-good (AddConstant x y k) t r e =
       let a = (value (m .values) y + k) % 2 ^ 32 in
       record {
-        good = sum-left T h E D cs S F K m g x y k (t .target) (t .source) (sumInRange F y k) (eqb x y) refl refl;
+        good = sum-left T h E D cs S F K m g x y k (t .target) (t .source) (inRange F y k) (eqb x y) refl refl;
         agree = integer-agree T h E D cs S F K m g x a (t .target) (remainder-small (value (m .values) y + k));
       }
   performed-good (Arithmetic x y z op) t r e =

@@ -11,14 +11,14 @@ use lib.IntN.{ℤ}
 use lib.ListN.{length, getD, set, length-set}
 use lib.Seq.{getD-set-same, getD-set-other}
 use Rattle.facts.specs.Numbers.{bias, maxValue}
-use Rattle.facts.specs.Store.{dropped, ranged, shifted}
+use Rattle.facts.specs.Store.{inRange, dropped, ranged, shifted}
 use Rattle.chains.specs.Sound.{Holds, dropped-holds, ranged-holds, shifted-holds}
 use Rattle.facts.specs.declared.FactSet.{FactSet}
 use Rattle.sections.specs.Typed.{IsInteger, IsPointer}
 use Rattle.sections.specs.declared.Sections.{Sections}
 use Rattle.statements.specs.declared.Simple.{Simple}
 use Rattle.blocks.specs.Tree.{target}
-use Rattle.rules.specs.FactRules.{pickFacts, equated, sumInRange, sumFacts, offsetFacts, factsAfter}
+use Rattle.rules.specs.FactRules.{pickFacts, equated, sumFacts, offsetFacts, factsAfter}
 use Rattle.rules.specs.FactsTrue.{Agree, among-one, equated-holds, positive-holds, sum-in-range}
 use Rattle.rules.specs.BoundsRules.{pickEffect, pickBounds, objectLength, known, forgetBounds, objectBounds, effectOn, boundsAfter, effect}
 use Rattle.rules.specs.BoundsTrue.{BoundsHold, forget-holds, shift-holds, object-holds}
@@ -126,7 +126,7 @@ module _ (T : List ℤ) (h : Sections) (E : Environment) (D cs : List ℕ) (S : 
       abbrev sum : ℕ
       sum = (v y + k) % 2 ^ 32
 
-      pub sum-left : (f s : Bool) → sumInRange F y k ≡ f → eqb x y ≡ s
+      pub sum-left : (f s : Bool) → inRange F y k ≡ f → eqb x y ≡ s
           → Good h E D cs (sumFacts f s F x y k) (boundsAfter (pickEffect (f && s) (Shift x k) (Forget x)) K) (integerSet m x sum)
       unfolding sumFacts
       sum-left false s p q = integer-dropped x sum i (remainder-small (v y + k))

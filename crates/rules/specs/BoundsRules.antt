@@ -6,12 +6,11 @@ use lib.Dec.{leb, ltb, eqb}
 use lib.ListN.{getD}
 use Rattle.facts.specs.Numbers.{bias, zeroVar}
 use Rattle.facts.specs.Tabulate.{tabulate}
-use Rattle.facts.specs.Store.{shown, endShown}
+use Rattle.facts.specs.Store.{shown, endShown, inRange}
 use Rattle.facts.specs.declared.FactSet.{FactSet}
 use Rattle.statements.specs.declared.Simple.{Simple}
 use Rattle.statements.specs.declared.Simple.the-variants.{Literal, AddConstant, Arithmetic, Null, Address, PointerOffset, PointerIndex, Load, Store, Check}
 use Rattle.variables.specs.declared.End.{End}
-use Rattle.rules.specs.FactRules.{sumInRange}
 use Rattle.rules.specs.declared.KnownEnd.{KnownEnd}
 use Rattle.rules.specs.declared.KnownEnd.the-variants.{Known, Unknown}
 use Rattle.rules.specs.declared.Bounds.{Bounds}
@@ -95,7 +94,7 @@ boundsAfter e K = tabulate 16 (effectOn e K)
 -- What each kind does. The inverse exists for "kind 2 where facts are shifted" and for kind 6 with p = q.
 unfoldable pub effect : Environment → FactSet → Simple → Effect
 effect E f (Literal x k) = Forget x
-effect E f (AddConstant x y k) = pickEffect (sumInRange f y k && eqb x y) (Shift x k) (Forget x)
+effect E f (AddConstant x y k) = pickEffect (inRange f y k && eqb x y) (Shift x k) (Forget x)
 effect E f (Arithmetic x y z op) = Forget x
 -- "kind 4 leaves p's own": nothing new is put in their place.
 effect E f (Null p) = Forget p

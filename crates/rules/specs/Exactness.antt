@@ -10,7 +10,7 @@ use lib.Dec.{eqb}
 use lib.IntN.{ℤ}
 use Rattle.facts.specs.Numbers.{bias, maxValue, zeroVar}
 use Rattle.facts.specs.Tabulate.{getD-tabulate}
-use Rattle.facts.specs.Store.{contradictory, newSet, added, dropped, ranged, shifted, joined}
+use Rattle.facts.specs.Store.{inRange, contradictory, newSet, added, dropped, ranged, shifted, joined}
 use Rattle.facts.specs.StoreLaws.{mark-dropped}
 use Rattle.chains.specs.Facts.{Variables, Comparable, same-kind, from-zero, to-zero, Contradiction}
 use Rattle.chains.specs.Exact.{Exact}
@@ -34,7 +34,7 @@ use Rattle.statements.specs.declared.StatementRead.{StatementRead}
 use Rattle.statements.specs.declared.StatementRead.the-variants.{Read, Unread}
 use Rattle.flow.specs.Shape.{targetOf, targetsFrom}
 use Rattle.blocks.specs.Tree.{target}
-use Rattle.rules.specs.FactRules.{pickFacts, equated, positive, differs, relationFacts, conditionFacts, sumInRange, sumFacts, offsetFacts, factsAfter, among, droppedEach, loopFacts}
+use Rattle.rules.specs.FactRules.{pickFacts, equated, positive, differs, relationFacts, conditionFacts, sumFacts, offsetFacts, factsAfter, among, droppedEach, loopFacts}
 use Rattle.rules.specs.BoundsRules.{isPointer}
 use Rattle.rules.specs.Verdict.{environmentOf}
 
@@ -181,7 +181,7 @@ module _ (T : List ℤ) (h : Sections) (w : Limits h) where
   traced-after t c (Literal x k) s = traced-range variables t c x k k (s .target .below) (omega arith) (omega (arith, s .value))
   traced-after {f} t c (AddConstant x y k) s =
       let d = traced-drop variables t c x (s .target .below) in
-      traced-pick variables (sumInRange f y k)
+      traced-pick variables (inRange f y k)
       (traced-pick variables (eqb x y) (traced-shift variables t x k (s .target .below) (slight (s .constant)))
       (traced-equated variables d x y k (two-integers (s .target) (s .source)) (two-integers (s .source) (s .target))))
       d

@@ -4,7 +4,7 @@ use mathlib.Core.Bool.{Bool, true, false, _&&_, _||_}
 use mathlib.Core.List.{List, [], _∷_}
 use lib.Dec.{eqb}
 use Rattle.facts.specs.Numbers.{bias, maxValue, zeroVar}
-use Rattle.facts.specs.Store.{shown, added, dropped, ranged, shifted}
+use Rattle.facts.specs.Store.{inRange, added, dropped, ranged, shifted}
 use Rattle.facts.specs.declared.FactSet.{FactSet}
 use Rattle.conditions.specs.declared.Condition.{Condition}
 use Rattle.statements.specs.declared.Simple.{Simple}
@@ -38,13 +38,9 @@ relationFacts (suc (suc (suc (suc (suc n))))) f x y k = differs f x y k
 unfoldable pub conditionFacts : FactSet → Condition → FactSet
 conditionFacts f c = relationFacts (c .relation) f (c .left) (c .right) (c .offset)
 
--- "when 0 <= y + k <= 4,294,967,295 is shown"; "a plain copy always counts as shown"
-unfoldable pub sumInRange : FactSet → ℕ → ℕ → Bool
-sumInRange f y k = eqb k bias || shown f zeroVar y k && shown f y zeroVar (bias + maxValue + bias - k)
-
--- "Kind 2: when .. is shown, x equals y + k (for x = y the facts are shifted); otherwise drop x."
+-- "Kind 2: when 0 <= y + k <= 4,294,967,295 is shown (`inRange`), x equals y + k (for x = y the facts are shifted); otherwise drop x."
 unfoldable pub sumFacts : Bool → Bool → FactSet → ℕ → ℕ → ℕ → FactSet
-sumFacts inRange same f x y k = pickFacts inRange (pickFacts same (shifted f x k) (equated (dropped f x) x y k)) (dropped f x)
+sumFacts fits same f x y k = pickFacts fits (pickFacts same (shifted f x k) (equated (dropped f x) x y k)) (dropped f x)
 
 -- "Kind 6: p = q + k, shifted for p = q; where k is not 0 also p >= 1."
 unfoldable pub offsetFacts : Bool → Bool → FactSet → ℕ → ℕ → ℕ → FactSet
@@ -56,7 +52,7 @@ offsetFacts same plain f p q k =
 unfoldable pub factsAfter : Simple → FactSet → FactSet
 -- "Kind 1: drop x, then x equals the literal."
 factsAfter (Literal x k) f = ranged f x k k
-factsAfter (AddConstant x y k) f = sumFacts (sumInRange f y k) (eqb x y) f x y k
+factsAfter (AddConstant x y k) f = sumFacts (inRange f y k) (eqb x y) f x y k
 -- "Kinds 3, 8 and any later kind that sets an integer: drop x."
 factsAfter (Arithmetic x y z op) f = dropped f x
 -- "Kind 4: p = 0." As "every assignment drops its target before facts are added".

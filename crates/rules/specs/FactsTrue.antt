@@ -9,12 +9,12 @@ use native.Mathlib.Nat.{eq-or-lt-of-le}
 use borrow.Author.Tests.{ltb-true, ltb-false, lt-ltb, le-ltb, eqb-true, eqb-false}
 use lib.Dec.{ltb, eqb}
 use Rattle.facts.specs.Numbers.{bias, maxValue, zeroVar}
-use Rattle.facts.specs.Store.{pick, shown, added, dropped}
+use Rattle.facts.specs.Store.{pick, shown, inRange, added, dropped}
 use Rattle.chains.specs.Sound.{InRange, True, Holds, Except, added-holds, dropped-holds}
 use Rattle.facts.specs.declared.FactSet.{FactSet}
 use Rattle.sections.specs.SectionsLaws.{both}
 use Rattle.sections.specs.NameLaws.{either}
-use Rattle.rules.specs.FactRules.{pickFacts, equated, positive, sumInRange, among, droppedEach, loopFacts}
+use Rattle.rules.specs.FactRules.{pickFacts, equated, positive, among, droppedEach, loopFacts}
 
 -- Neither of two tests holds.
 pub neither : (a b : Bool) → (a || b) ≡ false → (a ≡ false) × (b ≡ false)
@@ -62,8 +62,8 @@ module _ (f : FactSet) (v : ℕ → ℕ) (g : InRange v) (h : Holds f v) where
   positive-holds x p = added-holds f v g h zeroVar x _ (λ a b. omega (arith, g .zero-is))
 
   -- Where the sum is shown to be in range, it is.
-  pub sum-in-range : (y k : ℕ) → y < 17 → sumInRange f y k ≡ true → (bias ≤ v y + k) × (v y + k ≤ bias + maxValue)
-  unfolding sumInRange
+  pub sum-in-range : (y k : ℕ) → y < 17 → inRange f y k ≡ true → (bias ≤ v y + k) × (v y + k ≤ bias + maxValue)
+  unfolding inRange
   sum-in-range y k hy e = go (either (eqb k bias) (shown f zeroVar y k && shown f y zeroVar (bias + maxValue + bias - k)) e)
     where
       go : (eqb k bias ≡ true) ⊎ ((shown f zeroVar y k && shown f y zeroVar (bias + maxValue + bias - k)) ≡ true) → (bias ≤ v y + k) × (v y + k ≤ bias + maxValue)

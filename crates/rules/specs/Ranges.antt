@@ -7,10 +7,10 @@ use Rattle.rules.specs.declared.Environment.{Environment}
 use Rattle.rules.specs.declared.Effect.{Effect}
 use Rattle.rules.specs.declared.Effect.the-variants.{Keep, Forget, Shift, Copy, Object}
 
--- The numbers of a statement are in the ranges that sums of 64 bits allow, and a pointer that is copied is a variable.
+-- The numbers of a statement are in the ranges that sums of 64 bits allow, and what is copied or moved is a variable.
 abbrev pub InRange : Simple → Type 0
 InRange (Literal x k) = k < 2 ^ 32
-InRange (AddConstant x y k) = k < 2 ^ 34
+InRange (AddConstant x y k) = (k < 2 ^ 34) × (y < 16)
 InRange (Arithmetic x y z op) = Unit
 InRange (Null p) = Unit
 InRange (Address p o) = Unit

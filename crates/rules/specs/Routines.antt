@@ -2,7 +2,7 @@
 use mathlib.Core.Path.{_≡_, refl}
 use mathlib.Core.List.{List, [], _∷_, map}
 use lib.IntN.{ℤ, pos, negsuc}
-use Rattle.facts.specs.Store.{concatenated, leastSum, shown, endShown, newRow, newSet, loweredRow, lowered, marked, added, ownRow, reroutedRow, reassigned, ranged, dropped, shifted, joinedSum, joinedRow, joined}
+use Rattle.facts.specs.Store.{concatenated, leastSum, shown, endShown, inRange, newRow, newSet, loweredRow, lowered, marked, added, ownRow, reroutedRow, reassigned, ranged, dropped, shifted, joinedSum, joinedRow, joined}
 use Rattle.facts.specs.Tabulate.{tabulate}
 use Rattle.words.specs.Words.{fieldsAt, biased, word}
 use Rattle.fields.specs.Fields.{indexOf, isBelow, isLiteral, literalValue, isConstant}
@@ -16,7 +16,7 @@ use Rattle.blocks.specs.Layout.{also, when, contents, bundleLayout, blockLayout
 use Rattle.flow.specs.Shape.{size, targetsFrom}
 use Rattle.blocks.specs.Tree.{simples, parse, tree, targets, assigned}
 use Rattle.rules.specs.BoundsRules.{forgetEnd, shiftConstant, shiftEnd, forgetBounds, shiftBounds, objectBounds, effectOn, boundsAfter, effect, endAtMost, knownAtMost, boundsShown, unshownFrom, unshown, accessShown}
-use Rattle.rules.specs.FactRules.{equated, positive, differs, relationFacts, conditionFacts, sumInRange, sumFacts, offsetFacts, factsAfter, among, droppedEach, loopFacts}
+use Rattle.rules.specs.FactRules.{equated, positive, differs, relationFacts, conditionFacts, sumFacts, offsetFacts, factsAfter, among, droppedEach, loopFacts}
 use Rattle.rules.specs.Rules.{also as checker-also, faultIf, accessAt, boundsAt, bundleFacts, bundleBounds, bundleFaults, blockFacts, blockFaults}
 use Rattle.rules.specs.Verdict.{environmentOf, sectionFaults, faults, Answers, lowestVerdict}
 use Rattle.refusals.specs.declared.Refusal.the-variants.{Contradiction, BoundsNotShown, BundleAccess}
@@ -71,5 +71,5 @@ routines =
     []
 
 pub right : map (λ (r : Routine). lowestVerdict (faults (r .table))) routines ≡ map (λ (r : Routine). r .verdict) routines
-unfolding routines concatenated leastSum shown endShown newRow newSet loweredRow lowered marked added ownRow reroutedRow reassigned ranged dropped shifted joinedSum joinedRow joined tabulate lengthRight isNumber sectionsOf directoryRight objectRight variableReads statementReads lowestFrom lowestObject lowestVariable lowestStatement itemsForm formOf negation negatedOf inLimits isVariable kindAt integerAt pointerAt namesInteger namesPointer namesIndex fieldsAt unusedFrom literalRead addConstantRead arithmeticRead nullRead addressRead pointerOffsetRead pointerIndexRead loadRead storeRead sameKind besideLiteral conditionRight rightOf offsetOf conditionOf bundleRead checkRead ifRead whileRead kindRead statementAt endWordsAt variableWordsAt endRight endZero endOf integerRecord pointerRecord variableOf variableAt objectAt biased word indexOf isBelow isLiteral literalValue isConstant also when contents bundleLayout blockLayout layout verdict size targetsFrom simples parse tree targets assigned forgetEnd shiftConstant shiftEnd forgetBounds shiftBounds objectBounds effectOn boundsAfter effect endAtMost knownAtMost boundsShown unshownFrom unshown accessShown equated positive differs relationFacts conditionFacts sumInRange sumFacts offsetFacts factsAfter among droppedEach loopFacts checker-also faultIf accessAt boundsAt bundleFacts bundleBounds bundleFaults blockFacts blockFaults environmentOf sectionFaults faults Answers lowestVerdict
+unfolding routines concatenated leastSum shown endShown newRow newSet loweredRow lowered marked added ownRow reroutedRow reassigned ranged dropped shifted joinedSum joinedRow joined tabulate lengthRight isNumber sectionsOf directoryRight objectRight variableReads statementReads lowestFrom lowestObject lowestVariable lowestStatement itemsForm formOf negation negatedOf inLimits isVariable kindAt integerAt pointerAt namesInteger namesPointer namesIndex fieldsAt unusedFrom literalRead addConstantRead arithmeticRead nullRead addressRead pointerOffsetRead pointerIndexRead loadRead storeRead sameKind besideLiteral conditionRight rightOf offsetOf conditionOf bundleRead checkRead ifRead whileRead kindRead statementAt endWordsAt variableWordsAt endRight endZero endOf integerRecord pointerRecord variableOf variableAt objectAt biased word indexOf isBelow isLiteral literalValue isConstant also when contents bundleLayout blockLayout layout verdict size targetsFrom simples parse tree targets assigned forgetEnd shiftConstant shiftEnd forgetBounds shiftBounds objectBounds effectOn boundsAfter effect endAtMost knownAtMost boundsShown unshownFrom unshown accessShown equated positive differs relationFacts conditionFacts inRange sumFacts offsetFacts factsAfter among droppedEach loopFacts checker-also faultIf accessAt boundsAt bundleFacts bundleBounds bundleFaults blockFacts blockFaults environmentOf sectionFaults faults Answers lowestVerdict
 right = refl

@@ -4,7 +4,7 @@ use Prim.Native.Nat.{_-_}
 use native.Mathlib.Omega.{arith}
 use Rattle.facts.specs.Tabulate.{Filled, filled-none, filled-more, filled-whole, length-under}
 use Rattle.rules.specs.BoundsRules.{effectOn, boundsAfter}
-use Rattle.bounds.specs.BoundsRulesLaws.{source-below, source-within, effect-on-read}
+use Rattle.bounds.specs.BoundsRulesLaws.{all-kept, source-below, source-within, effect-on-read}
 use Rattle.bounds.proofs.bounds_after.Statement.{statement}
 use Rattle.bounds.proofs.bounds_after.Tie as tie
 
@@ -20,9 +20,11 @@ bounds-after-spec =
     tie.close
     (tie.spec
     Inv-loop μ-loop (λ c κs. search needs)
-    (λ c. omega (arith, c .source-of .ensures, source-below (c .before .args .effect) (c .before .pre)))
-    (λ c. omega (arith, c .source-of .ensures, source-below (c .before .args .effect) (c .before .pre)))
+    (λ c. all-kept _ _ (search (length-under, needs)) (c .before .keeps-all .ensures) (c .if1 .taken))
+    (λ c κs. search needs)
+    (λ c. omega (arith, c .source-of .ensures, source-below (c .before .before .before .args .effect) (c .before .before .before .pre)))
+    (λ c. omega (arith, c .source-of .ensures, source-below (c .before .before .before .args .effect) (c .before .before .before .pre)))
     (λ c. filled-none _ _ _ (search (length-under, needs)))
     (λ c. search needs) (λ c. search needs) (λ c κs. search needs) (λ c. search needs) (λ c. search needs) (λ c. search needs) (λ c. search needs)
-    (λ c. filled-more (c .before .before .before .loop .inv) (search needs) (effect-on-read _ _ _ (c .before .before .before .before .before .source-of .result) (search (length-under, needs)) (source-within (c .before .before .before .before .before .before .args .t2 .each) (c .before .before .before .before .before .before .args .effect) (c .before .before .before .before .before .source-of .ensures) (c .before .before .before .before .before .before .pre) (search (length-under, needs))) (c .before .before .before .before .before .source-of .ensures) (c .effect-on .ensures)))
+    (λ c. filled-more (c .before .before .before .loop .inv) (search needs) (effect-on-read _ _ _ (c .before .before .before .before .before .source-of .result) (search (length-under, needs)) (source-within (c .before .before .before .before .before .before .before .before .args .t2 .each) (c .before .before .before .before .before .before .before .before .args .effect) (c .before .before .before .before .before .source-of .ensures) (c .before .before .before .before .before .before .before .before .pre) (search (length-under, needs))) (c .before .before .before .before .before .source-of .ensures) (c .effect-on .ensures)))
     (λ c. filled-whole (c .before .loop .inv) (c .loop-test .left)))

@@ -1,17 +1,16 @@
 -- `bounds::bounds_shown` meets its contract.
 use borrow.Author.Needs.{needs}
 use mathlib.Core.Path.{sym, _∙_}
-use Rattle.rules.specs.BoundsRules.{boundsShown}
+use mathlib.Core.Logic.{inl, inr, ⊎-elim}
+use Rattle.bounds.specs.BoundsRulesLaws.{ends-shown, null-shown}
 use Rattle.bounds.proofs.bounds_shown.Statement.{statement}
 use Rattle.bounds.proofs.bounds_shown.Tie as tie
 
 pub bounds-shown-spec : {M : Type 1} → statement M
-unfolding boundsShown
 bounds-shown-spec =
     tie.close
     (tie.spec
-    (λ c κs. search needs)
-    (λ c. simp (sym (c .before .shows .ensures) ∙ c .if1 .taken))
     (λ c κs. search needs) (λ c κs. search needs)
-    (λ c. simp (sym (c .before .before .before .before .shows .ensures) ∙ c .before .before .before .if1 .left, sym (c .before .before .known-at-most .ensures) ∙ c .before .if2 .taken) (c .known-at-most2 .ensures))
-    (λ c. simp (sym (c .before .before .before .shows .ensures) ∙ c .before .before .if1 .left, sym (c .before .known-at-most .ensures) ∙ c .if2 .left)))
+    (λ c. sym (ends-shown _ _ _ _ (sym (c .before .before .before .known-at-most .ensures) ∙ c .before .before .if1 .taken) (sym (c .before .known-at-most2 .ensures) ∙ c .if2 .taken)))
+    (λ c κs. search needs)
+    (λ c. null-shown _ _ _ _ (⊎-elim (λ w. inr (sym (w .1 .ensures) ∙ w .2 .left)) (λ w. inl (sym (c .before .before .known-at-most .ensures) ∙ w .left)) (c .before .if1 .came)) (c .shows .ensures)))

@@ -10,9 +10,9 @@ pub add-constant-spec : {M : Type 1} → statement M
 add-constant-spec =
     tie.close
     (tie.spec
-    (λ c κs. search needs) (λ c κs. search needs)
-    (λ c. sum-dropped _ _ _ _ _ (sym (c .before .before .in-range .ensures) ∙ not-true _ (c .before .if1 .taken)) (c .drop .ensures))
     (λ c κs. search needs)
-    (λ c. sum-shifted _ _ _ _ _ (sym (c .before .before .before .in-range .ensures) ∙ not-false _ (c .before .before .if1 .left)) (c .before .if2 .taken) (c .shift .ensures))
-    (λ c κs. search needs) (λ c κs. search needs) (λ c. search needs) (λ c. search needs) (λ c κs. search needs)
-    (λ c. sum-equated _ _ _ _ _ (sym (c .before .before .before .before .before .in-range .ensures) ∙ not-false _ (c .before .before .before .before .if1 .left)) (c .before .before .before .if2 .left) (c .before .before .drop2 .ensures) (c .before .add .ensures) (c .add2 .ensures)))
+    (λ c f r. sum-dropped _ f _ _ _ (sym r ∙ not-true _ (c .before .if1 .taken)) (c .forget .ensures f))
+    (λ c κs. search needs) (λ c κs. search needs)
+    (λ c f r. sum-shifted _ f _ _ _ (sym r ∙ not-false _ (c .before .before .before .if1 .left)) (c .before .before .if2 .taken) (c .shift .ensures f ∙ c .before .no-fact .ensures _))
+    (λ c κs. search needs) (λ c κs. search needs)
+    (λ c f r. sum-equated _ f _ _ _ (sym r ∙ not-false _ (c .before .before .before .if1 .left)) (c .before .before .if2 .left) (c .equal .ensures f ∙ c .before .no-fact2 .ensures _)))
