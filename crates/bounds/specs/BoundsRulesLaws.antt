@@ -177,7 +177,7 @@ stays-shown f (Object v n) K p h =
     stay-keeps f v (known K p) (t .1) p _ (ap (λ (b : Bool). pickBounds b (objectBounds v n) (forgetBounds v (known K p))) (not-true (eqb p v) (t .0)) ∙ stay-forgotten f v (known K p) (t .1))
 
 -- The two numbers of an effect say which bounds it leaves as they are: no pointer has the number 17.
-left-alone : (e : Effect) (p : ℕ) (b : Bounds) → p < 16 → leftAlone (changedBy e) (replacedBy e) p b ≡ stays e p b
+pub left-alone : (e : Effect) (p : ℕ) (b : Bounds) → p < 16 → leftAlone (changedBy e) (replacedBy e) p b ≡ stays e p b
 unfolding leftAlone stays
 left-alone Keep p b h = ap (λ (t : Bool). not t && boundsStay 17 b) (ne-eqb p 17 (λ e. omega arith))
 left-alone (Forget v) p b h = ap (λ (t : Bool). not t && boundsStay v b) (ne-eqb p 17 (λ e. omega arith))

@@ -1,2 +1,3 @@
-pub mod Stays
 pub mod BoundsRulesLaws
+pub mod NamedLaws
+pub mod Stays

@@ -1,7 +1,10 @@
 -- What the functions of this crate give back, in terms of the rules: an effect on one pointer's bounds, bounds that stay, bounds that are the same.
 use Prim.Native.Nat.{ℕ, zero, suc, _+_}
 use mathlib.Core.Bool.{Bool, true, false, not, _&&_, _||_}
+use mathlib.Core.List.{List}
 use lib.Dec.{eqb}
+use lib.ListN.{getD}
+use Rattle.facts.specs.Tabulate.{tabulate}
 use Rattle.rules.specs.BoundsRules.{pickBounds, isPointer, declared, names, forgetBounds, shiftBounds, objectBounds, sameEnd}
 use Rattle.rules.specs.declared.KnownEnd.{KnownEnd}
 use Rattle.rules.specs.declared.KnownEnd.the-variants.{Known, Unknown}
@@ -80,6 +83,14 @@ touchedFrom E e (suc n) p = touchedAt E e p || touchedFrom E e n (p + 1)
 
 unfoldable pub touched : Environment → Effect → Bool
 touched E e = touchedFrom E e 16 0
+
+-- For each variable, and 17 for none, whether it touches some pointer's declared bounds to forget it.
+unfoldable pub namedIn : Environment → List Bool
+namedIn E = tabulate 18 (λ v. touched E (Forget v))
+
+-- The same as `touched`, told from those flags and the kinds of the variables.
+unfoldable pub touches : List Bool → List Bool → Effect → Bool
+touches named pointers e = getD named (changedBy e) true || getD pointers (replacedBy e) false
 
 -- Both ends are known and the same.
 unfoldable pub sameKnown : KnownEnd → KnownEnd → Bool

@@ -11,13 +11,14 @@ use statements::Simple;
 use variables::End;
 use words::BIAS;
 ghost use mathlib.Core.Path.{_≡_};
+ghost use mathlib.Core.Bool.{true, false};
 ghost use Prim.Native.Nat.{_^_, _<_};
 ghost use lib.ListN.{getD};
 ghost use Rattle.rules.specs.BoundsRules.{nothingKnown, names, forgetEnd, shiftConstant, shiftEnd, forgetBounds, shiftBounds, objectBounds, boundsAfter, sameEnd, endAtMost, knownAtMost, boundsShown, unshown, accessShown};
 ghost use Rattle.rules.specs.Rules.{boundsAt};
 ghost use Rattle.rules.specs.Verdict.{lowestVerdict};
 ghost use Rattle.rules.specs.Ranges.{Short};
-ghost use Rattle.bounds.specs.Stays.{endStays, boundsStay, leftAlone, changedBy, replacedBy, touched, sameKnown, sameBounds, keepsAll, sourceOf, effectOnOne};
+ghost use Rattle.bounds.specs.Stays.{endStays, boundsStay, leftAlone, changedBy, replacedBy, touched, namedIn, touches, sameKnown, sameBounds, keepsAll, sourceOf, effectOnOne};
 
 // The known bounds of each pointer, inside a bundle.
 pub struct KnownBounds {
@@ -342,7 +343,7 @@ fn left_alone(changed: usize, replaced: usize, p: usize, declared: Bounds) -> bo
 }
 
 // Some pointer's declared bounds have to be shown again after the effect; where none have, `check_effect` accepts with any facts.
-pub fn touches(environment: Environment, effect: Effect) -> bool
+fn spoils(environment: Environment, effect: Effect) -> bool
     ensures { λ r. ⌜ r ≡ touched environment effect ⌝ }
 {
     let changed = changed_by(effect);
@@ -355,6 +356,48 @@ pub fn touches(environment: Environment, effect: Effect) -> bool
         p += 1;
     }
     false
+}
+
+// For each variable, whether some pointer's declared bounds name it; for 17, whether some are not known. Made once, since an environment is large to pass.
+pub struct Named {
+    pub each: [bool; 18],
+}
+
+pub fn named_in(environment: Environment) -> Named
+    ensures { λ r. ⌜ r .each ≡ namedIn environment ⌝ }
+{
+    let mut named = Named { each: [false; 18] };
+    for v in 0..18 {
+        named.each[v] = spoils(environment, Effect::Forget { target: v });
+    }
+    named
+}
+
+// Whether the declared bounds of some pointer name v, or perhaps do.
+fn may_be_named(named: Named, v: usize) -> bool
+    ensures { λ r. ⌜ r ≡ getD (named .each) v true ⌝ }
+{
+    if v < 18 {
+        return named.each[v];
+    }
+    true
+}
+
+// p is a pointer.
+fn is_pointer(pointers: [bool; 17], p: usize) -> bool
+    ensures { λ r. ⌜ r ≡ getD pointers p false ⌝ }
+{
+    if p < 17 {
+        return pointers[p];
+    }
+    false
+}
+
+// Some pointer's declared bounds have to be shown again after the effect: they name what it changes, or it replaces them.
+pub fn touches(named: Named, pointers: [bool; 17], effect: Effect) -> bool
+    ensures { λ r. ⌜ r ≡ touches (named .each) pointers effect ⌝ }
+{
+    may_be_named(named, changed_by(effect)) | is_pointer(pointers, replaced_by(effect))
 }
 
 // The first pointer whose declared bounds are not shown after the effect, where the declared bounds were the known ones.

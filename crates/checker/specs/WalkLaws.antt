@@ -1,7 +1,7 @@
 -- The walk over a block, one statement at a time, as the code meets it.
 use Prim.Native.Nat.{ℕ, _+_, _-_, _^_, _<_, _≤_}
 use mathlib.Core.Path.{_≡_, refl, sym, _∙_, ap, ap₂}
-use mathlib.Core.Bool.{true, false}
+use mathlib.Core.Bool.{Bool, true, false}
 use mathlib.Core.List.{List, []}
 use native.Mathlib.Omega.{arith}
 use lib.IntN.{ℤ}
@@ -28,8 +28,8 @@ use Rattle.rules.specs.Rules.{Fault, also, faultIf, boundsAt, bundleFacts, bund
 use Rattle.rules.specs.Verdict.{lowestVerdict}
 use Rattle.rules.specs.Ranges.{InRange}
 use Rattle.effects.specs.Applied.{Applied, applied}
-use Rattle.bounds.specs.Stays.{touched}
-use Rattle.bounds.specs.BoundsRulesLaws.{untouched}
+use Rattle.bounds.specs.Stays.{namedIn, touches}
+use Rattle.bounds.specs.NamedLaws.{unnamed}
 use Rattle.checker.specs.Walk.{WalksBundle, Walks}
 use Rattle.effects.specs.FactRulesLaws.{read-ranged}
 use Rattle.rules.specs.declared.Environment.{Environment}
@@ -193,10 +193,10 @@ module _ {T : List ℤ} {h : Sections} {E : Environment} {end allowed : ℕ} {b 
     turn-plain x = next u (here (Plain p) u calm ∙ pass _ _ (none-refused _ shown-here x)) (whole-facts (Plain p) u) (applied-facts E f p e)
 
   -- Nothing has to be shown again.
-  pub turn-untouched : {p : Simple} → Turn T h E end allowed b f₀ at left f (Plain p) → contradictory f ≡ false → {d : Applied} → d ≡ applied (E .lengths) f p → touched E (d .effect) ≡ false
-      → Kept T h E end allowed b f₀ (at + 1) (left - 1) (d .facts)
+  pub turn-untouched : {p : Simple} → Turn T h E end allowed b f₀ at left f (Plain p) → contradictory f ≡ false → {d : Applied} → d ≡ applied (E .lengths) f p
+      → {named : List Bool} → named ≡ namedIn E → touches named (E .pointers) (d .effect) ≡ false → Kept T h E end allowed b f₀ (at + 1) (left - 1) (d .facts)
   unfolding boundsAt lowestVerdict
-  turn-untouched u calm {d} e x = turn-plain u calm e {v = Accepted} (sym (ap (λ (ps : List ℕ). lowestVerdict (boundsAt at ps)) (untouched E (d .effect) x (d .facts)))) refl
+  turn-untouched u calm {d} e r x = turn-plain u calm e {v = Accepted} (sym (ap (λ (ps : List ℕ). lowestVerdict (boundsAt at ps)) (unnamed E (d .effect) r x (d .facts)))) refl
 
   module _ {c : Condition} {n m : ℕ} (u : Turn T h E end allowed b f₀ at left f (If c n m)) (calm : contradictory f ≡ false)
       {g : FactSet} (e : g ≡ conditionFacts f c) {r : Walked} (w : Walks T h E (rest T h left (at + 1) (at + 1 + n)) g r) where

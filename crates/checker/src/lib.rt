@@ -3,6 +3,7 @@ mod walk; // walk.rt: the walk over the statements
 
 use blocks::Layout;
 use blocks::read_layout;
+use bounds::named_in;
 use facts::FactSet;
 use rules::Verdict;
 use rules::read_environment;
@@ -23,10 +24,12 @@ fn check_sections(table: &[i32], sections: Sections) -> Verdict
         Layout::Refused(refusal) => Verdict::Refused(refusal),
         Layout::LaidOut => {
             let statements = sections.statements;
+            let environment = read_environment(table, sections);
             let walked = walk::walk(
                 table,
                 sections,
-                read_environment(table, sections),
+                environment,
+                named_in(environment),
                 0,
                 statements,
                 statements,

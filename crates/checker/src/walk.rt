@@ -1,5 +1,6 @@
 // The walk over the statements.
 use bounds::KnownBounds;
+use bounds::Named;
 use bounds::access_shown;
 use bounds::bounds_after;
 use bounds::check_effect;
@@ -18,11 +19,13 @@ use rules::Verdict;
 use sections::Sections;
 use statements::Statement;
 use statements::StatementRead;
+ghost use mathlib.Core.Path.{_≡_};
 ghost use Prim.Native.Nat.{_+_, _^_, _<_};
 ghost use Rattle.blocks.specs.Tree.{simples, parse};
 ghost use Rattle.rules.specs.BoundsRules.{unshown};
 ghost use Rattle.rules.specs.Rules.{boundsAt};
 ghost use Rattle.rules.specs.Ranges.{Measured};
+ghost use Rattle.bounds.specs.Stays.{namedIn};
 ghost use Rattle.checker.specs.Walk.{Walks, Passes, WalksBundle};
 
 // The verdict on a block, and the facts after it where nothing is refused.
@@ -62,10 +65,10 @@ fn walk_bundle(
     while left > 0 {
         let got = read_due(table, sections, at);
         let StatementRead::Read(statement) = got else {
-            return end_bundle(environment, head, facts, known);
+            break;
         };
         let Statement::Plain(simple) = statement else {
-            return end_bundle(environment, head, facts, known);
+            break;
         };
         if facts.contradicts() {
             return Walked {
@@ -91,17 +94,19 @@ fn walk_bundle(
     end_bundle(environment, head, facts, known)
 }
 
-// The block of `first` to `end` - 1 from the facts `given`. `allowed` is at least the number of its statements; it falls at each.
+// The block of `first` to `end` - 1 from the facts `given`. `allowed` is at least the number of its statements; it falls at each. The fact set is changed in
+// place by its own methods alone: a function in between would copy it in and out.
 pub(crate) fn walk(
     table: &[i32],
     sections: Sections,
     environment: Environment,
+    named: Named,
     first: usize,
     end: usize,
     allowed: usize,
     given: FactSet,
 ) -> Walked
-    requires { ⌜ Measured environment ⌝ }
+    requires { ⌜ Measured environment × (named .each ≡ namedIn environment) ⌝ }
     ensures { λ r. ⌜ Walks (now (table .entry)) sections environment (parse allowed (now (table .entry)) sections first end) given r ⌝ }
 {
     let lengths = environment.lengths;
@@ -135,7 +140,7 @@ pub(crate) fn walk(
                 let plan = plan_statement(lengths, simple, fits);
                 let effect = plan.effect;
                 facts = facts.after(plan.change);
-                if touches(environment, effect) {
+                if touches(named, pointers, effect) {
                     let verdict = check_effect(environment, facts, effect, at);
                     let Verdict::Accepted = verdict else {
                         return Walked { verdict, facts };
@@ -154,6 +159,7 @@ pub(crate) fn walk(
                     table,
                     sections,
                     environment,
+                    named,
                     inner,
                     middle,
                     left,
@@ -167,6 +173,7 @@ pub(crate) fn walk(
                     table,
                     sections,
                     environment,
+                    named,
                     middle,
                     rest,
                     left,
@@ -187,6 +194,7 @@ pub(crate) fn walk(
                     table,
                     sections,
                     environment,
+                    named,
                     inner,
                     rest,
                     left,

@@ -8,7 +8,7 @@ pub check-sections-spec : {M : Type 1} → statement M
 check-sections-spec =
     tie.close
     (tie.spec
-    (λ c κs. search needs) (λ c. search needs) (λ c. search needs) (λ c κs. search needs) (λ c κs. search needs)
-    (λ c κs. measured _ _ (c .before .before .before .before .before .pre) (c .before .read-environment .ensures))
+    (λ c κs. search needs) (λ c. search needs) (λ c. search needs) (λ c κs. search needs) (λ c κs. search needs) (λ c κs. search needs)
+    (λ c κs. (measured _ _ (c .before .before .before .before .before .before .pre) (c .before .before .read-environment .ensures), c .before .named-in .ensures))
     (λ c. section-refused _ _ (c .before .before .before .read-layout .ensures) (c .before .layout .given .1))
-    (λ c. section-walked _ _ (c .before .before .before .before .before .read-layout .ensures) (c .before .before .before .enum-told .given .1) (c .before .before .read-environment .ensures) (c .before .new .ensures) (c .walk .ensures)))
+    (λ c. section-walked _ _ (c .before .before .before .before .before .before .read-layout .ensures) (c .before .before .before .before .enum-told .given .1) (c .before .before .before .read-environment .ensures) (c .before .new .ensures) (c .walk .ensures)))

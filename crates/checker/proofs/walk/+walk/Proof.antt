@@ -30,7 +30,7 @@ use Rattle.checker.proofs.walk.+walk.{statement}
 use Rattle.checker.proofs.walk.+walk.Tie.{close}
 
 abbrev μ-walk : Measures 1 walk-kinds.ps ℕ
-μ-walk κs a = a .1 .1 .1 .1 .1 .0
+μ-walk κs a = a .1 .1 .1 .1 .1 .1 .0
 
 abbrev walk-at : ℕ → In 1 walk-kinds.ps
 walk-at t = and 1 walk-kinds.ps (is 1 walk-kinds.ps μ-walk t) walk.Pre
@@ -42,10 +42,10 @@ abbrev callees : ℕ → walk-lts.Claims
 callees t = (read-due-reads.Asked, read-due-reads.Learnt, contradicts-reads.Asked, contradicts-reads.Learnt, asked-sum-reads.Asked, asked-sum-reads.Learnt, in-range-reads.Asked, in-range-reads.Learnt, plan-statement-reads.Asked, plan-statement-reads.Learnt, after-reads.Asked, after-reads.Learnt, touches-reads.Asked, touches-reads.Learnt, check-effect-reads.Asked, check-effect-reads.Learnt, assume-reads.Asked, assume-reads.Learnt, walk-below t, walk.Post, negated-reads.Asked, negated-reads.Learnt, join-reads.Asked, join-reads.Learnt, lose-reads.Asked, lose-reads.Learnt, walk-bundle-reads.Asked, walk-bundle-reads.Learnt)
 
 abbrev Inv : walk-lts.InvT-loop
-Inv table sections environment first end allowed lengths pointers at₀ left₀ facts₀ at left facts = Kept table sections environment end allowed (parse allowed table sections first end) facts₀ at left facts
+Inv table sections environment named first end allowed lengths pointers at₀ left₀ facts₀ at left facts = Kept table sections environment end allowed (parse allowed table sections first end) facts₀ at left facts
 
 abbrev μ : walk-lts.MeasureT-loop
-μ table sections environment first end allowed lengths pointers at₀ left₀ facts₀ at left facts = left
+μ table sections environment named first end allowed lengths pointers at₀ left₀ facts₀ at left facts = left
 
 -- the turn, once its statement is read
 turn : (t : ℕ) (d : walk-lts.After-contradicts (callees t) (walk-at t) walk.Post Inv μ)
@@ -71,13 +71,13 @@ pub +walk-spec : {M : Type 1} → statement M
     (λ c κs. search needs) (λ c κs. search needs)
     (λ c κs. plain-ranged (arm (turn t (c .before .before .before .before .before .before)) (c .before .before .before .statement .given .1)))
     (λ c κs. search needs) (λ c κs. search needs)
-    (λ c κs. applied-short (c .before .before .before .before .before .before .before .before .before .before .before .before .before .before .before .before .before .before .before .before .args .environment) _ _ (carried-out _ _ _ _ (c .before .before .before .before .before .asked-sum .ensures) (c .before .before .before .before .in-range .ensures) (c .before .before .before .plan-statement .ensures) (c .before .before .after .ensures)) (c .before .before .before .before .before .before .before .before .before .before .before .before .before .before .before .before .before .before .before .before .pre .1) (plain-ranged (arm (turn t (c .before .before .before .before .before .before .before .before .before .before)) (c .before .before .before .before .before .before .before .statement .given .1))))
+    (λ c κs. applied-short (c .before .before .before .before .before .before .before .before .before .before .before .before .before .before .before .before .before .before .before .before .args .environment) _ _ (carried-out _ _ _ _ (c .before .before .before .before .before .asked-sum .ensures) (c .before .before .before .before .in-range .ensures) (c .before .before .before .plan-statement .ensures) (c .before .before .after .ensures)) (c .before .before .before .before .before .before .before .before .before .before .before .before .before .before .before .before .before .before .before .before .pre .1 .0) (plain-ranged (arm (turn t (c .before .before .before .before .before .before .before .before .before .before)) (c .before .before .before .before .before .before .before .statement .given .1))))
     (λ c. search needs) (λ c. search needs)
     (λ c. plain-refused (arm (turn t (c .before .before .before .before .before .before .before .before .before .before .before .before .before)) (c .before .before .before .before .before .before .before .before .before .before .statement .given .1)) (sym (c .before .before .before .before .before .before .before .before .before .before .before .before .before .contradicts .ensures) ∙ c .before .before .before .before .before .before .before .before .before .before .before .before .if2 .left) (carried-out _ _ _ _ (c .before .before .before .before .before .before .before .before .asked-sum .ensures) (c .before .before .before .before .before .before .before .in-range .ensures) (c .before .before .before .before .before .before .plan-statement .ensures) (c .before .before .before .before .before .after .ensures)) (c .before .before .check-effect .ensures) refl (c .enum-told3 .given .1))
     (λ c. omega (arith, (turn t (c .before .before .before .before .before .before .before .before .before .before .before .before .before)) .some))
     (λ c. turn-plain (arm (turn t (c .before .before .before .before .before .before .before .before .before .before .before .before .before)) (c .before .before .before .before .before .before .before .before .before .before .statement .given .1)) (sym (c .before .before .before .before .before .before .before .before .before .before .before .before .before .contradicts .ensures) ∙ c .before .before .before .before .before .before .before .before .before .before .before .before .if2 .left) (carried-out _ _ _ _ (c .before .before .before .before .before .before .before .before .asked-sum .ensures) (c .before .before .before .before .before .before .before .in-range .ensures) (c .before .before .before .before .before .before .plan-statement .ensures) (c .before .before .before .before .before .after .ensures)) (c .before .before .check-effect .ensures) (c .enum-told2 .given .1))
     (λ c. omega (arith, (turn t (c .before .before .before .before .before .before .before .before .before .before)) .some))
-    (λ c. turn-untouched (arm (turn t (c .before .before .before .before .before .before .before .before .before .before)) (c .before .before .before .before .before .before .before .statement .given .1)) (sym (c .before .before .before .before .before .before .before .before .before .before .contradicts .ensures) ∙ c .before .before .before .before .before .before .before .before .before .if2 .left) (carried-out _ _ _ _ (c .before .before .before .before .before .asked-sum .ensures) (c .before .before .before .before .in-range .ensures) (c .before .before .before .plan-statement .ensures) (c .before .before .after .ensures)) (sym (c .before .touches .ensures) ∙ c .if3 .left))
+    (λ c. turn-untouched (arm (turn t (c .before .before .before .before .before .before .before .before .before .before)) (c .before .before .before .before .before .before .before .statement .given .1)) (sym (c .before .before .before .before .before .before .before .before .before .before .contradicts .ensures) ∙ c .before .before .before .before .before .before .before .before .before .if2 .left) (carried-out _ _ _ _ (c .before .before .before .before .before .asked-sum .ensures) (c .before .before .before .before .in-range .ensures) (c .before .before .before .plan-statement .ensures) (c .before .before .after .ensures)) (c .before .before .before .before .before .before .before .before .before .before .before .before .before .before .before .before .before .before .before .before .pre .1 .1) (sym (c .before .touches .ensures) ∙ c .if3 .left))
     (λ c. search needs)
     (λ c. let u = (arm (turn t (c .before .before .before .before)) (c .before .statement2 .given .1)) in omega (arith, placed u, if-counts u))
     (λ c. let u = (arm (turn t (c .before .before .before .before)) (c .before .statement2 .given .1)) in omega (arith, placed u, if-counts u))
@@ -109,7 +109,7 @@ pub +walk-spec : {M : Type 1} → statement M
     (λ c. omega (arith, (turn t (c .before .before .before .before .before .before .before .before .before .before .before .before .before)) .some))
     (λ c. turn-while (arm (turn t (c .before .before .before .before .before .before .before .before .before .before .before .before .before)) (c .before .before .before .before .before .before .before .before .before .before .statement3 .given .1)) (sym (c .before .before .before .before .before .before .before .before .before .before .before .before .before .contradicts .ensures) ∙ c .before .before .before .before .before .before .before .before .before .before .before .before .if2 .left) (c .before .before .before .before .before .before .before .before .lose .ensures) (c .before .before .before .before .before .before .after4 .ensures ∙ c .before .before .before .before .before .before .before .assume3 .ensures _) (c .before .before .before .before .before .walk3 .ensures) (c .before .before .before .enum-told8 .given .1) (c .before .before .negated2 .ensures) (c .after5 .ensures ∙ c .before .assume4 .ensures _))
     (λ c. search needs)
-    (λ c κs. (c .before .before .before .before .before .before .before .before .before .before .before .before .before .before .pre .1, omega (arith, placed (turn t (c .before .before .before .before)))))
+    (λ c κs. (c .before .before .before .before .before .before .before .before .before .before .before .before .before .before .pre .1 .0, omega (arith, placed (turn t (c .before .before .before .before)))))
     (λ c. search needs) (λ c. search needs)
     (λ c. bundle-refused (arm (turn t (c .before .before .before .before .before .before .before)) (c .before .before .before .before .statement4 .given .1)) (sym (c .before .before .before .before .before .before .before .contradicts .ensures) ∙ c .before .before .before .before .before .before .if2 .left) (c .before .before .walk-bundle .ensures) (c .enum-told11 .given .1))
     (λ c. let u = (arm (turn t (c .before .before .before .before .before .before .before .before)) (c .before .before .before .before .before .statement4 .given .1)) in omega (arith, placed u, bundle-count u))

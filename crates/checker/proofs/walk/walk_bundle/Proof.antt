@@ -1,6 +1,7 @@
 -- The invariant: what is left of the bundle, from the facts and bounds now, is the whole.
 use borrow.Author.Needs.{needs}
 use mathlib.Core.Path.{refl, ap, sym, _∙_}
+use mathlib.Core.Logic.{⊎-elim}
 use borrow.Author.Tests.{not-true, not-false}
 use native.Mathlib.Omega.{arith}
 use Rattle.statements.specs.declared.StatementRead.the-variants.{Read}
@@ -23,11 +24,7 @@ walk-bundle-spec =
     (tie.spec
     Inv-loop μ-loop (λ c. search needs)
     (λ c. held-none _ _ _ _ _ _ _)
-    (λ c κs. search needs) (λ c. search needs) (λ c. search needs) (λ c κs. search needs)
-    (λ c. held-unread (c .before .before .before .before .before .loop .inv) (c .before .before .before .before .loop-test .taken) (sym (c .before .before .before .read-due .ensures) ∙ (c .before .enum-told .given .1)) (c .end-bundle .ensures))
-    (λ c. search needs) (λ c κs. search needs)
-    (λ c. held-other (c .before .before .before .before .before .before .before .loop .inv) (c .before .before .before .before .before .before .loop-test .taken) (sym (c .before .before .before .before .before .read-due .ensures) ∙ (c .before .before .before .got .given .1)) (not-plain _ (c .before .match2 .keys2)) (c .end-bundle2 .ensures))
-    (λ c κs. search needs)
+    (λ c κs. search needs) (λ c. search needs) (λ c. search needs) (λ c. search needs) (λ c κs. search needs)
     (λ c. held-contrary (c .before .before .before .before .before .before .before .before .before .before .loop .inv) (c .before .before .before .before .before .before .before .before .before .loop-test .taken) (sym (c .before .before .before .before .before .before .before .before .read-due .ensures) ∙ (c .before .before .before .before .before .before .got .given .1)) (c .before .before .before .statement .given .1) (sym (c .before .contradicts .ensures) ∙ (c .if1 .taken)) refl)
     (λ c κs. search needs)
     (λ c. held-access (c .before .before .before .before .before .before .before .before .before .before .before .before .loop .inv) (c .before .before .before .before .before .before .before .before .before .before .before .loop-test .taken) (sym (c .before .before .before .before .before .before .before .before .before .before .read-due .ensures) ∙ (c .before .before .before .before .before .before .before .before .got .given .1)) (c .before .before .before .before .before .statement .given .1) (sym (c .before .before .before .contradicts .ensures) ∙ (c .before .before .if1 .left)) (c .before .access-shown .ensures) (not-true _ (c .if2 .taken)) refl)
@@ -39,4 +36,4 @@ walk-bundle-spec =
     (λ c. omega (arith, (c .before .before .before .before .before .before .before .before .before .before .before .before .before .before .before .before .loop-test .taken))) (λ c. omega (arith, (c .before .before .before .before .before .before .before .before .before .before .before .before .before .before .before .before .loop-test .taken)))
     (λ c. held-more (c .before .before .before .before .before .before .before .before .before .before .before .before .before .before .before .before .before .loop .inv) (c .before .before .before .before .before .before .before .before .before .before .before .before .before .before .before .before .loop-test .taken) (sym (c .before .before .before .before .before .before .before .before .before .before .before .before .before .before .before .read-due .ensures) ∙ (c .before .before .before .before .before .before .before .before .before .before .before .before .before .got .given .1)) (c .before .before .before .before .before .before .before .before .before .before .statement .given .1) (sym (c .before .before .before .before .before .before .before .before .contradicts .ensures) ∙ (c .before .before .before .before .before .before .before .if1 .left)) (c .before .before .before .before .before .before .access-shown .ensures) (not-false _ (c .before .before .before .before .before .if2 .left)) (applied-facts (c .before .before .before .before .before .before .before .before .before .before .before .before .before .before .before .before .before .before .before .before .args .environment) _ _ (carried-out _ _ _ _ (c .before .before .before .before .asked-sum .ensures) (c .before .before .before .in-range .ensures) (c .before .before .plan-statement .ensures) (c .after .ensures))) (applied-effect (c .before .before .before .before .before .before .before .before .before .before .before .before .before .before .before .before .before .before .before .before .args .environment) _ _ (carried-out _ _ _ _ (c .before .before .before .before .asked-sum .ensures) (c .before .before .before .in-range .ensures) (c .before .before .plan-statement .ensures) (c .after .ensures))) (c .before .bounds-after .ensures))
     (λ c κs. search needs)
-    (λ c. held-done (c .before .before .loop .inv) (c .before .loop-test .left) (c .end-bundle3 .ensures)))
+    (λ c. ⊎-elim (λ w. held-done (c .before .before .loop .inv) (w .left) (c .end-bundle .ensures)) (⊎-elim (λ w. held-unread (c .before .before .loop .inv) (w .0 .taken) (sym (w .1 .ensures) ∙ w .3 .given .1) (c .end-bundle .ensures)) (λ w. held-other (c .before .before .loop .inv) (w .0 .taken) (sym (w .1 .ensures) ∙ w .3 .given .1) (not-plain _ (w .5 .keys2)) (c .end-bundle .ensures))) (c .before .loop-test .came)))
