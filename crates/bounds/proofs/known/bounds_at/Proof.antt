@@ -1,0 +1,17 @@
+-- `bounds::known::bounds_at` meets its contract.
+use borrow.Author.Needs.{needs}
+use mathlib.Core.Path.{sym}
+use lib.ListN.{List·getD-eq-default}
+use Rattle.facts.specs.Tabulate.{length-under}
+use Rattle.rules.specs.BoundsRules.{nothingKnown}
+use Rattle.bounds.specs.BoundsRulesLaws.{stored-known}
+use Rattle.bounds.proofs.known.bounds_at.Statement.{statement}
+use Rattle.bounds.proofs.known.bounds_at.Tie as tie
+
+pub bounds-at-spec : {M : Type 1} → statement M
+bounds-at-spec =
+    tie.close
+    (tie.spec
+    (λ c. search needs) (λ c. search needs)
+    (λ c. stored-known (c .before .before .args .t1) (c .before .before .args .p) (search (length-under, needs)))
+    (λ c. sym (List·getD-eq-default (c .before .args .t1) nothingKnown {n = c .before .args .p} (search (length-under, needs)))))
