@@ -2,3 +2,6 @@ pub mod Numbers
 pub mod Tabulate
 pub mod Store
 pub mod StoreLaws
+pub mod Rows
+pub mod Masks
+pub mod StoreLoops

@@ -144,6 +144,10 @@ shifted f x k = pickSet (ltb 15 x) f (added (added (reassigned f x x k (negated 
 unfoldable pub anew : FactSet → ℕ → ℕ → ℕ → ℕ → FactSet
 anew f x y up down = pickSet (ltb 15 x) f (pickSet (ltb zeroVar y) f (reassigned f x y up down))
 
+-- A fact that says nothing: 17 is neither a variable nor zero.
+abbrev pub noFact : Fact
+noFact = record { x = 17; y = 17; k = 0 }
+
 abbrev pub factAt : List Fact → ℕ → Fact
 factAt facts n = getD facts n (record { x = 0; y = 0; k = 0 })
 

@@ -1,6 +1,7 @@
 -- What each operation makes, case by case, and sum by sum.
 use Prim.Native.Nat.{ℕ, _+_, _-_, _^_, _≤_, _<_, min}
 use mathlib.Core.Path.{_≡_, refl, sym, ap, _∙_}
+use mathlib.Core.List.{[], _∷_}
 use mathlib.Core.Logic.{_≢_}
 use mathlib.Core.Bool.{Bool, true, false, false≢true, _&&_}
 use borrow.Author.Tests.{lt-ltb, le-ltb, lt-leb, eqb-true, eqb-false, eq-eqb, ne-eqb}
@@ -9,8 +10,9 @@ use lib.Seq.{getD-set-same, getD-set-other}
 use native.Mathlib.Omega.{arith}
 use Rattle.facts.specs.Numbers.{bias, maxValue, zeroVar}
 use Rattle.facts.specs.Tabulate.{tabulate, length-tabulate, getD-tabulate}
-use Rattle.facts.specs.Store.{pick, pickBool, pickRow, pickSet, concatenated, negated, roomAbove, noRow, rowAt, inRow, sumAt, rowOf, setOf, leastSum, shown, inRange, newSum, newRow, newSet, loweredRow, lowered, marked, added, ownRow, reroutedRow, rerouted, reassigned, anew, factAt, addedFact, addedFirst, changed, dropped, ranged, shifted, related, joinedSum, joinedRow, joined}
+use Rattle.facts.specs.Store.{pick, pickBool, pickRow, pickSet, concatenated, negated, roomAbove, noRow, rowAt, inRow, sumAt, rowOf, setOf, leastSum, shown, inRange, newSum, newRow, newSet, loweredRow, lowered, marked, added, ownRow, reroutedRow, rerouted, reassigned, anew, noFact, addedFact, addedFirst, changed, dropped, ranged, shifted, related, joinedSum, joinedRow, joined}
 use Rattle.facts.specs.declared.rows.Row.{Row}
+use Rattle.facts.specs.declared.Fact.{Fact}
 use Rattle.facts.specs.declared.Change.{Change}
 use Rattle.facts.specs.declared.FactSet.{FactSet}
 
@@ -118,21 +120,16 @@ module _ (f : FactSet) (x y up down : ℕ) where
   unfolding anew
   anew-variable hx hy = passed _ _ (le-ltb _ _ hx) ∙ passed _ _ (le-ltb _ _ hy)
 
--- A change, step by step.
-pub changed-steps : (f : FactSet) (c : Change) {g₀ g₁ g₂ g₃ : FactSet} → g₀ ≡ anew f (c .target) (c .base) (c .up) (c .down)
-    → g₁ ≡ addedFact g₀ (factAt (c .facts) 0) → g₂ ≡ addedFact g₁ (factAt (c .facts) 1) → g₃ ≡ addedFact g₂ (factAt (c .facts) 2) → g₃ ≡ changed f c
-unfolding changed addedFirst
-changed-steps f c e₀ e₁ e₂ e₃ =
-    let more : ℕ → FactSet → FactSet = λ n g. addedFact g (factAt (c .facts) n) in
-    e₃ ∙ ap (more 2) (e₂ ∙ ap (more 1) (e₁ ∙ ap (more 0) e₀))
+-- ---- a change
+
+module _ (f : FactSet) (c : Change) where
+  pub changed-steps : {g h : FactSet} → g ≡ anew f (c .target) (c .base) (c .up) (c .down) → h ≡ addedFirst 3 (c .facts) g → h ≡ changed f c
+  unfolding changed
+  changed-steps e d = d ∙ ap (addedFirst 3 (c .facts)) e
 
 -- ---- drop, a range, shift
 
 module _ (f : FactSet) (x : ℕ) where
-  pub dropped-other : 15 < x → dropped f x ≡ f
-  unfolding dropped
-  dropped-other h = picked _ _ (lt-ltb _ _ h)
-
   pub dropped-variable : x ≤ 15 → dropped f x ≡ reassigned f x zeroVar (bias + maxValue) bias
   unfolding dropped
   dropped-variable h = passed _ _ (le-ltb _ _ h)
@@ -146,10 +143,6 @@ module _ (f : FactSet) (x : ℕ) where
       go true = refl
       go false = refl
 
-  pub ranged-other : (low high : ℕ) → 15 < x → ranged f x low high ≡ f
-  unfolding ranged
-  ranged-other low high h = picked _ _ (lt-ltb _ _ h)
-
   pub ranged-variable : (low high : ℕ) → x ≤ 15 → ranged f x low high ≡ reassigned f x zeroVar (bias + high) (bias - low)
   unfolding ranged
   ranged-variable low high h = passed _ _ (le-ltb _ _ h)
@@ -161,6 +154,29 @@ module _ (f : FactSet) (x : ℕ) where
   pub shifted-variable : (k : ℕ) → x ≤ 15 → shifted f x k ≡ added (added (reassigned f x x k (negated k)) zeroVar x bias) x zeroVar (bias + maxValue)
   unfolding shifted
   shifted-variable k h = passed _ _ (le-ltb _ _ h)
+
+-- ---- one fact, a drop and a shift as changes
+
+silent : (f : FactSet) → addedFact f noFact ≡ f
+silent f = added-left f 17 17 0 (omega arith)
+
+module _ (f : FactSet) (x : ℕ) {g : FactSet} {none : Fact} (n : none ≡ noFact) where
+  pub changed-add : (y k : ℕ) → g ≡ changed f (record { target = 17; base = 17; up = 0; down = 0; facts = record { x = x; y = y; k = k } ∷ none ∷ none ∷ [] })
+      → g ≡ added f x y k
+  unfolding changed addedFirst
+  changed-add y k e = e ∙ rw n (silent _ ∙ silent _ ∙ ap (λ (b : FactSet). added b x y k) (anew-left f 17 17 0 0 (omega arith)))
+
+  pub changed-drop : g ≡ changed f (record { target = x; base = zeroVar; up = bias + maxValue; down = bias; facts = none ∷ none ∷ none ∷ [] }) → g ≡ dropped f x
+  unfolding changed addedFirst anew dropped
+  changed-drop e = e ∙ rw n (silent _ ∙ silent _ ∙ silent _)
+
+  pub changed-shift : (k : ℕ) {down : ℕ} → x ≤ 15 → down ≡ negated k
+      → g ≡ changed f (record { target = x; base = x; up = k; down = down; facts = record { x = zeroVar; y = x; k = bias } ∷ record { x = x; y = zeroVar; k = bias + maxValue } ∷ none ∷ [] })
+      → g ≡ shifted f x k
+  unfolding changed addedFirst
+  changed-shift k h d e =
+      e ∙ rw (n, d)
+      (silent _ ∙ ap (λ (b : FactSet). added (added b zeroVar x bias) x zeroVar (bias + maxValue)) (anew-variable f x x k (negated k) h (omega arith)) ∙ sym (shifted-variable f x k h))
 
 -- ---- sum by sum
 

@@ -1,13 +1,13 @@
 -- What a loop that fills an array makes: `for i in 0..n { array[i] = f(i); }`. Every such loop of the repository is proved by this file.
 use Prim.Native.Nat.{ℕ, zero, suc, _+_, _≤_, _<_}
-use mathlib.Core.Path.{_≡_, refl, ap, sym, _∙_}
+use mathlib.Core.Path.{_≡_, refl, ap, ap₂, sym, _∙_}
 use mathlib.Core.List.{List, [], _∷_, _++_, map}
 use mathlib.Core.Logic.{⊎-elim}
 use native.Mathlib.Numerals.{add-one}
 use native.Mathlib.Nat.{eq-or-lt-of-le, le-of-suc-le-suc}
 use native.Mathlib.Omega.{arith}
 use lib.ListN.{length, take, drop, getD, set, length-append, length-set, length-map, List·getD-append}
-use lib.Seq.{take-suc-set, take-all, getD-at, getD-drop, drop-drop, drop-set-lt}
+use lib.Seq.{take-suc-set, take-all, set-getD, getD-at, getD-drop, drop-drop, drop-set-lt}
 
 module _ {A : Type 0} where
   -- The list f 0, f 1, .. f (n - 1), built from its end, so that one turn of the loop is one step.
@@ -65,11 +65,26 @@ module _ {A : Type 0} where
       → Filled (set l i a) old n (λ m. g (getD old m d)) (i + 1)
   filled-each g d p h e = filled-more p h (e ∙ ap g (filled-next d p))
 
+  -- One more turn that leaves the element as it is.
+  pub filled-kept : (d : A) {l old : List A} {n i : ℕ} {f : ℕ → A} → Filled l old n f i → i < n → getD l i d ≡ f i → Filled l old n f (i + 1)
+  filled-kept d p h e = rw set-getD at (filled-more p h e)
+
   -- After the last turn.
   pub filled-whole : {l old : List A} {n i : ℕ} {f : ℕ → A} → Filled l old n f i → n ≤ i → l ≡ tabulate n f
   filled-whole {l} {old} {n} {i} {f} p h =
       let q : i ≡ n = omega (arith, p .within) in
       sym (take-all i l (omega (arith, p .long))) ∙ p .front ∙ ap (λ (m : ℕ). tabulate m f) q
+
+-- The last element alone, after a loop that stopped before it.
+pub filled-last : {A : Type 0} {l old : List A} {n i : ℕ} {f : ℕ → A} {a : A} (m : ℕ) → Filled l old n f i → i ≡ m → m + 1 ≡ n → a ≡ f m → set l m a ≡ tabulate n f
+filled-last {l} {old} {n} {i} {f} {a} m p e d q =
+    let r : Filled l old n f m = rw e at p in
+    filled-whole (filled-more r (omega arith) q) (omega arith)
+
+pub tabulate-alike : {A : Type 0} (n : ℕ) {f g : ℕ → A} → ((i : ℕ) → i < n → f i ≡ g i) → tabulate n f ≡ tabulate n g
+unfolding tabulate
+tabulate-alike zero e = refl
+tabulate-alike {A} (suc n) e = ap₂ (λ (l : List A) (a : A). l ++ (a ∷ [])) (tabulate-alike n (λ i h. e i (omega arith))) (e n (omega arith))
 
 -- The length of an array of structs, from what is known of its parts.
 pub length-under : {X Y : Type 0} (f : X → Y) (l : List X) (n : ℕ) → length (map f l) ≡ n → length l ≡ n

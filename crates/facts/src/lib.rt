@@ -5,7 +5,8 @@ ghost use mathlib.Core.Path.{_≡_};
 ghost use mathlib.Core.Bool.{false};
 ghost use Prim.Native.Nat.{_<_};
 ghost use lib.ListN.{getD};
-ghost use Rattle.facts.specs.Store.{contradictory, leastSum, shown, endShown, inRange, newSet, added, reassigned, anew, changed, dropped, ranged, shifted, joined};
+ghost use Rattle.facts.specs.Store.{contradictory, leastSum, shown, endShown, inRange, newSet, anew, noFact, addedFirst, changed, added, dropped, shifted, joined};
+ghost use Rattle.facts.specs.Rows.{columnTo};
 
 mod rows;
 mod sums;
@@ -32,6 +33,13 @@ pub struct Change {
     pub up: u64,
     pub down: u64,
     pub facts: [Fact; 3],
+}
+
+// A fact that says nothing.
+fn no_fact() -> Fact
+    ensures { λ r. ⌜ r ≡ noFact ⌝ }
+{
+    Fact { x: 17, y: 17, k: 0 }
 }
 
 impl FactSet {
@@ -105,58 +113,93 @@ impl FactSet {
         false
     }
 
-    // With x <= y + k besides. A fact that is shown already changes nothing.
-    pub fn add(mut self, x: usize, y: usize, k: u64) -> FactSet
-        ensures { λ r. ⌜ r ≡ added self x y k ⌝ }
+    // The sums from each to zero; the constant index is faster than a column's number.
+    fn zero_column(self) -> Row
+        ensures { λ r. ⌜ r ≡ columnTo self 16 ⌝ }
     {
-        if 16 < x {
-            return self;
-        }
-        if 16 < y {
-            return self;
-        }
-        if self.shows(x, y, k) {
-            return self;
-        }
-        let through = self.rows[y];
-        if sums::concat(through.sums[x], k) < sums::BIAS {
-            self.contradiction = true;
-            return self;
-        }
+        let mut column = Row { sums: [0; 17] };
         for i in 0..17 {
             let row = self.rows[i];
-            let start = sums::concat(row.sums[x], k);
-            self.rows[i] = rows::lowered_row(row, start, y, through);
+            column.sums[i] = row.sums[16];
         }
-        self
+        column
     }
 
-    // The variable x anew: x <= y + up and y <= x + down, and what follows of the others.
+    fn column(self, y: usize) -> Row
+        requires { ⌜ y < 17 ⌝ }
+        ensures { λ r. ⌜ r ≡ columnTo self y ⌝ }
+    {
+        let mut column = Row { sums: [0; 17] };
+        for i in 0..17 {
+            let row = self.rows[i];
+            column.sums[i] = row.sums[y];
+        }
+        column
+    }
+
+    // The sums from each to y.
+    fn column_to(self, y: usize) -> Row
+        requires { ⌜ y < 17 ⌝ }
+        ensures { λ r. ⌜ r ≡ columnTo self y ⌝ }
+    {
+        if y == 16 {
+            return self.zero_column();
+        }
+        self.column(y)
+    }
+
+    // The variable x anew, if it is one: x <= y + up and y <= x + down, and what follows of the others. One exit only, and one caller: each more costs a copy.
     fn reassign(mut self, x: usize, y: usize, up: u64, down: u64) -> FactSet
-        requires { ⌜ (x < 17) × (y < 17) ⌝ }
-        ensures { λ r. ⌜ r ≡ reassigned self x y up down ⌝ }
-    {
-        let base = self.rows[y];
-        let own = rows::own_row(base, x, up);
-        for i in 0..17 {
-            let row = self.rows[i];
-            self.rows[i] = rows::rerouted_row(row, x, sums::concat(row.sums[y], down));
-        }
-        self.rows[x] = own;
-        self
-    }
-
-    // The variable x anew, if it is one.
-    fn renew(self, x: usize, y: usize, up: u64, down: u64) -> FactSet
         ensures { λ r. ⌜ r ≡ anew self x y up down ⌝ }
     {
-        if 15 < x {
-            return self;
+        if x < 16 {
+            if y < 17 {
+                let base = self.rows[y];
+                let own = rows::own_row(base, x, up);
+                let column = rows::raised_row(self.column_to(y), down);
+                let mask = rows::mask_row(x);
+                for i in 0..17 {
+                    let row = self.rows[i];
+                    self.rows[i] = rows::rerouted_row(row, mask, column.sums[i]);
+                }
+                self.rows[x] = own;
+            }
         }
-        if 16 < y {
-            return self;
+        self
+    }
+
+    // With three facts besides. A fact that is shown already changes nothing.
+    fn add_each(mut self, facts: [Fact; 3]) -> FactSet
+        ensures { λ r. ⌜ r ≡ addedFirst 3 facts self ⌝ }
+    {
+        for n in 0..3 {
+            let fact = facts[n];
+            let x = fact.x;
+            let y = fact.y;
+            let k = fact.k;
+            if x < 17 {
+                if y < 17 {
+                    if !self.contradiction {
+                        let from = self.rows[x];
+                        if k < from.sums[y] {
+                            let through = self.rows[y];
+                            if sums::concat(through.sums[x], k) < sums::BIAS {
+                                self.contradiction = true;
+                            } else {
+                                for i in 0..17 {
+                                    let row = self.rows[i];
+                                    let start = sums::concat(row.sums[x], k);
+                                    if start < row.sums[y] {
+                                        self.rows[i] = rows::lowered_row(row, start, through);
+                                    }
+                                }
+                            }
+                        }
+                    }
+                }
+            }
         }
-        self.reassign(x, y, up, down)
+        self
     }
 
     // The facts after a change.
@@ -164,33 +207,36 @@ impl FactSet {
         ensures { λ r. ⌜ r ≡ changed self change ⌝ }
     {
         let facts = change.facts;
-        let first = facts[0];
-        let second = facts[1];
-        let third = facts[2];
-        self.renew(change.target, change.base, change.up, change.down)
-            .add(first.x, first.y, first.k)
-            .add(second.x, second.y, second.k)
-            .add(third.x, third.y, third.k)
+        self.reassign(change.target, change.base, change.up, change.down)
+            .add_each(facts)
+    }
+
+    // With x <= y + k besides.
+    pub fn add(self, x: usize, y: usize, k: u64) -> FactSet
+        ensures { λ r. ⌜ r ≡ added self x y k ⌝ }
+    {
+        let none = no_fact();
+        self.after(Change {
+            target: 17,
+            base: 17,
+            up: 0,
+            down: 0,
+            facts: [Fact { x, y, k }, none, none],
+        })
     }
 
     // Without x: what is shown of the others, and what is always known of x.
     pub fn drop(self, x: usize) -> FactSet
         ensures { λ r. ⌜ r ≡ dropped self x ⌝ }
     {
-        if 15 < x {
-            return self;
-        }
-        self.reassign(x, 16, sums::MAX_VALUE, sums::BIAS)
-    }
-
-    // Drops x; then low <= x <= high, which are plain numbers.
-    pub fn assign_range(self, x: usize, low: u32, high: u32) -> FactSet
-        ensures { λ r. ⌜ r ≡ ranged self x low high ⌝ }
-    {
-        if 15 < x {
-            return self;
-        }
-        self.reassign(x, 16, sums::BIAS + (high as u64), sums::BIAS - (low as u64))
+        let none = no_fact();
+        self.after(Change {
+            target: x,
+            base: 16,
+            up: sums::MAX_VALUE,
+            down: sums::BIAS,
+            facts: [none, none, none],
+        })
     }
 
     // Each fact of x moved with x, which is raised by k; and what is always known of the new x.
@@ -200,9 +246,25 @@ impl FactSet {
         if 15 < x {
             return self;
         }
-        self.reassign(x, x, k, sums::negate(k))
-            .add(16, x, sums::BIAS)
-            .add(x, 16, sums::MAX_VALUE)
+        self.after(Change {
+            target: x,
+            base: x,
+            up: k,
+            down: sums::negate(k),
+            facts: [
+                Fact {
+                    x: 16,
+                    y: x,
+                    k: sums::BIAS,
+                },
+                Fact {
+                    x,
+                    y: 16,
+                    k: sums::MAX_VALUE,
+                },
+                no_fact(),
+            ],
+        })
     }
 
     // What both sides show. `pointers` tells the variables that are pointers: a fact relates a pointer and an integer only through zero.
@@ -215,14 +277,13 @@ impl FactSet {
         if other.contradiction {
             return self;
         }
-        let zero_a = self.rows[16];
-        let zero_b = other.rows[16];
+        let zero = rows::greatest_row(self.rows[16], other.rows[16]);
         let mut next = self;
-        for i in 0..17 {
-            let a = self.rows[i];
-            let b = other.rows[i];
-            next.rows[i] = rows::joined_row(pointers, i, a, b, zero_a, zero_b);
+        for i in 0..16 {
+            let row = rows::greatest_row(self.rows[i], other.rows[i]);
+            next.rows[i] = rows::through_zero(row, pointers, pointers[i], zero);
         }
+        next.rows[16] = zero;
         next
     }
 }

@@ -3,7 +3,8 @@ ghost use mathlib.Core.Path.{_≡_};
 ghost use mathlib.Core.Bool.{false};
 ghost use Prim.Native.Nat.{_<_};
 ghost use lib.ListN.{getD};
-ghost use Rattle.facts.specs.Store.{newSum, newRow, loweredRow, ownRow, reroutedRow, same, related, joinedSum, joinedRow};
+ghost use Rattle.facts.specs.Store.{newSum, newRow, ownRow};
+ghost use Rattle.facts.specs.Rows.{shortenedRow, raisedRow, Masks, maskRow, mergedRow, greatestRow, throughZero};
 use crate::sums;
 
 pub struct Row {
@@ -32,15 +33,10 @@ pub fn new_row(i: usize) -> Row
     next
 }
 
-// The row with every sum lowered to the chain that begins with the sum `start`, to y, and goes on as from y (`through`).
-// Where `start` is no less than the row's own sum to y, no sum would fall.
-pub fn lowered_row(row: Row, start: u64, y: usize, through: Row) -> Row
-    requires { ⌜ y < 17 ⌝ }
-    ensures { λ r. ⌜ r ≡ loweredRow row start y through ⌝ }
+// The row with every sum lowered to the chain that begins with the sum `start` and goes on as `through`.
+pub fn lowered_row(row: Row, start: u64, through: Row) -> Row
+    ensures { λ r. ⌜ r ≡ shortenedRow row start through ⌝ }
 {
-    if row.sums[y] <= start {
-        return row;
-    }
     let mut next = row;
     for j in 0..17 {
         next.sums[j] = sums::least(row.sums[j], sums::concat(start, through.sums[j]));
@@ -59,70 +55,60 @@ pub fn own_row(base: Row, x: usize, up: u64) -> Row
     next
 }
 
-// The row with another sum to x.
-pub fn rerouted_row(row: Row, x: usize, to: u64) -> Row
-    ensures { λ r. ⌜ r ≡ reroutedRow row x to ⌝ }
+// Every sum raised by `down`.
+pub fn raised_row(row: Row, down: u64) -> Row
+    ensures { λ r. ⌜ r ≡ raisedRow row down ⌝ }
 {
     let mut next = row;
     for j in 0..17 {
-        next.sums[j] = sums::choose(j == x, to, row.sums[j]);
+        next.sums[j] = sums::concat(row.sums[j], down);
     }
     next
 }
 
-fn alike(a: bool, b: bool) -> bool
-    ensures { λ r. ⌜ r ≡ same a b ⌝ }
+// The row of masks that picks x alone. The one store matters: what a choice makes is compiled back into a choice for each sum.
+pub fn mask_row(x: usize) -> Row
+    requires { ⌜ x < 17 ⌝ }
+    ensures { λ r. ⌜ r ≡ maskRow x ⌝ }
 {
-    if a { b } else { !b }
+    let mut next = Row { sums: [0; 17] };
+    next.sums[x] = sums::UNBOUNDED;
+    next
 }
 
-// A fact may relate i and j, or both are zero.
-fn relates(pointers: [bool; 17], i: usize, j: usize) -> bool
-    requires { ⌜ (i < 17) × (j < 17) ⌝ }
-    ensures { λ r. ⌜ r ≡ related (λ n. getD pointers n false) i j ⌝ }
+// The row with another sum where a mask stands.
+pub fn rerouted_row(row: Row, mask: Row, to: u64) -> Row
+    requires { ⌜ Masks mask ⌝ }
+    ensures { λ r. ⌜ r ≡ mergedRow row mask to ⌝ }
 {
-    if i == 16 {
-        return true;
+    let mut next = row;
+    for j in 0..17 {
+        next.sums[j] = sums::merge(mask.sums[j], row.sums[j], to);
     }
-    if j == 16 {
-        return true;
-    }
-    alike(pointers[i], pointers[j])
+    next
 }
 
-fn joined_sum(
-    comparable: bool,
-    a: u64,
-    b: u64,
-    to_a: u64,
-    to_b: u64,
-    from_a: u64,
-    from_b: u64,
-) -> u64
-    ensures { λ r. ⌜ r ≡ joinedSum comparable a b «to_a» «to_b» «from_a» «from_b» ⌝ }
-{
-    if comparable {
-        return sums::greatest(a, b);
-    }
-    sums::concat(sums::greatest(to_a, to_b), sums::greatest(from_a, from_b))
-}
-
-// One row of a join: `a` and `b` are the sides' rows of i, `zero_a` and `zero_b` their rows of zero.
-pub fn joined_row(pointers: [bool; 17], i: usize, a: Row, b: Row, zero_a: Row, zero_b: Row) -> Row
-    requires { ⌜ i < 17 ⌝ }
-    ensures { λ r. ⌜ r ≡ joinedRow (λ n. getD pointers n false) i a b «zero_a» «zero_b» ⌝ }
+// The greater of each two sums.
+pub fn greatest_row(a: Row, b: Row) -> Row
+    ensures { λ r. ⌜ r ≡ greatestRow a b ⌝ }
 {
     let mut next = a;
     for j in 0..17 {
-        next.sums[j] = joined_sum(
-            relates(pointers, i, j),
-            a.sums[j],
-            b.sums[j],
-            a.sums[16],
-            b.sums[16],
-            zero_a.sums[j],
-            zero_b.sums[j],
-        );
+        next.sums[j] = sums::greatest(a.sums[j], b.sums[j]);
+    }
+    next
+}
+
+// The row of a variable that is a pointer or not (`pointer`): its sum to each variable of the other kind is that of the chain through zero, whose row is `zero`.
+pub fn through_zero(row: Row, pointers: [bool; 17], pointer: bool, zero: Row) -> Row
+    ensures { λ r. ⌜ r ≡ throughZero (λ n. getD pointers n false) pointer row «zero» ⌝ }
+{
+    let mut next = row;
+    let to = row.sums[16];
+    for j in 0..16 {
+        if pointers[j] != pointer {
+            next.sums[j] = sums::concat(to, zero.sums[j]);
+        }
     }
     next
 }

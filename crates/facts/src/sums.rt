@@ -1,7 +1,9 @@
 // Sums of chains, each kept as the natural number that is 2^33 more.
 ghost use mathlib.Core.Path.{_≡_};
 ghost use Prim.Native.Nat.{min, max};
+ghost use lib.Dec.{eqb};
 ghost use Rattle.facts.specs.Store.{pick, concatenated, negated, roomAbove};
+ghost use Rattle.facts.specs.Rows.{IsMask};
 
 // The sum 0.
 pub const BIAS: u64 = 8589934592;
@@ -68,4 +70,12 @@ pub fn choose(first: bool, a: u64, b: u64) -> u64
     ensures { λ r. ⌜ r ≡ pick first a b ⌝ }
 {
     if first { a } else { b }
+}
+
+// b where every bit of the mask is set, a where none is; unlike a choice, a row of these is done several at a time.
+pub fn merge(mask: u64, a: u64, b: u64) -> u64
+    requires { ⌜ IsMask mask ⌝ }
+    ensures { λ r. ⌜ r ≡ pick (eqb mask 0) a b ⌝ }
+{
+    a ^ ((a ^ b) & mask)
 }

@@ -8,5 +8,5 @@ pub after-spec : {M : Type 1} → statement M
 after-spec =
     tie.close
     (tie.spec
-    (λ c. search needs) (λ c. search needs) (λ c. search needs) (λ c κs. search needs) (λ c κs. search needs) (λ c κs. search needs) (λ c κs. search needs)
-    (λ c. changed-steps _ _ (c .before .before .before .renew .ensures) (c .before .before .add .ensures) (c .before .add2 .ensures) (c .add3 .ensures)))
+    (λ c κs. search needs) (λ c κs. search needs)
+    (λ c. changed-steps _ _ (c .before .reassign .ensures) (c .add-each .ensures)))

@@ -1,7 +1,6 @@
 -- `facts::FactSet::drop` meets its contract.
-use mathlib.Core.Path.{sym, _∙_}
 use borrow.Author.Needs.{needs}
-use Rattle.facts.specs.StoreLaws.{dropped-other, dropped-variable}
+use Rattle.facts.specs.StoreLaws.{changed-drop}
 use Rattle.facts.proofs.FactSet.drop.Statement.{statement}
 use Rattle.facts.proofs.FactSet.drop.Tie as tie
 
@@ -9,6 +8,5 @@ pub drop-spec : {M : Type 1} → statement M
 drop-spec =
     tie.close
     (tie.spec
-    (λ c. sym (dropped-other _ _ (c .if1 .taken)))
-    (λ c κs. search needs)
-    (λ c. c .reassign .ensures ∙ sym (dropped-variable _ _ (c .before .if1 .left))))
+    (λ c κs. search needs) (λ c κs. search needs)
+    (λ c. changed-drop _ _ (c .before .no-fact .ensures) (c .after .ensures)))

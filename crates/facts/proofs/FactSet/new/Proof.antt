@@ -2,7 +2,7 @@
 use Prim.Native.Nat.{_-_}
 use mathlib.Core.Path.{_≡_, ap₂}
 use borrow.Author.Needs.{needs}
-use Rattle.facts.specs.Tabulate.{Filled, filled-none, filled-more, filled-whole, length-under}
+use Rattle.facts.specs.Tabulate.{Filled, filled-none, filled-more, filled-whole}
 use Rattle.facts.specs.Store.{newRow, newSet, setOf}
 use Rattle.facts.proofs.FactSet.new.Statement.{statement}
 use Rattle.facts.proofs.FactSet.new.Tie as tie
@@ -19,7 +19,7 @@ new-spec =
     tie.close
     (tie.spec
     Inv-loop μ-loop
-    (λ c. (filled-none _ _ _ (search (length-under, needs)), search needs))
+    (λ c. (filled-none _ _ _ (search needs), search needs))
     (λ c κs. search needs) (λ c. search needs) (λ c. search needs) (λ c. search needs) (λ c. search needs)
     (λ c. let at = c .before .before .loop in (filled-more (at .inv .0) (search needs) (c .new-row .ensures), at .inv .1))
     (λ c. ap₂ setOf (filled-whole (c .before .loop .inv .0) (c .loop-test .left)) (c .before .loop .inv .1)))

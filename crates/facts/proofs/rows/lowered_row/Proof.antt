@@ -1,30 +1,28 @@
 -- `facts::rows::lowered_row` meets its contract: each turn fills one more sum.
-use Prim.Native.Nat.{ℕ, _-_}
+use Prim.Native.Nat.{ℕ, _-_, min}
 use mathlib.Core.Path.{ap, _∙_}
 use mathlib.Core.List.{List}
 use borrow.Author.Needs.{needs}
-use Prim.Native.Nat.{min}
-use borrow.Author.Tests.{le-leb, lt-leb}
 use Rattle.facts.specs.Tabulate.{Filled, filled-none, filled-more, filled-whole}
-use Rattle.facts.specs.Store.{inRow, concatenated, loweredRow}
+use Rattle.facts.specs.Store.{inRow, concatenated}
+use Rattle.facts.specs.Rows.{shortenedRow}
 use Rattle.facts.proofs.rows.lowered_row.Statement.{statement}
 use Rattle.facts.proofs.rows.lowered_row.Tie as tie
 
 abbrev Inv-loop : tie.InvT-loop
-Inv-loop start y row through next₀ j₀ next j = Filled (next .sums) (next₀ .sums) 17 (λ n. min (inRow row n) (concatenated start (inRow through n))) j
+Inv-loop start row through next₀ j₀ next j = Filled (next .sums) (next₀ .sums) 17 (λ n. min (inRow row n) (concatenated start (inRow through n))) j
 
 abbrev μ-loop : tie.MeasureT-loop
-μ-loop start y row through next₀ j₀ next j = 17 - j
+μ-loop start row through next₀ j₀ next j = 17 - j
 
 pub lowered-row-spec : {M : Type 1} → statement M
-unfolding loweredRow
+unfolding shortenedRow
 lowered-row-spec =
     tie.close
     (tie.spec
-    Inv-loop μ-loop (λ c. search needs) (λ c. search needs)
-    (λ c. simp (le-leb _ _ (c .if1 .taken)))
+    Inv-loop μ-loop
     (λ c. filled-none _ _ _ (search needs))
     (λ c. search needs) (λ c. search needs) (λ c. search needs) (λ c. search needs) (λ c κs. search needs) (λ c κs. search needs) (λ c. search needs)
     (λ c. search needs) (λ c. search needs) (λ c. search needs)
     (λ c. filled-more (c .before .before .before .before .before .loop .inv) (search needs) (c .least .ensures ∙ ap (min _) (c .before .concat .ensures)))
-    (λ c. simp (lt-leb _ _ (c .before .before .if1 .left)) (ap (λ (l : List ℕ). record { sums = l }) (filled-whole (c .before .loop .inv) (c .loop-test .left)))))
+    (λ c. ap (λ (l : List ℕ). record { sums = l }) (filled-whole (c .before .loop .inv) (c .loop-test .left))))

@@ -1,0 +1,27 @@
+-- `facts::rows::raised_row` meets its contract: each turn fills one more sum.
+use Prim.Native.Nat.{ℕ, _-_}
+use mathlib.Core.Path.{ap}
+use mathlib.Core.List.{List}
+use borrow.Author.Needs.{needs}
+use Rattle.facts.specs.Tabulate.{Filled, filled-none, filled-more, filled-whole}
+use Rattle.facts.specs.Store.{inRow, concatenated}
+use Rattle.facts.specs.Rows.{raisedRow}
+use Rattle.facts.proofs.rows.raised_row.Statement.{statement}
+use Rattle.facts.proofs.rows.raised_row.Tie as tie
+
+abbrev Inv-loop : tie.InvT-loop
+Inv-loop down row next₀ j₀ next j = Filled (next .sums) (next₀ .sums) 17 (λ n. concatenated (inRow row n) down) j
+
+abbrev μ-loop : tie.MeasureT-loop
+μ-loop down row next₀ j₀ next j = 17 - j
+
+pub raised-row-spec : {M : Type 1} → statement M
+unfolding raisedRow
+raised-row-spec =
+    tie.close
+    (tie.spec
+    Inv-loop μ-loop
+    (λ c. filled-none _ _ _ (search needs))
+    (λ c. search needs) (λ c. search needs) (λ c κs. search needs) (λ c. search needs) (λ c. search needs) (λ c. search needs) (λ c. search needs)
+    (λ c. filled-more (c .before .before .before .loop .inv) (search needs) (c .concat .ensures))
+    (λ c. ap (λ (l : List ℕ). record { sums = l }) (filled-whole (c .before .loop .inv) (c .loop-test .left))))
