@@ -1,29 +1,23 @@
 -- The flags of the variables that declared bounds name tell whether an effect touches any.
 use Prim.Native.Nat.{ℕ, zero, suc, _+_, _≤_, _<_}
-use mathlib.Core.Path.{_≡_, refl, sym, ap, _∙_}
-use mathlib.Core.Bool.{Bool, true, false, not, _&&_, _||_, false≢true}
-use mathlib.Core.List.{List, [], _∷_}
+use mathlib.Core.Path.{_≡_, refl, sym, _∙_}
+use mathlib.Core.Bool.{Bool, true, false, not, _&&_, false≢true}
+use mathlib.Core.List.{List, []}
 use mathlib.Core.Logic.{_≢_}
 use native.Mathlib.Omega.{arith}
 use borrow.Author.Tests.{ne-eqb, ltb-true, ltb-false}
 use lib.Dec.{ltb}
-use lib.ListN.{length, getD, List·getD-eq-default}
+use lib.ListN.{getD, List·getD-eq-default}
 use Rattle.facts.specs.Tabulate.{tabulate, length-tabulate, getD-tabulate}
 use Rattle.facts.specs.declared.FactSet.{FactSet}
 use Rattle.rules.specs.BoundsRules.{isPointer, declared, boundsAfter, unshown}
-use Rattle.rules.specs.declared.Bounds.{Bounds}
 use Rattle.rules.specs.declared.Environment.{Environment}
 use Rattle.rules.specs.declared.Effect.{Effect}
 use Rattle.rules.specs.declared.Effect.the-variants.{Forget}
 use Rattle.bounds.specs.Stays.{boundsStay, stays, changedBy, replacedBy, leftAlone, touchedAt, touchedFrom, touched, namedIn, touches}
 use Rattle.rules.specs.FactsTrue.{neither}
-use Rattle.bounds.specs.BoundsRulesLaws.{left-alone, untouched}
-
--- Within a list the default does not matter.
-pub default-unused : (flags : List Bool) (n : ℕ) (a b : Bool) → n < length flags → getD flags n a ≡ getD flags n b
-default-unused [] n a b h = absurd (omega arith)
-default-unused (x ∷ flags) zero a b h = refl
-default-unused (x ∷ flags) (suc n) a b h = default-unused flags n a b (omega arith)
+use Rattle.bounds.specs.BoundsRulesLaws.{left-alone}
+use Rattle.bounds.specs.TouchedLaws.{untouched}
 
 module _ (E : Environment) (e : Effect) (other : isPointer E (replacedBy e) ≡ false) where
   -- A pointer that no end names the changed variable of, and whose bounds are not replaced, is not touched.

@@ -1,5 +1,9 @@
 // What an effect makes of known bounds.
 use crate::KnownBounds;
+use crate::stays::changed_by;
+use crate::stays::end_names;
+use crate::stays::left_alone;
+use crate::stays::replaced_by;
 use rules::Bounds;
 use rules::Effect;
 use rules::KnownEnd;
@@ -8,16 +12,9 @@ use variables::End;
 use words::BIAS;
 ghost use mathlib.Core.Path.{_≡_};
 ghost use Prim.Native.Nat.{_^_, _<_};
-ghost use lib.ListN.{getD};
-ghost use Rattle.rules.specs.BoundsRules.{nothingKnown, names, forgetEnd, shiftConstant, shiftEnd, forgetBounds, shiftBounds, objectBounds, boundsAfter};
+ghost use Rattle.rules.specs.BoundsRules.{forgetEnd, shiftConstant, shiftEnd, forgetBounds, shiftBounds, objectBounds, boundsAfter};
 ghost use Rattle.rules.specs.Ranges.{Short};
 ghost use Rattle.bounds.specs.Stays.{keepsAll, sourceOf, effectOnOne};
-
-pub(crate) fn end_names(end: End, v: usize) -> bool
-    ensures { λ r. ⌜ r ≡ names end v ⌝ }
-{
-    (end.pointer == v) | (end.integer == v)
-}
 
 fn forget_end(v: usize, end: KnownEnd) -> KnownEnd
     ensures { λ r. ⌜ r ≡ forgetEnd v end ⌝ }
@@ -101,19 +98,6 @@ fn object_bounds(p: usize, length: u64) -> Bounds
     }
 }
 
-// The known bounds of a pointer; nothing is known of what is no variable.
-pub(crate) fn bounds_at(known: [Bounds; 16], p: usize) -> Bounds
-    ensures { λ r. ⌜ r ≡ getD known p nothingKnown ⌝ }
-{
-    if p < 16 {
-        return known[p];
-    }
-    Bounds {
-        lower: KnownEnd::Unknown,
-        upper: KnownEnd::Unknown,
-    }
-}
-
 // The pointer whose bounds an effect copies; where it copies none, any.
 pub(crate) fn source_of(effect: Effect) -> usize
     ensures { λ r. ⌜ r ≡ sourceOf effect ⌝ }
@@ -188,9 +172,14 @@ pub fn bounds_after(effect: Effect, known: KnownBounds) -> KnownBounds
     }
     let from = source_of(effect);
     let source = known.each[from];
+    let changed = changed_by(effect);
+    let replaced = replaced_by(effect);
     let mut next = known;
     for p in 0..16 {
-        next.each[p] = effect_on(effect, p, known.each[p], source);
+        let own = known.each[p];
+        if !left_alone(changed, replaced, p, own) {
+            next.each[p] = effect_on(effect, p, own, source);
+        }
     }
     next
 }

@@ -1,6 +1,7 @@
 // The bounds in force: what an effect makes of known bounds, and which declared bounds are shown.
 mod known; // known.rt: known bounds after an effect
 mod shown; // shown.rt: which declared bounds are shown
+mod stays; // stays.rt: which bounds an effect leaves as they are
 mod touched; // touched.rt: whether an effect touches declared bounds
 
 pub use known::bounds_after;

@@ -1,11 +1,10 @@
 // Which declared bounds are shown.
 use crate::KnownBounds;
-use crate::known::bounds_at;
 use crate::known::effect_on;
 use crate::known::source_of;
-use crate::touched::changed_by;
-use crate::touched::left_alone;
-use crate::touched::replaced_by;
+use crate::stays::changed_by;
+use crate::stays::left_alone;
+use crate::stays::replaced_by;
 use facts::FactSet;
 use refusals::Refusal;
 use rules::Bounds;
@@ -14,6 +13,7 @@ use rules::Environment;
 use rules::KnownEnd;
 use rules::Verdict;
 use rules::ZERO;
+use rules::bounds_at;
 use statements::Simple;
 use variables::End;
 use words::BIAS;

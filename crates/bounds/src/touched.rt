@@ -1,71 +1,15 @@
 // Whether an effect touches declared bounds: only those have to be shown again.
 use crate::Named;
-use crate::known::end_names;
-use rules::Bounds;
+use crate::stays::changed_by;
+use crate::stays::left_alone;
+use crate::stays::replaced_by;
 use rules::Effect;
 use rules::Environment;
-use rules::KnownEnd;
+use rules::is_pointer;
 ghost use mathlib.Core.Path.{_≡_};
 ghost use mathlib.Core.Bool.{true, false};
 ghost use lib.ListN.{getD};
-ghost use Rattle.bounds.specs.Stays.{endStays, boundsStay, leftAlone, changedBy, replacedBy, touched, namedIn, touches};
-
-// An end that is known and does not name v.
-fn end_stays(v: usize, end: KnownEnd) -> bool
-    ensures { λ r. ⌜ r ≡ endStays v end ⌝ }
-{
-    let KnownEnd::Known(e) = end else {
-        return false;
-    };
-    !end_names(e, v)
-}
-
-fn bounds_stay(v: usize, b: Bounds) -> bool
-    ensures { λ r. ⌜ r ≡ boundsStay v b ⌝ }
-{
-    let lower = b.lower;
-    let upper = b.upper;
-    end_stays(v, lower) & end_stays(v, upper)
-}
-
-// The variable that an effect changes: an end that names it has to be looked at again. No variable has the number 17.
-pub(crate) fn changed_by(effect: Effect) -> usize
-    ensures { λ r. ⌜ r ≡ changedBy effect ⌝ }
-{
-    match effect {
-        Effect::Keep => 17,
-        Effect::Forget { target } => target,
-        Effect::Shift {
-            target,
-            constant: _,
-        } => target,
-        Effect::Copy { target, source: _ } => target,
-        Effect::Object { target, length: _ } => target,
-    }
-}
-
-// The pointer whose bounds an effect replaces by others, or 17.
-pub(crate) fn replaced_by(effect: Effect) -> usize
-    ensures { λ r. ⌜ r ≡ replacedBy effect ⌝ }
-{
-    match effect {
-        Effect::Keep => 17,
-        Effect::Forget { target: _ } => 17,
-        Effect::Shift {
-            target: _,
-            constant: _,
-        } => 17,
-        Effect::Copy { target, source: _ } => target,
-        Effect::Object { target, length: _ } => target,
-    }
-}
-
-// An effect with these two numbers leaves the declared bounds of p as they are: they need not be shown again.
-pub(crate) fn left_alone(changed: usize, replaced: usize, p: usize, declared: Bounds) -> bool
-    ensures { λ r. ⌜ r ≡ leftAlone changed replaced p declared ⌝ }
-{
-    (p != replaced) & bounds_stay(changed, declared)
-}
+ghost use Rattle.bounds.specs.Stays.{touched, namedIn, touches};
 
 // Some pointer's declared bounds have to be shown again after the effect; where none have, `check_effect` accepts with any facts.
 fn spoils(environment: Environment, effect: Effect) -> bool
@@ -101,16 +45,6 @@ fn may_be_named(named: Named, v: usize) -> bool
         return named.each[v];
     }
     true
-}
-
-// p is a pointer.
-fn is_pointer(pointers: [bool; 17], p: usize) -> bool
-    ensures { λ r. ⌜ r ≡ getD pointers p false ⌝ }
-{
-    if p < 17 {
-        return pointers[p];
-    }
-    false
 }
 
 // Some pointer's declared bounds have to be shown again after the effect: they name what it changes, or it replaces them.

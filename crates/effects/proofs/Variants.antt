@@ -1,5 +1,4 @@
 -- What the last arm of the `match` in `asked_sum` is told.
-use Prim.Native.Nat.{ℕ}
 use mathlib.Core.Path.{_≡_, refl}
 use mathlib.Core.List.{[], _∷_}
 use mathlib.Core.Logic.{⊎-elim}

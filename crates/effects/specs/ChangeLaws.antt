@@ -1,10 +1,10 @@
 -- What the changes that plans are made of make of facts.
 use Prim.Native.Nat.{ℕ, _+_, _-_, _<_}
-use mathlib.Core.Path.{_≡_, refl, sym, ap, ap₂, _∙_}
-use mathlib.Core.List.{List, [], _∷_}
+use mathlib.Core.Path.{_≡_, refl, sym, ap, _∙_}
+use mathlib.Core.List.{[], _∷_}
 use native.Mathlib.Omega.{arith}
 use Rattle.facts.specs.Numbers.{bias, maxValue, zeroVar}
-use Rattle.facts.specs.Store.{added, addedFact, addedFirst, anew, changed, reassigned, dropped, ranged, shifted}
+use Rattle.facts.specs.Store.{added, addedFact, addedFirst, anew, changed, dropped, ranged, shifted}
 use Rattle.facts.specs.StoreLaws.{anew-left, anew-variable, shifted-variable}
 use Rattle.facts.specs.declared.Change.{Change}
 use Rattle.facts.specs.declared.Fact.{Fact}

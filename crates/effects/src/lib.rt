@@ -18,13 +18,13 @@ pub use loops::lose;
 use rules::Effect;
 use rules::MAX_VALUE;
 use rules::ZERO;
+use rules::length_at;
 use statements::Simple;
 use words::BIAS;
 ghost use mathlib.Core.Path.{_≡_};
 ghost use mathlib.Core.List.{[]};
 ghost use mathlib.Core.Bool.{true};
 ghost use Prim.Native.Nat.{_^_, _<_};
-ghost use lib.ListN.{getD};
 ghost use lib.Dec.{eqb};
 ghost use Rattle.facts.specs.Numbers.{bias};
 ghost use Rattle.statements.specs.declared.Simple.the-variants.{AddConstant, PointerOffset};
@@ -161,16 +161,6 @@ fn index_effect(p: usize, q: usize) -> Effect
         target: p,
         source: q,
     }
-}
-
-// The length of an object; 0 where there is no such object.
-fn length_at(lengths: [u64; 16], o: usize) -> u64
-    ensures { λ r. ⌜ r ≡ getD lengths o 0 ⌝ }
-{
-    if o < 16 {
-        return lengths[o];
-    }
-    0
 }
 
 // A statement of kinds 1 to 10; `fits` tells whether the sum that is asked for is in range.

@@ -21,12 +21,6 @@ use Rattle.entry.specs.Entered.{entered}
 use Rattle.entry.specs.declared.EntryVerdict.{EntryVerdict}
 use Rattle.entry.specs.declared.EntryVerdict.the-variants.{Begun, Refused}
 
--- An element of a list has no need of a default.
-pub any-default : {A : Type 0} (l : List A) (i : ℕ) (d e : A) → i < length l → getD l i d ≡ getD l i e
-any-default [] i d e p = absurd (omega arith)
-any-default (x ∷ l) zero d e p = refl
-any-default (x ∷ l) (suc i) d e p = any-default l i d e (omega arith)
-
 -- ---- the memory
 
 never : (b : Bool) → false ≡ (b && false)

@@ -1,16 +1,16 @@
 // Causes 10 to 12: the memory directory, the lengths of values and origins, and the entry values.
 use crate::EntryVerdict;
 use crate::entry_bounds::bounds_true;
-use crate::entry_bounds::is_pointer;
 use machine::value_at;
 use refusals::Refusal;
 use rules::Environment;
+use rules::is_pointer;
+use rules::length_at;
 use sections::Sections;
 ghost use mathlib.Core.Path.{_≡_};
 ghost use Prim.Native.Nat.{_*_, _<_};
 ghost use lib.ListN.{length};
 ghost use Rattle.refusals.specs.declared.Refusal.the-variants.{DirectoryPair, EntryValue};
-ghost use Rattle.rules.specs.BoundsRules.{objectLength};
 ghost use Rattle.entry.specs.Entry.{memoryRight, endBefore, pairRight, lengthsRight, entryRight, failures, entryRefusals};
 ghost use Rattle.entry.specs.Entered.{entered};
 
@@ -24,16 +24,6 @@ fn memory_right(sections: Sections, directory: &[u32], cells: &[u32]) -> bool
         return false;
     }
     (cells.len() <= MAX_CELLS) & (directory.len() - sections.objects == sections.objects)
-}
-
-fn object_length(environment: Environment, o: usize) -> u64
-    ensures { λ r. ⌜ r ≡ objectLength environment o ⌝ }
-{
-    let lengths = environment.lengths;
-    if o < 16 {
-        return lengths[o];
-    }
-    0
 }
 
 // Where the objects before object o end; cell 0 is in no object.
@@ -52,11 +42,12 @@ fn pair_right(environment: Environment, directory: &[u32], cells: &[u32], o: usi
     requires { ⌜ 2 * o < length (now directory) ⌝ }
     ensures { λ r. ⌜ r ≡ pairRight environment (now (directory .entry)) (now (cells .entry)) o ⌝ }
 {
+    let lengths = environment.lengths;
     let low = value_at(directory, 2 * o);
     let length = value_at(directory, 2 * o + 1);
     (end_before(directory, o) <= low)
         & (low + length <= cells.len() as u64)
-        & (length == object_length(environment, o))
+        & (length == length_at(lengths, o))
 }
 
 // Cause 10: the first pair that is wrong.
@@ -97,8 +88,9 @@ fn entry_right(
 ) -> bool
     ensures { λ r. ⌜ r ≡ entryRight sections environment (now (directory .entry)) (now (values .entry)) (now (origins .entry)) v ⌝ }
 {
+    let pointers = environment.pointers;
     let origin = value_at(origins, v);
-    if is_pointer(environment, v) & (value_at(values, v) != 0) {
+    if is_pointer(pointers, v) & (value_at(values, v) != 0) {
         return (1 <= origin)
             & (origin <= sections.objects as u64)
             & bounds_true(environment, directory, values, origins, v);

@@ -1,42 +1,17 @@
 // Whether declared bounds are true at entry. Ends are whole numbers: a constant of any size is compared without a sum that wraps.
 use crate::ends::end_of;
 use machine::value_at;
-use rules::Bounds;
 use rules::Environment;
-use rules::KnownEnd;
+use rules::bounds_at;
 use variables::End;
 use words::BIAS;
 ghost use mathlib.Core.Path.{_≡_};
 ghost use Prim.Native.Nat.{_^_, _<_};
 ghost use lib.Dec.{leb};
-ghost use Rattle.rules.specs.BoundsRules.{declared, isPointer};
 ghost use Rattle.machine.specs.Machine.{endValue, boundsTrue};
 
 // Constants from 2^40 on are above every address.
 const LARGE: u64 = 1099511627776;
-
-pub(crate) fn is_pointer(environment: Environment, v: usize) -> bool
-    ensures { λ r. ⌜ r ≡ isPointer environment v ⌝ }
-{
-    let pointers = environment.pointers;
-    if v < 17 {
-        return pointers[v];
-    }
-    false
-}
-
-fn declared_bounds(environment: Environment, p: usize) -> Bounds
-    ensures { λ r. ⌜ r ≡ declared environment p ⌝ }
-{
-    let declared = environment.declared;
-    if p < 16 {
-        return declared[p];
-    }
-    Bounds {
-        lower: KnownEnd::Unknown,
-        upper: KnownEnd::Unknown,
-    }
-}
 
 // low <= end
 fn starts_by(values: &[u32], e: End, low: u64) -> bool
@@ -82,7 +57,8 @@ pub(crate) fn bounds_true(
     let pair = 2 * (origin - 1);
     let low = value_at(directory, pair);
     let high = low + value_at(directory, pair + 1);
-    let bounds = declared_bounds(environment, p);
+    let declared = environment.declared;
+    let bounds = bounds_at(declared, p);
     let lower = bounds.lower;
     let upper = bounds.upper;
     starts_by(values, end_of(lower), low + BIAS) & ends_by(values, end_of(upper), high + BIAS)

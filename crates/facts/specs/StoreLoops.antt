@@ -4,15 +4,15 @@ use mathlib.Core.Path.{_≡_, refl, sym, ap, ap₂, _∙_}
 use mathlib.Core.List.{List}
 use mathlib.Core.Bool.{Bool, true, false, not, Bool·beq}
 use borrow.Author.Tests.{le-leb, lt-leb, ne-eqb}
-use lib.ListN.{length, getD, set}
+use lib.ListN.{length, getD, set, length-set}
 use lib.Dec.{ltb, leb, eqb}
 use native.Mathlib.Numerals.{add-one}
 use native.Mathlib.Omega.{arith}
 use Rattle.facts.specs.Numbers.{bias, zeroVar}
-use Rattle.facts.specs.Tabulate.{length-tabulate, getD-tabulate, tabulate-alike, Filled, filled-none, filled-more, filled-next, filled-each, filled-kept, filled-whole}
-use Rattle.facts.specs.Store.{pick, pickBool, pickSet, concatenated, noRow, rowAt, inRow, sumAt, setOf, leastSum, shown, loweredRow, lowered, marked, added, factAt, addedFact, addedFirst, same, joinedSum, joinedRow}
+use Rattle.facts.specs.Tabulate.{tabulate, length-tabulate, getD-tabulate, tabulate-alike, Filled, filled-none, filled-more, filled-next, filled-each, filled-kept, filled-whole}
+use Rattle.facts.specs.Store.{pick, pickBool, pickSet, concatenated, noRow, rowAt, inRow, sumAt, setOf, leastSum, shown, loweredRow, lowered, marked, added, ownRow, rerouted, reassigned, anew, factAt, addedFact, addedFirst, same, joinedSum, joinedRow}
 use Rattle.facts.specs.Rows.{shortenedRow, columnTo, raisedRow, greatestRow, throughZero}
-use Rattle.facts.specs.StoreLaws.{least-node, shown-clear, added-left, added-right, added-shown, added-closed, added-lowered}
+use Rattle.facts.specs.StoreLaws.{least-node, shown-clear, added-left, added-right, added-shown, added-closed, added-lowered, anew-left, anew-right, anew-variable}
 use Rattle.facts.specs.declared.rows.Row.{Row}
 use Rattle.facts.specs.declared.Fact.{Fact}
 use Rattle.facts.specs.declared.FactSet.{FactSet}
@@ -24,6 +24,28 @@ pub in-column : {column to : Row} (f : FactSet) (y down i : ℕ) → i < 17 → 
     → inRow column i ≡ concatenated (sumAt f i y) down
 unfolding columnTo raisedRow
 in-column f y down i h e d = rw (d, getD-tabulate, e, getD-tabulate)
+
+long-picked : (b : Bool) (f g : FactSet) → length (f .rows) ≡ 17 → length (g .rows) ≡ 17 → length (pickSet b f g .rows) ≡ 17
+long-picked true f g d e = d
+long-picked false f g d e = e
+
+module _ (f : FactSet) (x y up down : ℕ) where
+  pub long-anew : length (f .rows) ≡ 17 → length (anew f x y up down .rows) ≡ 17
+  unfolding anew reassigned
+  long-anew e = long-picked (ltb 15 x) f _ e (long-picked (ltb zeroVar y) f _ e (length-set (tabulate 17 (rerouted f x y down)) x _ ∙ length-tabulate 17 _))
+
+  -- What the code makes of the variable, way by way (`g`).
+  module _ {g : FactSet} where
+    pub anew-none : 16 ≤ x → g ≡ f → g ≡ anew f x y up down
+    anew-none h e = e ∙ sym (anew-left f x y up down (omega arith))
+
+    pub anew-nowhere : x < 16 → 17 ≤ y → g ≡ f → g ≡ anew f x y up down
+    anew-nowhere hx h e = e ∙ sym (anew-right f x y up down (omega arith) (omega arith))
+
+    pub anew-filled : {rows : List Row} {own : Row} {mark : Bool} → x < 16 → y < 17 → own ≡ ownRow (rowAt f y) x up → rows ≡ tabulate 17 (rerouted f x y down)
+        → mark ≡ f .contradiction → g ≡ setOf (set rows x own) mark → g ≡ anew f x y up down
+    unfolding reassigned
+    anew-filled hx hy o r m e = e ∙ rw (o, r, m) (sym (anew-variable f x y up down (omega arith) (omega arith)))
 
 -- ---- three facts
 
@@ -38,10 +60,6 @@ not-true false e = refl
 not-false : (b : Bool) → not b ≡ false → b ≡ true
 not-false true e = refl
 not-false false e = sym e
-
-long-picked : (b : Bool) (f g : FactSet) → length (f .rows) ≡ 17 → length (g .rows) ≡ 17 → length (pickSet b f g .rows) ≡ 17
-long-picked true f g d e = d
-long-picked false f g d e = e
 
 module _ (f : FactSet) (x y k : ℕ) where
   known-shown : x ≤ 16 → y ≤ 16 → sumAt f x y ≤ k → shown f x y k ≡ true

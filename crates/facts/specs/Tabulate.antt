@@ -86,6 +86,12 @@ unfolding tabulate
 tabulate-alike zero e = refl
 tabulate-alike {A} (suc n) e = ap₂ (λ (l : List A) (a : A). l ++ (a ∷ [])) (tabulate-alike n (λ i h. e i (omega arith))) (e n (omega arith))
 
+-- An element of a list has no need of a default.
+pub any-default : {A : Type 0} (l : List A) (i : ℕ) (d e : A) → i < length l → getD l i d ≡ getD l i e
+any-default [] i d e p = absurd (omega arith)
+any-default (x ∷ l) zero d e p = refl
+any-default (x ∷ l) (suc i) d e p = any-default l i d e (omega arith)
+
 -- The length of an array of structs, from what is known of its parts.
 pub length-under : {X Y : Type 0} (f : X → Y) (l : List X) (n : ℕ) → length (map f l) ≡ n → length l ≡ n
 length-under f l n e = sym (length-map l f) ∙ e

@@ -5,7 +5,7 @@ ghost use mathlib.Core.Path.{_≡_};
 ghost use mathlib.Core.Bool.{false};
 ghost use Prim.Native.Nat.{_<_};
 ghost use lib.ListN.{getD};
-ghost use Rattle.facts.specs.Store.{contradictory, leastSum, shown, endShown, inRange, newSet, anew, noFact, addedFirst, changed, added, dropped, shifted, joined};
+ghost use Rattle.facts.specs.Store.{contradictory, leastSum, shown, endShown, inRange, newSet, noFact, changed, added, dropped, shifted, joined};
 ghost use Rattle.facts.specs.Rows.{columnTo};
 
 mod rows;
@@ -148,30 +148,26 @@ impl FactSet {
         self.column(y)
     }
 
-    // The variable x anew, if it is one: x <= y + up and y <= x + down, and what follows of the others. One exit only, and one caller: each more costs a copy.
-    fn reassign(mut self, x: usize, y: usize, up: u64, down: u64) -> FactSet
-        ensures { λ r. ⌜ r ≡ anew self x y up down ⌝ }
+    // The facts after a change: the target anew, then the three facts besides; one that is shown already changes nothing. One function with one exit: a set that
+    // passes a function's boundary is copied.
+    pub fn after(mut self, change: Change) -> FactSet
+        ensures { λ r. ⌜ r ≡ changed self change ⌝ }
     {
-        if x < 16 {
-            if y < 17 {
-                let base = self.rows[y];
-                let own = rows::own_row(base, x, up);
-                let column = rows::raised_row(self.column_to(y), down);
-                let mask = rows::mask_row(x);
+        let target = change.target;
+        let base = change.base;
+        if target < 16 {
+            if base < 17 {
+                let own = rows::own_row(self.rows[base], target, change.up);
+                let column = rows::raised_row(self.column_to(base), change.down);
+                let mask = rows::mask_row(target);
                 for i in 0..17 {
                     let row = self.rows[i];
                     self.rows[i] = rows::rerouted_row(row, mask, column.sums[i]);
                 }
-                self.rows[x] = own;
+                self.rows[target] = own;
             }
         }
-        self
-    }
-
-    // With three facts besides. A fact that is shown already changes nothing.
-    fn add_each(mut self, facts: [Fact; 3]) -> FactSet
-        ensures { λ r. ⌜ r ≡ addedFirst 3 facts self ⌝ }
-    {
+        let facts = change.facts;
         for n in 0..3 {
             let fact = facts[n];
             let x = fact.x;
@@ -200,15 +196,6 @@ impl FactSet {
             }
         }
         self
-    }
-
-    // The facts after a change.
-    pub fn after(self, change: Change) -> FactSet
-        ensures { λ r. ⌜ r ≡ changed self change ⌝ }
-    {
-        let facts = change.facts;
-        self.reassign(change.target, change.base, change.up, change.down)
-            .add_each(facts)
     }
 
     // With x <= y + k besides.

@@ -1,6 +1,6 @@
 -- `effects::assume` meets its contract, relation by relation.
 use borrow.Author.Needs.{needs}
-use mathlib.Core.Path.{ap, _∙_}
+use mathlib.Core.Path.{_∙_}
 use Rattle.effects.specs.FactRulesLaws.{condition-less, condition-not-less, condition-greater, condition-not-greater, condition-equal, differs-variable, differs-literal, differs-zero}
 use Rattle.effects.proofs.assume.Statement.{statement}
 use Rattle.effects.proofs.assume.Tie as tie

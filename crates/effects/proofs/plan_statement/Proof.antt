@@ -1,6 +1,6 @@
 -- `effects::plan_statement` meets its contract, kind by kind.
 use borrow.Author.Needs.{needs}
-use mathlib.Core.Path.{refl, sym, ap, _∙_}
+use mathlib.Core.Path.{refl, sym}
 use native.Mathlib.Omega.{arith}
 use Rattle.facts.specs.StoreLaws.{plain-in-range}
 use Rattle.rules.specs.FactRules.{factsAfter}

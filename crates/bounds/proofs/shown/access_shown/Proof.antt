@@ -1,6 +1,6 @@
 -- `bounds::shown::access_shown` meets its contract.
 use borrow.Author.Needs.{needs}
-use Rattle.bounds.specs.BoundsRulesLaws.{load-shown, store-shown}
+use Rattle.bounds.specs.ShownLaws.{load-shown, store-shown}
 use Rattle.bounds.proofs.Variants.{no-access}
 use Rattle.bounds.proofs.shown.access_shown.Statement.{statement}
 use Rattle.bounds.proofs.shown.access_shown.Tie as tie

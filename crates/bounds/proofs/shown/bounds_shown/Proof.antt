@@ -2,7 +2,7 @@
 use borrow.Author.Needs.{needs}
 use mathlib.Core.Path.{sym, _∙_}
 use mathlib.Core.Logic.{inl, inr, ⊎-elim}
-use Rattle.bounds.specs.BoundsRulesLaws.{ends-shown, null-shown}
+use Rattle.bounds.specs.ShownLaws.{ends-shown, null-shown}
 use Rattle.bounds.proofs.shown.bounds_shown.Statement.{statement}
 use Rattle.bounds.proofs.shown.bounds_shown.Tie as tie
 

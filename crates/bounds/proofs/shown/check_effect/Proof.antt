@@ -5,7 +5,8 @@ use native.Mathlib.Omega.{arith}
 use mathlib.Core.Logic.{⊎-elim}
 use Rattle.facts.specs.Tabulate.{length-under}
 use Rattle.rules.specs.BoundsRules.{boundsAfter}
-use Rattle.bounds.specs.BoundsRulesLaws.{source-below, source-within, stays-read, Passed, passed-none, passed-more, passed-missed, passed-all, effect-unasked, effect-shown, effect-missed}
+use Rattle.bounds.specs.BoundsRulesLaws.{source-below, source-within, stays-read}
+use Rattle.bounds.specs.ShownLaws.{Passed, passed-none, passed-more, passed-missed, passed-all, effect-unasked, effect-shown, effect-missed}
 use Rattle.bounds.proofs.shown.check_effect.Statement.{statement}
 use Rattle.bounds.proofs.shown.check_effect.Tie as tie
 

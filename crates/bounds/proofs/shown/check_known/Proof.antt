@@ -3,7 +3,7 @@ use borrow.Author.Needs.{needs}
 use Prim.Native.Nat.{_-_}
 use mathlib.Core.Logic.{⊎-elim}
 use Rattle.facts.specs.Tabulate.{length-under}
-use Rattle.bounds.specs.BoundsRulesLaws.{Passed, passed-none, passed-more, passed-missed, passed-all, known-unasked, known-shown, known-missed}
+use Rattle.bounds.specs.ShownLaws.{Passed, passed-none, passed-more, passed-missed, passed-all, known-unasked, known-shown, known-missed}
 use Rattle.bounds.proofs.shown.check_known.Statement.{statement}
 use Rattle.bounds.proofs.shown.check_known.Tie as tie
 

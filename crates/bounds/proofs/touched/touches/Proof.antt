@@ -1,8 +1,5 @@
 -- `bounds::touched::touches` meets its contract.
 use borrow.Author.Needs.{needs}
-use mathlib.Core.Path.{ap, ap₂, _∙_}
-use mathlib.Core.Bool.{Bool, true, false, _||_}
-use lib.ListN.{getD}
 use Rattle.bounds.specs.Stays.{touches}
 use Rattle.bounds.proofs.touched.touches.Statement.{statement}
 use Rattle.bounds.proofs.touched.touches.Tie as tie

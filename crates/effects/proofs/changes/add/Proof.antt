@@ -1,7 +1,6 @@
 -- `effects::changes::add` meets its contract.
 use borrow.Author.Needs.{needs}
 use Rattle.effects.specs.ChangeLaws.{changed-none}
-use mathlib.Core.Path.{refl}
 use Rattle.effects.proofs.changes.add.Statement.{statement}
 use Rattle.effects.proofs.changes.add.Tie as tie
 

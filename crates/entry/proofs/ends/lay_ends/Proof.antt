@@ -4,11 +4,10 @@ use mathlib.Core.Path.{_≡_, ap, _∙_}
 use native.Mathlib.Omega.{arith}
 use borrow.Author.Needs.{needs}
 use lib.ListN.{length, getD}
-use Rattle.facts.specs.Tabulate.{Filled, filled-none, filled-more, filled-whole, length-under}
+use Rattle.facts.specs.Tabulate.{any-default, Filled, filled-none, filled-more, filled-whole, length-under}
 use Rattle.rules.specs.BoundsRules.{nothingKnown}
 use Rattle.rules.specs.declared.Bounds.{Bounds}
 use Rattle.entry.specs.Ends.{boundsNumber, endsOf}
-use Rattle.entry.specs.EntryLaws.{any-default}
 use Rattle.entry.proofs.ends.lay_ends.Statement.{statement}
 use Rattle.entry.proofs.ends.lay_ends.Tie as tie
 

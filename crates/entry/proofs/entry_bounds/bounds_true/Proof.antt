@@ -19,4 +19,4 @@ bounds-true-spec =
     (λ c. search needs) (λ c. search needs) (λ c κs. search needs) (λ c. search needs) (λ c κs. search needs) (λ c. search needs)
     (λ c κs. search needs) (λ c κs. search needs) (λ c. search needs) (λ c κs. search needs) (λ c κs. search needs) (λ c. search needs)
     (λ c κs. search needs)
-    (λ c. rw (c .ends-by .ensures, c .before .before .starts-by .ensures, c .before .end-of2 .ensures, c .before .before .before .end-of .ensures, c .before .before .before .before .declared-bounds .ensures, c .before .before .before .before .before .value-at4 .ensures .0, c .before .before .before .before .before .before .value-at3 .ensures .0, c .before .before .before .before .before .before .before .before .value-at2 .ensures .0, ne-eqb _ _ (λ e. c .before .before .before .before .before .before .before .before .before .if1 .left (c .before .before .before .before .before .before .before .before .before .before .value-at .ensures .0 ∙ e))) (origin-some _ _ _ _ (λ e. c .before .before .before .before .before .before .before .if2 .left (c .before .before .before .before .before .before .before .before .value-at2 .ensures .0 ∙ e)))))
+    (λ c. rw (c .ends-by .ensures, c .before .before .starts-by .ensures, c .before .end-of2 .ensures, c .before .before .before .end-of .ensures, c .before .before .before .before .bounds-at .ensures, c .before .before .before .before .before .before .value-at4 .ensures .0, c .before .before .before .before .before .before .before .value-at3 .ensures .0, c .before .before .before .before .before .before .before .before .before .value-at2 .ensures .0, ne-eqb _ _ (λ e. c .before .before .before .before .before .before .before .before .before .before .if1 .left (c .before .before .before .before .before .before .before .before .before .before .before .value-at .ensures .0 ∙ e))) (origin-some _ _ _ _ (λ e. c .before .before .before .before .before .before .before .before .if2 .left (c .before .before .before .before .before .before .before .before .before .value-at2 .ensures .0 ∙ e)))))

@@ -1,12 +1,84 @@
--- `facts::FactSet::after` meets its contract.
+-- `facts::FactSet::after` meets its contract: the first loop fills one more row a turn; each turn of the second adds one more fact, and each turn of the third, inside
+-- it, lowers one more row.
+use Prim.Native.Nat.{ℕ, _-_}
+use mathlib.Core.Path.{_≡_, ap, ap₂, _∙_}
+use mathlib.Core.Logic.{⊎-elim}
 use borrow.Author.Needs.{needs}
+use lib.ListN.{length}
+use Rattle.facts.specs.declared.rows.Row.{Row}
+use Rattle.facts.specs.declared.FactSet.{FactSet}
+use Rattle.facts.specs.Tabulate.{Filled, filled-none, filled-more, filled-next, filled-whole, length-under}
+use Rattle.facts.specs.Store.{noRow, reroutedRow, rerouted, anew}
+use Rattle.facts.specs.Masks.{masks, merged-rerouted}
 use Rattle.facts.specs.StoreLaws.{changed-steps}
+use Rattle.facts.specs.StoreLoops.{in-column, long-anew, anew-none, anew-nowhere, anew-filled, Lowering, lowering-none, lowering-falls, lowering-stays, lowering-done, Told, told-none, told-more, told-all, way-left, way-right, way-marked, way-known, way-closed, way-lowered}
 use Rattle.facts.proofs.FactSet.after.Statement.{statement}
 use Rattle.facts.proofs.FactSet.after.Tie as tie
+
+abbrev Inv-loop : tie.InvT-loop
+Inv-loop change self₀ target base own column mask i₀ self i =
+    Filled (self .rows) (self₀ .rows) 17 (rerouted self₀ target base (change .down)) i × (self .contradiction ≡ self₀ .contradiction)
+
+abbrev μ-loop : tie.MeasureT-loop
+μ-loop change self₀ target base own column mask i₀ self i = 17 - i
+
+abbrev Inv-loop3 : tie.InvT-loop3
+Inv-loop3 self₀ target base facts n x y k through i₀ self i = Lowering x y k through self₀ self i
+
+abbrev μ-loop3 : tie.MeasureT-loop3
+μ-loop3 self₀ target base facts n x y k through i₀ self i = 17 - i
+
+abbrev Inv-loop2 : tie.InvT-loop2
+Inv-loop2 self₀ target base facts n₀ self n = Told facts self₀ self n
+
+abbrev μ-loop2 : tie.MeasureT-loop2
+μ-loop2 self₀ target base facts n₀ self n = 3 - n
+
+-- The set before the facts are added.
+remade : (c : tie.Joined1 Inv-loop μ-loop Inv-loop3 μ-loop3 Inv-loop2 μ-loop2) → let from = c .before .args in
+    c .if1 .self ≡ anew (from .t1) (from .change .target) (from .change .base) (from .change .up) (from .change .down)
+remade c =
+    let from = c .before .args in
+    ⊎-elim (λ w. anew-filled (from .t1) _ _ (from .change .up) (from .change .down) (w .0 .taken) (w .1 .taken) (w .3 .ensures) (filled-whole (w .7 .inv .0) (w .8 .left)) (w .7 .inv .1) (w .9))
+    (⊎-elim (λ w. anew-nowhere _ _ _ _ _ (w .0 .taken) (w .1 .left) (w .2))
+    (λ w. anew-none _ _ _ _ _ (w .0 .left) (w .1))) (c .if1 .came)
 
 pub after-spec : {M : Type 1} → statement M
 after-spec =
     tie.close
     (tie.spec
-    (λ c κs. search needs) (λ c κs. search needs)
-    (λ c. changed-steps _ _ (c .before .reassign .ensures) (c .add-each .ensures)))
+    Inv-loop μ-loop Inv-loop3 μ-loop3 Inv-loop2 μ-loop2
+    (λ c. search needs) (λ c. search needs) (λ c κs. search needs) (λ c κs. search needs) (λ c κs. search needs) (λ c κs. search needs)
+    (λ c. (filled-none _ _ _ (search (length-under, needs)), search needs))
+    (λ c. search needs) (λ c. search needs) (λ c. search needs) (λ c. search needs)
+    (λ c κs. masks _ (search needs) (c .before .before .before .before .mask-row .ensures))
+    (λ c. search needs) (λ c. search needs) (λ c. search needs) (λ c. search needs)
+    (λ c. let at = c .before .before .before .before .loop in
+    let made = c .before .before .before .before .before in
+    let from = made .before .before .before .before .before .before .before .args in (
+      filled-more (at .inv .0) (search needs)
+          (c .rerouted-row .ensures ∙ merged-rerouted (from .change .target) _ _ (search needs) (made .mask-row .ensures)
+          ∙ ap₂ (λ (row : Row) (to : ℕ). reroutedRow row (from .change .target) to) (filled-next noRow (at .inv .0))
+          (in-column (from .t1) (from .change .base) (from .change .down) (at .i) (search needs) (made .before .before .column-to .ensures) (made .before .raised-row .ensures))),
+      at .inv .1,
+    ))
+    (λ c. search needs) (λ c. search needs)
+    (λ c. told-none (ap (λ (f : FactSet). length (f .rows)) (remade (c .before)) ∙ long-anew _ _ _ _ _ (search (length-under, needs))))
+    (λ c. search needs) (λ c. search needs) (λ c. search needs) (λ c. search needs) (λ c. search needs) (λ c. search needs) (λ c. search needs) (λ c. search needs)
+    (λ c. search needs) (λ c. search needs) (λ c κs. search needs)
+    (λ c. lowering-none (search needs))
+    (λ c. search needs) (λ c. search needs) (λ c. search needs) (λ c. search needs) (λ c κs. search needs)
+    (λ c. search needs) (λ c. search needs) (λ c κs. search needs) (λ c. search needs) (λ c. search needs) (λ c. search needs) (λ c. search needs)
+    (λ c. let at = c .before .before .before .before .before .before .loop3 in
+    ⊎-elim (λ w. lowering-falls (at .inv) (search needs) (c .before .before .concat2 .ensures) (w .0 .taken) (w .1 .ensures) (w .2))
+    (λ w. lowering-stays (at .inv) (search needs) (c .before .before .concat2 .ensures) (w .0 .left) (w .1))
+    (c .if8 .came))
+    (λ c. search needs) (λ c. search needs)
+    (λ c. told-more (c .before .before .before .loop2 .inv) (search needs)
+    (⊎-elim (λ w. way-closed _ _ _ _ (w .0 .taken) (w .1 .taken) (w .2 .taken) (w .5 .taken) (w .8 .ensures) (w .9 .taken) (w .10))
+    (⊎-elim (λ w. way-lowered _ _ _ _ (w .0 .taken) (w .1 .taken) (w .2 .taken) (w .5 .taken) (w .8 .ensures) (w .9 .left) (w .12 ∙ lowering-done (w .10 .inv) (w .11 .left)))
+    (⊎-elim (λ w. way-known _ _ _ _ (w .0 .taken) (w .1 .taken) (w .5 .left) (w .6))
+    (⊎-elim (λ w. way-marked _ _ _ _ (w .0 .taken) (w .1 .taken) (w .2 .left) (w .3))
+    (⊎-elim (λ w. way-right _ _ _ _ (w .0 .taken) (w .1 .left) (w .2))
+    (λ w. way-left _ _ _ _ (w .0 .left) (w .1)))))) (c .if3 .came)))
+    (λ c. changed-steps _ _ (remade (c .before .before .before)) (told-all (c .before .loop2 .inv) (c .loop2-test .left))))

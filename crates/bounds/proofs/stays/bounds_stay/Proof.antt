@@ -1,8 +1,8 @@
--- `bounds::touched::bounds_stay` meets its contract.
+-- `bounds::stays::bounds_stay` meets its contract.
 use borrow.Author.Needs.{needs}
 use Rattle.bounds.specs.Stays.{boundsStay}
-use Rattle.bounds.proofs.touched.bounds_stay.Statement.{statement}
-use Rattle.bounds.proofs.touched.bounds_stay.Tie as tie
+use Rattle.bounds.proofs.stays.bounds_stay.Statement.{statement}
+use Rattle.bounds.proofs.stays.bounds_stay.Tie as tie
 
 pub bounds-stay-spec : {M : Type 1} → statement M
 unfolding boundsStay

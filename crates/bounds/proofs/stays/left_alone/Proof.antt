@@ -1,8 +1,8 @@
--- `bounds::touched::left_alone` meets its contract.
+-- `bounds::stays::left_alone` meets its contract.
 use borrow.Author.Needs.{needs}
 use Rattle.bounds.specs.Stays.{leftAlone}
-use Rattle.bounds.proofs.touched.left_alone.Statement.{statement}
-use Rattle.bounds.proofs.touched.left_alone.Tie as tie
+use Rattle.bounds.proofs.stays.left_alone.Statement.{statement}
+use Rattle.bounds.proofs.stays.left_alone.Tie as tie
 
 pub left-alone-spec : {M : Type 1} → statement M
 unfolding leftAlone

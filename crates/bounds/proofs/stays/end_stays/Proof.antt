@@ -1,8 +1,8 @@
--- `bounds::touched::end_stays` meets its contract.
+-- `bounds::stays::end_stays` meets its contract.
 use borrow.Author.Needs.{needs}
 use Rattle.bounds.specs.Stays.{endStays}
-use Rattle.bounds.proofs.touched.end_stays.Statement.{statement}
-use Rattle.bounds.proofs.touched.end_stays.Tie as tie
+use Rattle.bounds.proofs.stays.end_stays.Statement.{statement}
+use Rattle.bounds.proofs.stays.end_stays.Tie as tie
 
 pub end-stays-spec : {M : Type 1} → statement M
 unfolding endStays

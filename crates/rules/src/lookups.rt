@@ -1,0 +1,40 @@
+// What is declared of a variable or an object by its number; of a number that has none, what the definitions say.
+use crate::Bounds;
+use crate::KnownEnd;
+ghost use mathlib.Core.Path.{_≡_};
+ghost use mathlib.Core.Bool.{false};
+ghost use lib.ListN.{getD};
+ghost use Rattle.rules.specs.BoundsRules.{nothingKnown};
+
+// v is a pointer.
+pub fn is_pointer(pointers: [bool; 17], v: usize) -> bool
+    ensures { λ r. ⌜ r ≡ getD pointers v false ⌝ }
+{
+    if v < 17 {
+        return pointers[v];
+    }
+    false
+}
+
+// The bounds of a pointer.
+pub fn bounds_at(each: [Bounds; 16], p: usize) -> Bounds
+    ensures { λ r. ⌜ r ≡ getD each p nothingKnown ⌝ }
+{
+    if p < 16 {
+        return each[p];
+    }
+    Bounds {
+        lower: KnownEnd::Unknown,
+        upper: KnownEnd::Unknown,
+    }
+}
+
+// The length of an object.
+pub fn length_at(lengths: [u64; 16], o: usize) -> u64
+    ensures { λ r. ⌜ r ≡ getD lengths o 0 ⌝ }
+{
+    if o < 16 {
+        return lengths[o];
+    }
+    0
+}
