@@ -84,7 +84,7 @@ touchedFrom E e (suc n) p = touchedAt E e p || touchedFrom E e n (p + 1)
 unfoldable pub touched : Environment → Effect → Bool
 touched E e = touchedFrom E e 16 0
 
--- For each variable, and 17 for none, whether it touches some pointer's declared bounds to forget it.
+-- For each variable, and for none (17): to forget it touches some pointer's declared bounds.
 unfoldable pub namedIn : Environment → List Bool
 namedIn E = tabulate 18 (λ v. touched E (Forget v))
 

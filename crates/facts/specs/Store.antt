@@ -41,7 +41,7 @@ concatenated a b = pick (leb (2 ^ 40) a) unbounded (pick (leb (2 ^ 40) b) unboun
 abbrev pub negated : ℕ → ℕ
 negated a = bias + bias - a
 
--- The greatest value less a.
+-- The greatest value less a: what can be raised by a is at most this.
 abbrev pub roomAbove : ℕ → ℕ
 roomAbove a = bias + maxValue + bias - a
 
@@ -80,7 +80,7 @@ shown f x y k = pickBool (f .contradiction) true (leb (leastSum f x y) k)
 unfoldable pub endShown : FactSet → ℕ → ℕ → ℕ → ℕ → ℕ → ℕ → Bool
 endShown f q n k r m j = pickBool (f .contradiction) true (leb (concatenated (concatenated (leastSum f q r) (leastSum f n m)) k) j)
 
--- 0 <= y + k <= 4,294,967,295 is shown; a plain copy always counts as shown.
+-- "when 0 <= y + k <= 4,294,967,295 is shown": 0 <= y + k, and y <= 4,294,967,295 - k; "a plain copy always counts as shown".
 unfoldable pub inRange : FactSet → ℕ → ℕ → Bool
 inRange f y k = eqb k bias || shown f zeroVar y k && shown f y zeroVar (roomAbove k)
 

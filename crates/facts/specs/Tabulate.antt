@@ -81,6 +81,7 @@ filled-last {l} {old} {n} {i} {f} {a} m p e d q =
     let r : Filled l old n f m = rw e at p in
     filled-whole (filled-more r (omega arith) q) (omega arith)
 
+-- Functions that agree below n make the same list.
 pub tabulate-alike : {A : Type 0} (n : ℕ) {f g : ℕ → A} → ((i : ℕ) → i < n → f i ≡ g i) → tabulate n f ≡ tabulate n g
 unfolding tabulate
 tabulate-alike zero e = refl
