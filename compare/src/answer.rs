@@ -112,3 +112,15 @@ pub struct RunInput {
     pub origins: Vec<u32>,
     pub allowance: u32,
 }
+
+impl RunInput {
+    /// Becomes the same as the other, in the memory it has already.
+    pub fn copy_from(&mut self, other: &RunInput) {
+        let RunInput { directory, cells, values, origins, allowance } = other;
+        self.directory.clone_from(directory);
+        self.cells.clone_from(cells);
+        self.values.clone_from(values);
+        self.origins.clone_from(origins);
+        self.allowance = *allowance;
+    }
+}

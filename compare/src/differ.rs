@@ -1,27 +1,58 @@
 //! The comparison of an implementation with the plain form of this crate.
 
-use crate::answer::{show_check, RunAnswer, RunInput};
+use crate::answer::{show_check, Refusal, RunAnswer, RunInput};
 use crate::generate::{case, Case};
+use crate::parallel::lowest;
 use crate::proved::{check_agrees, run_agrees, show_check_words, show_run_words, Implementation};
 use crate::shrink::shrink;
+use crate::table::{decode, Routine};
 use crate::{checker, machine};
 use std::fmt::Write;
 
+/// A case and its two runs. The plain form checks the table once, and the buffers are used again at every
+/// limit: each can be 64 MB, and new ones for each run took nearly a third of the time.
+struct Runs<'a> {
+    case: &'a Case,
+    routine: Result<Routine, Refusal>,
+    ours: RunInput,
+    theirs: RunInput,
+}
+
+impl<'a> Runs<'a> {
+    fn new(case: &'a Case) -> Runs<'a> {
+        let routine = decode(&case.table).and_then(|r| checker::check_routine(&r).map(|_| r));
+        Runs { case, routine, ours: RunInput::default(), theirs: RunInput::default() }
+    }
+
+    fn check_difference(&self, other: &dyn Implementation) -> Option<String> {
+        let right = self.routine.as_ref().map(|_| ()).map_err(|refusal| *refusal);
+        let words = other.check(&self.case.table);
+        (!check_agrees(&right, words))
+            .then(|| format!("check: {} and {}", show_check(&right), show_check_words(words)))
+    }
+
+    fn run_difference(&mut self, allowance: u32, other: &dyn Implementation) -> Option<String> {
+        for buffers in [&mut self.ours, &mut self.theirs] {
+            buffers.copy_from(&self.case.input);
+            buffers.allowance = allowance;
+        }
+        let right = match &self.routine {
+            Err(refusal) => RunAnswer::Refused(*refusal),
+            Ok(routine) => machine::run_routine(routine, &mut self.ours),
+        };
+        let words = other.run(&self.case.table, &mut self.theirs);
+        if !run_agrees(&right, words) {
+            return Some(format!("run: {right} and {}", show_run_words(words)));
+        }
+        // All buffers: what may not be written must be as it was.
+        (self.ours != self.theirs).then(|| "buffers after the run differ".to_string())
+    }
+}
+
 /// What differs on a case, in words; `None` where all agrees.
 pub fn difference(case: &Case, other: &dyn Implementation) -> Option<String> {
-    let right = checker::check(&case.table);
-    let words = other.check(&case.table);
-    if !check_agrees(&right, words) {
-        return Some(format!("check: {} and {}", show_check(&right), show_check_words(words)));
-    }
-    let (mut ours, mut theirs) = (case.input.clone(), case.input.clone());
-    let right = machine::run(&case.table, &mut ours);
-    let words = other.run(&case.table, &mut theirs);
-    if !run_agrees(&right, words) {
-        return Some(format!("run: {right} and {}", show_run_words(words)));
-    }
-    // All buffers: what may not be written must be as it was.
-    (ours != theirs).then(|| "buffers after the run differ".to_string())
+    let mut runs = Runs::new(case);
+    runs.check_difference(other).or_else(|| runs.run_difference(case.input.allowance, other))
 }
 
 /// How many limits are tried on a case, and on how many of the generated cases.
@@ -30,24 +61,33 @@ const SAMPLE: u64 = 64;
 
 /// What differs on a case where its run is given each limit from 0 to its end.
 pub fn at_every_limit(case: &Case, other: &dyn Implementation) -> Option<String> {
+    let mut runs = Runs::new(case);
+    // A check is given no limit: compared once, before the first.
+    let mut check = runs.check_difference(other);
     (0..=case.input.allowance.min(LIMITS)).find_map(|limit| {
-        let mut shorter = case.clone();
-        shorter.input.allowance = limit;
-        difference(&shorter, other).map(|what| format!("with the limit {limit}: {what}"))
+        let what = check.take().or_else(|| runs.run_difference(limit, other))?;
+        Some(format!("with the limit {limit}: {what}"))
     })
 }
 
 /// The first difference among the cases from `first` on, as a report.
 pub fn search(seed: u64, first: u64, count: u64, other: &dyn Implementation) -> Option<String> {
-    (first..first + count).find_map(|number| {
+    let look = |number| {
         let found = case(seed, number);
         if number % SAMPLE == 0 {
             if let Some(what) = at_every_limit(&found, other) {
-                return Some(format!("seed {seed}, number {number}, {what}\n{}", vector(&found)));
+                return Some((found, what, true));
             }
         }
         let what = difference(&found, other)?;
-        Some(report(seed, number, &found, &what, other))
+        Some((found, what, false))
+    };
+    // Only the case to report is made small.
+    let (number, (found, what, at_a_limit)) = lowest(first..first + count, look)?;
+    Some(if at_a_limit {
+        format!("seed {seed}, number {number}, {what}\n{}", vector(&found))
+    } else {
+        report(seed, number, &found, &what, other)
     })
 }
 
@@ -130,6 +170,22 @@ mod tests {
         let read = vectors::read(&case).unwrap();
         assert!(vectors::differences(&read[0]).is_empty());
         assert!(read[0].table.len() < 80, "{report}");
+    }
+
+    #[test]
+    fn the_lowest_case_that_differs_is_the_one_reported() {
+        let differs = |&number: &u64| difference(&case(12, number), &Lenient).is_some();
+        for first in [0, 1, 700] {
+            let number = (first..).find(differs).unwrap();
+            let report = search(12, first, 4_000, &Lenient).expect("a difference");
+            let found = if number % SAMPLE == 0 {
+                format!("seed 12, number {number}, with the limit")
+            } else {
+                format!("difference: plain form and lenient, seed 12, number {number}\n")
+            };
+            assert!(report.starts_with(&found), "from {first}, {number}: {report}");
+            assert_eq!(search(12, first, number - first, &Lenient), None);
+        }
     }
 
     #[test]

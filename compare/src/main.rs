@@ -15,6 +15,7 @@ mod linked;
 mod machine;
 #[cfg(test)]
 mod notation;
+mod parallel;
 mod proved;
 mod rng;
 mod shrink;
@@ -76,9 +77,14 @@ fn check_vectors(directory: &Path) -> Result<bool, String> {
     let mut differences = Vec::new();
     for file in ["named.txt", "random.txt"] {
         let cases = vectors::read_file(&directory.join(file))?;
-        let wrong = cases.iter().map(all_differences).filter(|d| !d.is_empty());
+        let look = |n: u64| Some(all_differences(&cases[n as usize])).filter(|d| !d.is_empty());
         let before = differences.len();
-        differences.extend(wrong);
+        // From each wrong case on to the next, so they come in the order of the file.
+        let mut first = 0;
+        while let Some((number, wrong)) = parallel::lowest(first..cases.len() as u64, look) {
+            differences.push(wrong);
+            first = number + 1;
+        }
         counts.push(format!("{file}: {} of {} right", cases.len() + before - differences.len(), cases.len()));
     }
     println!("{}", counts.join(", "));

@@ -15,8 +15,9 @@ pub type CheckWords = [u32; 3];
 pub type RunWords = [u32; 4];
 
 /// What an implementation under comparison offers. A run works in the lent
-/// buffers: it may write `cells` and `values`, and nothing else.
-pub trait Implementation {
+/// buffers: it may write `cells` and `values`, and nothing else. Several
+/// threads call it at once.
+pub trait Implementation: Sync {
     fn name(&self) -> &'static str;
     fn check(&self, table: &[i32]) -> CheckWords;
     fn run(&self, table: &[i32], input: &mut RunInput) -> RunWords;
