@@ -15,6 +15,7 @@ use Rattle.sections.specs.SectionsLaws.{both}
 use Rattle.statements.specs.declared.Simple.{Simple}
 use Rattle.statements.specs.declared.Simple.the-variants.{Literal, AddConstant, Arithmetic, Null, Address, PointerOffset, PointerIndex, Load, Store, Check}
 use Rattle.rules.specs.BoundsRules.{nothingKnown, pickEnd, pickBounds, pickEffect, known, names, forgetEnd, shiftConstant, shiftEnd, forgetBounds, shiftBounds, objectBounds, effectOn, boundsAfter, effect}
+use Rattle.rules.specs.BoundsTrue.{known-after}
 use Rattle.rules.specs.Ranges.{InRange, Measured, Short}
 use Rattle.bounds.specs.Stays.{sourceOf, effectOnOne, keepsAll, endStays, boundsStay, stays, changedBy, replacedBy, leftAlone}
 use Rattle.rules.specs.declared.KnownEnd.{KnownEnd}
@@ -44,7 +45,7 @@ stored K p = getD K p blank
 pub stored-known : (K : List Bounds) (p : ℕ) → p < length K → stored K p ≡ known K p
 stored-known K p h = any-default K p _ _ h
 
-pub effect-on-read : (e : Effect) (K : List Bounds) (p : ℕ) {r : Bounds} (q : ℕ) → p < length K → q < length K → q ≡ sourceOf e
+effect-on-read : (e : Effect) (K : List Bounds) (p : ℕ) {r : Bounds} (q : ℕ) → p < length K → q < length K → q ≡ sourceOf e
     → r ≡ effectOnOne e p (stored K p) (stored K q) → r ≡ effectOn e K p
 effect-on-read e K p q h i z t =
     t ∙ (ap (λ (b : Bounds). effectOnOne e p b (stored K q)) (stored-known K p h) ∙ (ap (effectOnOne e p (known K p)) (stored-known K q i ∙ ap (known K) z) ∙ sym (effect-on-one e K p)))
@@ -67,8 +68,13 @@ source-below (Shift v k) s = omega arith
 source-below (Copy v q) s = s
 source-below (Object v n) s = omega arith
 
-pub source-within : (K : List Bounds) (e : Effect) {q : ℕ} → q ≡ sourceOf e → Short e → length K ≡ 16 → q < length K
+source-within : (K : List Bounds) (e : Effect) {q : ℕ} → q ≡ sourceOf e → Short e → length K ≡ 16 → q < length K
 source-within K e z s l = omega (arith, source-below e s)
+
+-- What the code makes of one pointer's bounds is what is known of it after the effect.
+pub effect-known : (e : Effect) (K : List Bounds) {p : ℕ} {r : Bounds} (q : ℕ) → p < 16 → length K ≡ 16 → Short e → q ≡ sourceOf e
+    → r ≡ effectOnOne e p (stored K p) (stored K q) → r ≡ known (boundsAfter e K) p
+effect-known e K {p} q h l s z t = effect-on-read e K p q (omega arith) (source-within K e z s l) z t ∙ sym (known-after e K p h)
 
 short-picked : (b : Bool) (e g : Effect) → Short e → Short g → Short (pickEffect b e g)
 short-picked true e g p q = p

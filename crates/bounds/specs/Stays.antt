@@ -1,11 +1,11 @@
--- What the functions of this crate give back, in terms of the rules: an effect on one pointer's bounds, bounds that stay, bounds that are the same.
+-- What the functions of this crate give back, in terms of the rules: an effect on one pointer's bounds, bounds that stay, bounds that are touched.
 use Prim.Native.Nat.{ℕ, zero, suc, _+_}
 use mathlib.Core.Bool.{Bool, true, false, not, _&&_, _||_}
 use mathlib.Core.List.{List}
 use lib.Dec.{eqb}
 use lib.ListN.{getD}
 use Rattle.facts.specs.Tabulate.{tabulate}
-use Rattle.rules.specs.BoundsRules.{pickBounds, isPointer, declared, names, forgetBounds, shiftBounds, objectBounds, sameEnd}
+use Rattle.rules.specs.BoundsRules.{pickBounds, isPointer, declared, names, forgetBounds, shiftBounds, objectBounds}
 use Rattle.rules.specs.declared.KnownEnd.{KnownEnd}
 use Rattle.rules.specs.declared.KnownEnd.the-variants.{Known, Unknown}
 use Rattle.rules.specs.declared.Bounds.{Bounds}
@@ -91,13 +91,3 @@ namedIn E = tabulate 18 (λ v. touched E (Forget v))
 -- The same as `touched`, told from those flags and the kinds of the variables.
 unfoldable pub touches : List Bool → List Bool → Effect → Bool
 touches named pointers e = getD named (changedBy e) true || getD pointers (replacedBy e) false
-
--- Both ends are known and the same.
-unfoldable pub sameKnown : KnownEnd → KnownEnd → Bool
-sameKnown Unknown g = false
-sameKnown (Known e) Unknown = false
-sameKnown (Known e) (Known g) = sameEnd e g
-
--- Known and declared bounds are the same, end by end; each pair in the order in which `boundsShown` compares it.
-unfoldable pub sameBounds : Bounds → Bounds → Bool
-sameBounds k d = sameKnown (k .lower) (d .lower) && sameKnown (d .upper) (k .upper)

@@ -2,16 +2,19 @@
 use Prim.Native.Nat.{ℕ, zero, suc, _+_, _-_, _≤_, _<_}
 use mathlib.Core.Path.{_≡_, refl, sym, ap, _∙_}
 use mathlib.Core.Bool.{Bool, true, false, not, _&&_, _||_}
-use mathlib.Core.List.{[]}
 use native.Mathlib.Omega.{arith}
 use native.Mathlib.Numerals.{sub-one}
-use Rattle.facts.specs.declared.FactSet.{FactSet}
-use Rattle.rules.specs.BoundsRules.{isPointer, declared, known, boundsAfter, boundsShown, consIf, unshownFrom, unshown}
-use Rattle.rules.specs.FactsTrue.{neither}
-use Rattle.bounds.specs.Stays.{touchedAt, touchedFrom, touched}
+use lib.ListN.{length}
+use Rattle.rules.specs.BoundsRules.{isPointer}
 use Rattle.rules.specs.declared.Environment.{Environment}
 use Rattle.rules.specs.declared.Effect.{Effect}
-use Rattle.bounds.specs.ShownLaws.{missed, unasked}
+use Rattle.bounds.specs.Stays.{stays, touchedAt, touchedFrom, touched}
+use Rattle.bounds.specs.BoundsRulesLaws.{stored, stored-known}
+
+-- The pointer's test, as the code meets it.
+pub asked : (E : Environment) (e : Effect) (p : ℕ) {st : Bool} → p < length (E .declared) → st ≡ stays e p (stored (E .declared) p) → (isPointer E p && not st) ≡ touchedAt E e p
+unfolding touchedAt
+asked E e p d w = ap (λ (x : Bool). isPointer E p && not x) (w ∙ ap (stays e p) (stored-known (E .declared) p d))
 
 touched-some : (E : Environment) (e : Effect) (n p : ℕ) → 0 < n → touchedFrom E e n p ≡ (touchedAt E e p || touchedFrom E e (n - 1) (p + 1))
 unfolding touchedFrom
@@ -44,19 +47,3 @@ module _ {E : Environment} {e : Effect} {p : ℕ} (q : Spared E e p) where
   spared-all h =
       let n : 16 - p ≡ 0 = omega arith in
       sym (q .same ∙ ap (λ (m : ℕ). touchedFrom E e m p) n)
-
-untouched-from : (E : Environment) (e : Effect) (f : FactSet) (n p : ℕ) → n + p ≤ 16 → touchedFrom E e n p ≡ false → unshownFrom E f (boundsAfter e (E .declared)) n p ≡ []
-unfolding touchedFrom unshownFrom missed
-untouched-from E e f zero p h t = refl
-untouched-from E e f (suc n) p h t = ap (λ (b : Bool). consIf b p (unshownFrom E f (boundsAfter e (E .declared)) n (p + 1))) first ∙ untouched-from E e f n (p + 1) (omega arith) (u .1)
-  where
-    u : (touchedAt E e p ≡ false) × (touchedFrom E e n (p + 1) ≡ false)
-    u = neither (touchedAt E e p) (touchedFrom E e n (p + 1)) t
-
-    first : (isPointer E p && not (boundsShown f p (known (boundsAfter e (E .declared)) p) (declared E p))) ≡ false
-    first = unasked E f e p (omega arith) (u .0)
-
--- Where an effect touches no pointer's declared bounds, all stay shown, whatever the facts.
-pub untouched : (e : Environment) (x : Effect) → touched e x ≡ false → (f : FactSet) → unshown e f (boundsAfter x (e .declared)) ≡ []
-unfolding touched unshown
-untouched e x t f = untouched-from e x f 16 0 (omega arith) t

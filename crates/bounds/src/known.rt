@@ -7,9 +7,9 @@ use crate::stays::replaced_by;
 use rules::Bounds;
 use rules::Effect;
 use rules::KnownEnd;
-use rules::ZERO;
+use sums::BIAS;
+use sums::ZERO;
 use variables::End;
-use words::BIAS;
 ghost use mathlib.Core.Path.{_≡_};
 ghost use Prim.Native.Nat.{_^_, _<_};
 ghost use Rattle.rules.specs.BoundsRules.{forgetEnd, shiftConstant, shiftEnd, forgetBounds, shiftBounds, objectBounds, boundsAfter};
@@ -99,7 +99,7 @@ fn object_bounds(p: usize, length: u64) -> Bounds
 }
 
 // The pointer whose bounds an effect copies; where it copies none, any.
-pub(crate) fn source_of(effect: Effect) -> usize
+pub fn source_of(effect: Effect) -> usize
     ensures { λ r. ⌜ r ≡ sourceOf effect ⌝ }
 {
     match effect {
@@ -118,7 +118,7 @@ pub(crate) fn source_of(effect: Effect) -> usize
 }
 
 // The known bounds of p after an effect: `own` are p's before it, `source` those of the pointer that is copied.
-pub(crate) fn effect_on(effect: Effect, p: usize, own: Bounds, source: Bounds) -> Bounds
+pub fn effect_on(effect: Effect, p: usize, own: Bounds, source: Bounds) -> Bounds
     requires { ⌜ Short effect ⌝ }
     ensures { λ r. ⌜ r ≡ effectOnOne effect p own source ⌝ }
 {

@@ -1,14 +1,12 @@
-// The bounds in force: what an effect makes of known bounds, and which declared bounds are shown.
+// The bounds in force: what an effect makes of known bounds, and whether it touches declared ones.
 mod known; // known.rt: known bounds after an effect
-mod shown; // shown.rt: which declared bounds are shown
 mod stays; // stays.rt: which bounds an effect leaves as they are
 mod touched; // touched.rt: whether an effect touches declared bounds
 
 pub use known::bounds_after;
+pub use known::effect_on;
+pub use known::source_of;
 use rules::Bounds;
-pub use shown::access_shown;
-pub use shown::check_effect;
-pub use shown::check_known;
 pub use touched::named_in;
 pub use touched::touches;
 

@@ -11,7 +11,7 @@ ghost use mathlib.Core.Bool.{true, false};
 ghost use lib.ListN.{getD};
 ghost use Rattle.bounds.specs.Stays.{touched, namedIn, touches};
 
-// Some pointer's declared bounds have to be shown again after the effect; where none have, `check_effect` accepts with any facts.
+// Some pointer's declared bounds have to be shown again after the effect; where none have, all stay shown with any facts.
 fn spoils(environment: Environment, effect: Effect) -> bool
     ensures { λ r. ⌜ r ≡ touched environment effect ⌝ }
 {

@@ -4,7 +4,7 @@ use mathlib.Core.Path.{_≡_, refl, _∙_}
 use mathlib.Core.Logic.{_≢_, _⊎_, inl, inr, ⊎-elim}
 use mathlib.Core.Bool.{Bool, true, false}
 use native.Mathlib.Omega.{arith}
-use Rattle.facts.specs.Numbers.{bias, maxValue, zeroVar}
+use Rattle.sums.specs.Numbers.{bias, maxValue, zeroVar}
 use Rattle.chains.specs.Facts.{Variables, Node, Comparable, same-kind, from-zero, to-zero, Known, Always, lower, upper, Chain, empty, link, ChainWithin, Shown, Contradiction, LeastSums}
 
 abbrev pub Includes : Known → Known → Type 0

@@ -6,9 +6,11 @@ use mathlib.Core.Bool.{Bool, true, false}
 use native.Mathlib.Omega.{arith}
 use borrow.Author.Tests.{leb-true, le-leb}
 use lib.Dec.{leb}
-use Rattle.facts.specs.Numbers.{bias, maxValue, zeroVar}
-use Rattle.facts.specs.Store.{pickBool, concatenated, sumAt, leastSum, shown, endShown}
-use Rattle.facts.specs.StoreLaws.{concat-plain, least-node}
+use Rattle.sums.specs.Numbers.{bias, maxValue, zeroVar}
+use Rattle.sums.specs.Sums.{concatenated}
+use Rattle.facts.specs.Store.{pickBool, sumAt, leastSum, shown, endShown}
+use Rattle.sums.specs.SumsLaws.{concat-plain}
+use Rattle.facts.specs.StoreLaws.{least-node}
 use Rattle.chains.specs.Facts.{Variables, Node, Known, lower, upper, ChainWithin, Shown, Contradiction, EndShown, LeastSums}
 use Rattle.chains.specs.Chains.{weaken, one, zero-node, Sane, sinks, shows-every, at-most, closed, no-contradiction}
 use Rattle.facts.specs.declared.FactSet.{FactSet}

@@ -7,9 +7,11 @@ use native.Mathlib.Omega.{arith}
 use native.Mathlib.Decide.{ℕ-discrete}
 use borrow.Author.Tests.{leb-true, leb-false, ltb-true, ltb-false, eqb-true, ne-eqb}
 use lib.Dec.{leb, ltb, eqb}
-use Rattle.facts.specs.Numbers.{bias, maxValue, zeroVar}
-use Rattle.facts.specs.Store.{pick, concatenated, negated, sumAt, leastSum, shown, newSet, lowered, marked, added, reassigned, dropped, ranged, shifted, related, joinedSum, joined}
-use Rattle.facts.specs.StoreLaws.{concat-plain, least-node, shown-clear, not-shown, added-shown, added-closed, added-lowered, dropped-variable, ranged-variable, shifted-variable, joined-first, joined-second, joined-both, sum-new, sum-lowered, sum-reassigned, sum-joined, anewAt}
+use Rattle.sums.specs.Numbers.{bias, maxValue, zeroVar}
+use Rattle.sums.specs.Sums.{pick, concatenated, negated}
+use Rattle.facts.specs.Store.{sumAt, leastSum, shown, newSet, lowered, marked, added, reassigned, dropped, ranged, shifted, related, joinedSum, joined}
+use Rattle.sums.specs.SumsLaws.{concat-plain}
+use Rattle.facts.specs.StoreLaws.{least-node, shown-clear, not-shown, added-shown, added-closed, added-lowered, dropped-variable, ranged-variable, shifted-variable, joined-first, joined-second, joined-both, sum-new, sum-lowered, sum-reassigned, sum-joined, anewAt}
 use Rattle.chains.specs.Facts.{Variables, Node, Comparable, same-kind, from-zero, to-zero, Known, Always, lower, upper, Shown, Contradiction, With, before, fact, Without, kept, always, raise, Moved, moved, Shifted, Both, both, LeastSums}
 use Rattle.chains.specs.Chains.{one, more-contradiction, contradiction-of, zero-node, left-node, right-node, always-comparable, Sane, shows-every, closed, least-same, least-known}
 use Rattle.chains.specs.Operations.{with-comparable, without-comparable, moved-comparable, both-comparable, new-least, add-shown, add-contradiction, add-least, anewSums, anew-least, shift-least, closure-least}

@@ -3,9 +3,10 @@ use Prim.Native.Nat.{ℕ, _+_, _-_}
 use mathlib.Core.Path.{_≡_, refl}
 use mathlib.Core.Bool.{Bool, true, false}
 use lib.Dec.{ltb}
-use Rattle.facts.specs.Numbers.{bias, zeroVar}
+use Rattle.sums.specs.Numbers.{bias, zeroVar}
 use Rattle.facts.specs.Tabulate.{tabulate}
-use Rattle.facts.specs.Store.{concatenated, leastSum, shown, newRow, newSet, loweredRow, lowered, marked, added, ownRow, reroutedRow, reassigned, dropped, shifted, joinedSum, joinedRow, joined}
+use Rattle.sums.specs.Sums.{concatenated}
+use Rattle.facts.specs.Store.{leastSum, shown, newRow, newSet, loweredRow, lowered, marked, added, ownRow, reroutedRow, reassigned, dropped, shifted, joinedSum, joinedRow, joined}
 use Rattle.facts.specs.declared.FactSet.{FactSet}
 
 abbrev pointer : ℕ → Bool

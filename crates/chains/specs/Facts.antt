@@ -5,7 +5,7 @@ use mathlib.Core.Path.{_≡_}
 use mathlib.Core.Logic.{_≢_, _⊎_}
 use mathlib.Core.Bool.{Bool, true, false}
 use lib.Dec.{eqb}
-use Rattle.facts.specs.Numbers.{bias, maxValue, zeroVar}
+use Rattle.sums.specs.Numbers.{bias, maxValue, zeroVar}
 
 -- The variables of a routine: how many, 1 to 16, and which are pointers.
 pub record Variables : Type 0 where

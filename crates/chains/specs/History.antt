@@ -3,7 +3,7 @@ use Prim.Native.Nat.{ℕ, _+_, _-_, _≤_, _<_}
 use mathlib.Core.Path.{_≡_}
 use mathlib.Core.Logic.{_↔_}
 use mathlib.Core.Bool.{true}
-use Rattle.facts.specs.Numbers.{bias, maxValue, zeroVar}
+use Rattle.sums.specs.Numbers.{bias, maxValue, zeroVar}
 use Rattle.facts.specs.Store.{shown, newSet, added, dropped, ranged, shifted, joined}
 use Rattle.chains.specs.Facts.{Variables, Node, Comparable, Known, Always, Shown, Contradiction, With, Without, Shifted, Both}
 use Rattle.chains.specs.Exact.{Exact, shown-exact, contradiction-exact}

@@ -6,7 +6,7 @@ use mathlib.Core.Bool.{Bool, true, false}
 use native.Mathlib.Omega.{arith}
 use borrow.Author.Tests.{ne-eqb}
 use lib.Dec.{eqb}
-use Rattle.facts.specs.Numbers.{bias, zeroVar}
+use Rattle.sums.specs.Numbers.{bias, zeroVar}
 use Rattle.facts.specs.Store.{pickBool, same, related}
 use Rattle.chains.specs.Facts.{Variables, Node, Comparable, same-kind, from-zero, to-zero, Known, Shown, Both, both, LeastSums}
 use Rattle.chains.specs.Chains.{weaken, one, Pair, comparable, zeros, mixed, pair, same-or-not, zero-node, left-node, right-node, Closed, at-most, closed}

@@ -7,8 +7,9 @@ use native.Mathlib.Omega.{arith}
 use native.Mathlib.Decide.{ℕ-discrete}
 use borrow.Author.Tests.{leb-true, leb-false, eqb-true, eqb-false, eq-eqb, ne-eqb}
 use lib.Dec.{leb, eqb}
-use Rattle.facts.specs.Numbers.{bias, maxValue, zeroVar}
-use Rattle.facts.specs.Store.{pick, newSum}
+use Rattle.sums.specs.Numbers.{bias, maxValue, zeroVar}
+use Rattle.sums.specs.Sums.{pick}
+use Rattle.facts.specs.Store.{newSum}
 use Rattle.facts.specs.StoreLaws.{anewAt}
 use Rattle.chains.specs.Facts.{Variables, Node, Comparable, from-zero, to-zero, Known, Always, lower, upper, ChainWithin, Shown, Contradiction, With, before, fact, Without, kept, always, Both, both, Moved, moved, LeastSums}
 use Rattle.chains.specs.Chains.{append, weaken, one, none, more-shown, contradiction-of, Pair, comparable, zeros, mixed, pair, zero-node, left-node, right-node, always-comparable, Closed, lowest-of, at-most, closed, through-zero}

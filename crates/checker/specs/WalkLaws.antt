@@ -29,7 +29,7 @@ use Rattle.rules.specs.Verdict.{lowestVerdict}
 use Rattle.rules.specs.Ranges.{InRange}
 use Rattle.effects.specs.Applied.{Applied, applied}
 use Rattle.bounds.specs.Stays.{namedIn, touches}
-use Rattle.bounds.specs.NamedLaws.{unnamed}
+use Rattle.declared.specs.UntouchedLaws.{unnamed}
 use Rattle.checker.specs.Walk.{WalksBundle, Walks}
 use Rattle.effects.specs.FactRulesLaws.{read-ranged}
 use Rattle.rules.specs.declared.Environment.{Environment}

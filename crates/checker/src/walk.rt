@@ -1,12 +1,12 @@
 // The walk over the statements.
 use bounds::KnownBounds;
 use bounds::Named;
-use bounds::access_shown;
 use bounds::bounds_after;
-use bounds::check_effect;
-use bounds::check_known;
 use bounds::touches;
 use conditions::negated;
+use declared::access_shown;
+use declared::check_effect;
+use declared::check_known;
 use effects::asked_sum;
 use effects::assume;
 use effects::lose;
@@ -17,6 +17,7 @@ use refusals::Refusal;
 use rules::Environment;
 use rules::Verdict;
 use sections::Sections;
+use shown::in_range;
 use statements::Statement;
 use statements::StatementRead;
 ghost use mathlib.Core.Path.{_≡_};
@@ -83,7 +84,7 @@ fn walk_bundle(
             };
         }
         let sum = asked_sum(simple);
-        let fits = facts.in_range(sum.source, sum.constant);
+        let fits = in_range(facts, sum.source, sum.constant);
         let plan = plan_statement(lengths, simple, fits);
         let effect = plan.effect;
         known = bounds_after(effect, known);
@@ -136,7 +137,7 @@ pub(crate) fn walk(
         match statement {
             Statement::Plain(simple) => {
                 let sum = asked_sum(simple);
-                let fits = facts.in_range(sum.source, sum.constant);
+                let fits = in_range(facts, sum.source, sum.constant);
                 let plan = plan_statement(lengths, simple, fits);
                 let effect = plan.effect;
                 facts = facts.after(plan.change);

@@ -3,7 +3,7 @@ use Prim.Native.Nat.{ℕ, _<_}
 use mathlib.Core.Path.{_≡_}
 use mathlib.Core.List.{List}
 use lib.IntN.{ℤ}
-use Rattle.facts.specs.Numbers.{zeroVar}
+use Rattle.sums.specs.Numbers.{zeroVar}
 use Rattle.fields.specs.Fields.{literalLimit}
 use Rattle.sections.specs.Typed.{IsInteger, IsPointer}
 use Rattle.sections.specs.declared.Sections.{Sections}

@@ -7,7 +7,7 @@ use fields::plain;
 use sections::Sections;
 use sections::names_integer;
 use sections::names_pointer;
-use words::BIAS;
+use sums::BIAS;
 use words::Fields;
 ghost use mathlib.Core.Path.{_≡_};
 ghost use Rattle.conditions.specs.Conditions.{sameKind, besideLiteral, conditionRight, rightOf, offsetOf, conditionOf};

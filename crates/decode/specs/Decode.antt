@@ -4,7 +4,7 @@ use mathlib.Core.Bool.{Bool, true, false}
 use mathlib.Core.List.{List}
 use lib.IntN.{ℤ}
 use lib.Dec.{eqb}
-use Rattle.facts.specs.Numbers.{bias, zeroVar}
+use Rattle.sums.specs.Numbers.{bias, zeroVar}
 use Rattle.words.specs.Words.{fieldsAt}
 use Rattle.words.specs.declared.Fields.{Fields}
 use Rattle.fields.specs.Fields.{plain, pickNumber, isZero}

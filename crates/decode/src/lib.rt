@@ -6,7 +6,7 @@ use fields::plain;
 use sections::Sections;
 use statements::Simple;
 use statements::Statement;
-use words::BIAS;
+use sums::BIAS;
 use words::Fields;
 use words::fields_within;
 ghost use mathlib.Core.Path.{_≡_};

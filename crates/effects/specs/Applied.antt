@@ -4,10 +4,10 @@ use mathlib.Core.Bool.{Bool, true, false}
 use mathlib.Core.List.{List, [], _∷_}
 use lib.ListN.{set, replicate}
 use mathlib.Core.Path.{_≡_}
-use Rattle.facts.specs.Numbers.{bias, zeroVar}
+use Rattle.sums.specs.Numbers.{bias, zeroVar}
 use Rattle.facts.specs.Store.{inRange, addedFact, changed}
-use Rattle.facts.specs.declared.Change.{Change}
-use Rattle.facts.specs.declared.Fact.{Fact}
+use Rattle.changes.specs.declared.Change.{Change}
+use Rattle.changes.specs.declared.Fact.{Fact}
 use Rattle.facts.specs.declared.FactSet.{FactSet}
 use Rattle.statements.specs.declared.Simple.{Simple}
 use Rattle.statements.specs.declared.Simple.the-variants.{Literal, AddConstant, Arithmetic, Null, Address, PointerOffset, PointerIndex, Load, Store, Check}

@@ -1,48 +1,36 @@
--- What the changes that plans are made of make of facts.
-use Prim.Native.Nat.{ℕ, _+_, _-_, _<_}
-use mathlib.Core.Path.{_≡_, refl, sym, ap, _∙_}
-use mathlib.Core.List.{[], _∷_}
+-- What the changes that plans are made of make of any facts.
+use Prim.Native.Nat.{ℕ, _<_}
+use mathlib.Core.Path.{_≡_, ap, _∙_}
 use native.Mathlib.Omega.{arith}
-use Rattle.facts.specs.Numbers.{bias, maxValue, zeroVar}
-use Rattle.facts.specs.Store.{added, addedFact, addedFirst, anew, changed, dropped, ranged, shifted}
-use Rattle.facts.specs.StoreLaws.{anew-left, anew-variable, shifted-variable}
-use Rattle.facts.specs.declared.Change.{Change}
-use Rattle.facts.specs.declared.Fact.{Fact}
+use Rattle.sums.specs.Numbers.{maxValue}
+use Rattle.changes.specs.Changes.{noFact, adding, ranging, shifting, equating}
+use Rattle.changes.specs.declared.Change.{Change}
+use Rattle.changes.specs.declared.Fact.{Fact}
+use Rattle.facts.specs.Store.{addedFact, changed, dropped, ranged, shifted}
+use Rattle.facts.specs.StoreLaws.{silent, changed-adding, changed-ranging, changed-forgetting, changed-shifting, changed-equating}
 use Rattle.facts.specs.declared.FactSet.{FactSet}
 use Rattle.rules.specs.FactRules.{equated}
-use Rattle.effects.specs.Applied.{Adds}
+use Rattle.effects.specs.Applied.{Adds, Makes}
 
-abbrev changeOf : ℕ → ℕ → ℕ → ℕ → Fact → Fact → Fact → Change
-changeOf x y up down a b c = record { target = x; base = y; up = up; down = down; facts = a ∷ b ∷ c ∷ [] }
+pub adds-none : {none : Fact} → none ≡ noFact → Adds none (λ f. f)
+adds-none n f = ap (addedFact f) n ∙ silent f
 
-module _ (f : FactSet) where
-  -- A change, with what each of its facts adds.
-  three : (x y up down : ℕ) (a b c : Fact) → changed f (changeOf x y up down a b c) ≡ addedFact (addedFact (addedFact (anew f x y up down) a) b) c
-  unfolding changed addedFirst
-  three x y up down a b c = refl
+module _ {r : Change} where
+  pub makes-both : {a b : Fact} → r ≡ adding a b → Makes r (λ f. addedFact (addedFact f a) b)
+  makes-both {a} {b} e f = ap (changed f) e ∙ changed-adding f a b
 
-  pub changed-none : (a b c : Fact) → Adds c (λ g. g) → changed f (changeOf 17 17 0 0 a b c) ≡ addedFact (addedFact f a) b
-  changed-none a b c e = three 17 17 0 0 a b c ∙ (e _ ∙ ap (λ (g : FactSet). addedFact (addedFact g a) b) (anew-left f 17 17 0 0 (omega arith)))
+  pub makes-one : {a none : Fact} → none ≡ noFact → r ≡ adding a none → Makes r (λ f. addedFact f a)
+  makes-one n e f = makes-both e f ∙ adds-none n _
 
-  pub changed-range : (x low high : ℕ) (a b c : Fact) → Adds a (λ g. g) → Adds b (λ g. g) → Adds c (λ g. g)
-      → changed f (changeOf x zeroVar (bias + high) (bias - low) a b c) ≡ ranged f x low high
-  unfolding anew ranged
-  changed-range x low high a b c d e g = three x zeroVar (bias + high) (bias - low) a b c ∙ (g _ ∙ (e _ ∙ d _))
+  pub makes-range : (x low high : ℕ) → r ≡ ranging x low high → Makes r (λ f. ranged f x low high)
+  makes-range x low high e f = ap (changed f) e ∙ changed-ranging f x low high
 
-  pub ranged-whole : (x : ℕ) → ranged f x 0 maxValue ≡ dropped f x
-  unfolding ranged dropped
-  ranged-whole x = refl
+  pub makes-drop : {x : ℕ} → r ≡ ranging x 0 maxValue → Makes r (λ f. dropped f x)
+  makes-drop {x} e f = ap (changed f) e ∙ changed-forgetting f x
 
-  pub changed-shift : (x k : ℕ) (a b c : Fact) → x < 16 → Adds a (λ g. added g zeroVar x bias) → Adds b (λ g. added g x zeroVar (bias + maxValue))
-      → changed f (changeOf x x k (bias + bias - k) a b c) ≡ addedFact (shifted f x k) c
-  changed-shift x k a b c l d e =
-      three x x k (bias + bias - k) a b c
-      ∙ ap (λ (g : FactSet). addedFact g c)
-      (e _
-      ∙ (ap (λ (g : FactSet). added g x zeroVar (bias + maxValue)) (d _ ∙ ap (λ (g : FactSet). added g zeroVar x bias) (anew-variable f x x k (bias + bias - k) (omega arith) (omega arith)))
-      ∙ sym (shifted-variable f x k (omega arith))))
+  pub makes-shift : {x k : ℕ} {third : Fact} → x < 16 → r ≡ shifting x k third → Makes r (λ f. addedFact (shifted f x k) third)
+  makes-shift {x} {k} {third} h e f = ap (changed f) e ∙ changed-shifting f x k third (omega arith)
 
-  pub changed-equal : (x y k : ℕ) (a b c : Fact) → Adds a (λ g. added g x y k) → Adds b (λ g. added g y x (bias + bias - k))
-      → changed f (changeOf x zeroVar (bias + maxValue) bias a b c) ≡ addedFact (equated (dropped f x) x y k) c
-  unfolding anew dropped equated
-  changed-equal x y k a b c d e = three x zeroVar (bias + maxValue) bias a b c ∙ ap (λ (g : FactSet). addedFact g c) (e _ ∙ ap (λ (g : FactSet). added g y x (bias + bias - k)) (d _))
+  pub makes-equal : {x y k : ℕ} {third : Fact} → r ≡ equating x y k third → Makes r (λ f. addedFact (equated (dropped f x) x y k) third)
+  unfolding equated
+  makes-equal {x} {y} {k} {third} e f = ap (changed f) e ∙ changed-equating f x y k third

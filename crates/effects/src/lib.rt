@@ -1,37 +1,34 @@
 // What a condition and a statement of kinds 1 to 10 do to the facts, planned as a change of the fact set, and what the statement does to known bounds.
 // No function here takes a fact set but those for loops: the caller asks the one question a plan may need, and makes the change.
-mod changes; // changes.rt: the changes that plans are made of
 mod loops; // loops.rt: the variables that a loop's body assigns
 
-use changes::add;
-use changes::equal;
-use changes::fact;
-use changes::forget;
-use changes::keep;
+use changes::Change;
+use changes::Fact;
+use changes::adding;
+use changes::equating;
 use changes::no_fact;
-use changes::range;
-use changes::shift;
+use changes::ranging;
+use changes::shifting;
 use conditions::Condition;
-use facts::Change;
-use facts::Fact;
 pub use loops::lose;
 use rules::Effect;
-use rules::MAX_VALUE;
-use rules::ZERO;
 use rules::length_at;
 use statements::Simple;
-use words::BIAS;
+use sums::BIAS;
+use sums::MAX_VALUE;
+use sums::ZERO;
 ghost use mathlib.Core.Path.{_≡_};
 ghost use mathlib.Core.List.{[]};
 ghost use mathlib.Core.Bool.{true};
 ghost use Prim.Native.Nat.{_^_, _<_};
 ghost use lib.Dec.{eqb};
-ghost use Rattle.facts.specs.Numbers.{bias};
+ghost use Rattle.sums.specs.Numbers.{bias};
 ghost use Rattle.statements.specs.declared.Simple.the-variants.{AddConstant, PointerOffset};
 ghost use Rattle.rules.specs.FactRules.{pickFacts, positive};
 ghost use Rattle.rules.specs.BoundsRules.{pickEffect};
 ghost use Rattle.rules.specs.Ranges.{InRange};
-ghost use Rattle.effects.specs.Applied.{Adds, Assumes, Plans, sourceAsked, constantAsked};
+ghost use Rattle.facts.specs.Store.{added, ranged};
+ghost use Rattle.effects.specs.Applied.{Makes, Adds, Assumes, Plans, sourceAsked, constantAsked};
 
 // What a statement does to the facts and to known bounds.
 pub struct Plan {
@@ -45,6 +42,27 @@ pub struct Sum {
     pub constant: u64,
 }
 
+// Nothing at all.
+fn keep() -> Change
+    ensures { λ r. ⌜ Makes r (λ f. f) ⌝ }
+{
+    adding(no_fact(), no_fact())
+}
+
+// x <= y + k
+fn one(x: usize, y: usize, k: u64) -> Change
+    ensures { λ r. ⌜ Makes r (λ f. added f x y k) ⌝ }
+{
+    adding(Fact { x, y, k }, no_fact())
+}
+
+// Drops x; then low <= x <= high.
+fn range(x: usize, low: u32, high: u32) -> Change
+    ensures { λ r. ⌜ Makes r (λ f. ranged f x low high) ⌝ }
+{
+    ranging(x, low, high)
+}
+
 // The facts that a condition gives: left RELATION right + offset.
 pub fn assume(condition: Condition) -> Change
     requires { ⌜ condition .offset < 2 ^ 32 ⌝ }
@@ -55,11 +73,18 @@ pub fn assume(condition: Condition) -> Change
     let y = condition.right;
     let k = condition.offset;
     match relation {
-        0 => add(fact(x, y, BIAS + k - 1), no_fact()),
-        1 => add(fact(y, x, BIAS - k), no_fact()),
-        2 => add(fact(y, x, BIAS - k - 1), no_fact()),
-        3 => add(fact(x, y, BIAS + k), no_fact()),
-        4 => add(fact(x, y, BIAS + k), fact(y, x, BIAS - k)),
+        0 => one(x, y, BIAS + k - 1),
+        1 => one(y, x, BIAS - k),
+        2 => one(y, x, BIAS - k - 1),
+        3 => one(x, y, BIAS + k),
+        4 => adding(
+            Fact { x, y, k: BIAS + k },
+            Fact {
+                x: y,
+                y: x,
+                k: BIAS - k,
+            },
+        ),
         _ => {
             if y != ZERO {
                 return keep();
@@ -67,7 +92,7 @@ pub fn assume(condition: Condition) -> Change
             if k != 0 {
                 return keep();
             }
-            add(fact(ZERO, x, BIAS - 1), no_fact())
+            one(ZERO, x, BIAS - 1)
         }
     }
 }
@@ -97,13 +122,13 @@ fn add_constant(x: usize, y: usize, k: u64, fits: bool) -> Plan
     let forgotten = Effect::Forget { target: x };
     if !fits {
         return Plan {
-            change: forget(x),
+            change: ranging(x, 0, MAX_VALUE),
             effect: forgotten,
         };
     }
     if x == y {
         return Plan {
-            change: shift(x, k, no_fact()),
+            change: shifting(x, k, no_fact()),
             effect: Effect::Shift {
                 target: x,
                 constant: k,
@@ -111,7 +136,7 @@ fn add_constant(x: usize, y: usize, k: u64, fits: bool) -> Plan
         };
     }
     Plan {
-        change: equal(x, y, k, no_fact()),
+        change: equating(x, y, k, no_fact()),
         effect: forgotten,
     }
 }
@@ -123,7 +148,11 @@ fn above_zero(p: usize, k: u64) -> Fact
     if k == BIAS {
         return no_fact();
     }
-    fact(ZERO, p, BIAS - 1)
+    Fact {
+        x: ZERO,
+        y: p,
+        k: BIAS - 1,
+    }
 }
 
 // p := q + k
@@ -134,7 +163,7 @@ fn add_offset(p: usize, q: usize, k: u64) -> Plan
     let third = above_zero(p, k);
     if p == q {
         return Plan {
-            change: shift(p, k, third),
+            change: shifting(p, k, third),
             effect: Effect::Shift {
                 target: p,
                 constant: k,
@@ -142,7 +171,7 @@ fn add_offset(p: usize, q: usize, k: u64) -> Plan
         };
     }
     Plan {
-        change: equal(p, q, k, third),
+        change: equating(p, q, k, third),
         effect: Effect::Copy {
             target: p,
             source: q,
@@ -184,7 +213,7 @@ pub fn plan_statement(lengths: [u64; 16], simple: Simple, fits: bool) -> Plan
             right: _,
             operation: _,
         } => Plan {
-            change: forget(target),
+            change: ranging(target, 0, MAX_VALUE),
             effect: Effect::Forget { target },
         },
         Simple::Null { target } => Plan {
@@ -217,7 +246,7 @@ pub fn plan_statement(lengths: [u64; 16], simple: Simple, fits: bool) -> Plan
             index: _,
             constant: _,
         } => Plan {
-            change: forget(target),
+            change: ranging(target, 0, MAX_VALUE),
             effect: Effect::Forget { target },
         },
         Simple::Store {

@@ -13,7 +13,8 @@ use lib.Seq.{getD-set-same, getD-set-other}
 use native.Mathlib.Nat.{div-add-mod', mod-lt, mod-eq-of-lt}
 use native.Mathlib.Omega.{arith}
 use Rattle.facts.specs.Tabulate.{length-tabulate, getD-tabulate, tabulate-alike}
-use Rattle.facts.specs.Store.{pick, unbounded, inRow, reroutedRow}
+use Rattle.sums.specs.Sums.{pick, unbounded}
+use Rattle.facts.specs.Store.{inRow, reroutedRow}
 use Rattle.facts.specs.Rows.{IsMask, Masks, noMasks, maskRow, mergedRow}
 use Rattle.facts.specs.declared.rows.Row.{Row}
 

@@ -6,9 +6,10 @@ use mathlib.Core.List.{List}
 use mathlib.Core.Bool.{Bool, true}
 use lib.ListN.{set}
 use lib.Dec.{eqb}
-use Rattle.facts.specs.Numbers.{zeroVar}
+use Rattle.sums.specs.Numbers.{zeroVar}
 use Rattle.facts.specs.Tabulate.{tabulate}
-use Rattle.facts.specs.Store.{pick, pickBool, unbounded, concatenated, inRow, sumAt, rowOf, same}
+use Rattle.sums.specs.Sums.{pick, unbounded, concatenated}
+use Rattle.facts.specs.Store.{pickBool, inRow, sumAt, rowOf, same}
 use Rattle.facts.specs.declared.rows.Row.{Row}
 use Rattle.facts.specs.declared.FactSet.{FactSet}
 

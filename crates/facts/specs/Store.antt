@@ -1,19 +1,16 @@
 -- What each operation of the fact store makes of the 17 rows of 17 sums, as the code does. That this is what the paper says is proved in crate chains (Exact).
-use Prim.Native.Nat.{ℕ, zero, suc, _+_, _-_, _^_, min, max}
+use Prim.Native.Nat.{ℕ, zero, suc, _+_, _-_, min, max}
 use mathlib.Core.List.{List, []}
 use mathlib.Core.Bool.{Bool, true, false, not, _&&_, _||_}
 use lib.ListN.{getD, set}
 use lib.Dec.{ltb, leb, eqb}
-use Rattle.facts.specs.Numbers.{bias, maxValue, zeroVar}
+use Rattle.sums.specs.Numbers.{bias, maxValue, zeroVar}
+use Rattle.sums.specs.Sums.{pick, unbounded, concatenated, negated, roomAbove}
 use Rattle.facts.specs.Tabulate.{tabulate}
 use Rattle.facts.specs.declared.rows.Row.{Row}
-use Rattle.facts.specs.declared.Fact.{Fact}
-use Rattle.facts.specs.declared.Change.{Change}
+use Rattle.changes.specs.declared.Fact.{Fact}
+use Rattle.changes.specs.declared.Change.{Change}
 use Rattle.facts.specs.declared.FactSet.{FactSet}
-
-abbrev pub pick : Bool → ℕ → ℕ → ℕ
-pick true a b = a
-pick false a b = b
 
 abbrev pub pickBool : Bool → Bool → Bool → Bool
 pickBool true a b = a
@@ -26,24 +23,6 @@ pickRow false a b = b
 abbrev pub pickSet : Bool → FactSet → FactSet → FactSet
 pickSet true f g = f
 pickSet false f g = g
-
--- ---- sums
-
--- What a sum that is out of range counts as.
-abbrev pub unbounded : ℕ
-unbounded = 2 ^ 64 - 1
-
--- The sum of two chains, one after the other; of sums in range it is a + b.
-unfoldable pub concatenated : ℕ → ℕ → ℕ
-concatenated a b = pick (leb (2 ^ 40) a) unbounded (pick (leb (2 ^ 40) b) unbounded (a + b - bias))
-
--- The sum with the other sign.
-abbrev pub negated : ℕ → ℕ
-negated a = bias + bias - a
-
--- The greatest value less a: what can be raised by a is at most this.
-abbrev pub roomAbove : ℕ → ℕ
-roomAbove a = bias + maxValue + bias - a
 
 -- ---- rows and sets, as lists
 
@@ -143,10 +122,6 @@ shifted f x k = pickSet (ltb 15 x) f (added (added (reassigned f x x k (negated 
 
 unfoldable pub anew : FactSet → ℕ → ℕ → ℕ → ℕ → FactSet
 anew f x y up down = pickSet (ltb 15 x) f (pickSet (ltb zeroVar y) f (reassigned f x y up down))
-
--- A fact that says nothing: 17 is neither a variable nor zero.
-abbrev pub noFact : Fact
-noFact = record { x = 17; y = 17; k = 0 }
 
 abbrev pub factAt : List Fact → ℕ → Fact
 factAt facts n = getD facts n (record { x = 0; y = 0; k = 0 })

@@ -1,19 +1,20 @@
 -- What each operation makes, case by case, and sum by sum.
 use Prim.Native.Nat.{ℕ, _+_, _-_, _^_, _≤_, _<_, min}
 use mathlib.Core.Path.{_≡_, refl, sym, ap, _∙_}
-use mathlib.Core.List.{[], _∷_}
 use mathlib.Core.Logic.{_≢_}
 use mathlib.Core.Bool.{Bool, true, false, false≢true, _&&_}
 use borrow.Author.Tests.{lt-ltb, le-ltb, lt-leb, eqb-true, eqb-false, eq-eqb, ne-eqb}
 use lib.Dec.{ltb, leb, eqb}
 use lib.Seq.{getD-set-same, getD-set-other}
 use native.Mathlib.Omega.{arith}
-use Rattle.facts.specs.Numbers.{bias, maxValue, zeroVar}
+use Rattle.sums.specs.Numbers.{bias, maxValue, zeroVar}
+use Rattle.changes.specs.Changes.{noFact, adding, ranging, shifting, equating}
 use Rattle.facts.specs.Tabulate.{tabulate, length-tabulate, getD-tabulate}
-use Rattle.facts.specs.Store.{pick, pickBool, pickRow, pickSet, concatenated, negated, roomAbove, noRow, rowAt, inRow, sumAt, rowOf, setOf, leastSum, shown, inRange, newSum, newRow, newSet, loweredRow, lowered, marked, added, ownRow, reroutedRow, rerouted, reassigned, anew, noFact, addedFact, addedFirst, changed, dropped, ranged, shifted, related, joinedSum, joinedRow, joined}
+use Rattle.sums.specs.Sums.{pick, concatenated, negated, roomAbove}
+use Rattle.facts.specs.Store.{pickBool, pickRow, pickSet, noRow, rowAt, inRow, sumAt, rowOf, setOf, leastSum, shown, endShown, inRange, newSum, newRow, newSet, loweredRow, lowered, marked, added, ownRow, reroutedRow, rerouted, reassigned, anew, addedFact, addedFirst, changed, dropped, ranged, shifted, related, joinedSum, joinedRow, joined}
 use Rattle.facts.specs.declared.rows.Row.{Row}
-use Rattle.facts.specs.declared.Fact.{Fact}
-use Rattle.facts.specs.declared.Change.{Change}
+use Rattle.changes.specs.declared.Fact.{Fact}
+use Rattle.changes.specs.declared.Change.{Change}
 use Rattle.facts.specs.declared.FactSet.{FactSet}
 
 pub picked : {b : Bool} (f g : FactSet) → b ≡ true → pickSet b f g ≡ f
@@ -21,12 +22,6 @@ picked f g e = rw e
 
 pub passed : {b : Bool} (f g : FactSet) → b ≡ false → pickSet b f g ≡ g
 passed f g e = rw e
-
--- ---- sums in range
-
-pub concat-plain : (a b : ℕ) → a < 2 ^ 40 → b < 2 ^ 40 → concatenated a b ≡ a + b - bias
-unfolding concatenated
-concat-plain a b ha hb = rw (lt-leb (2 ^ 40) a ha, lt-leb (2 ^ 40) b hb)
 
 -- ---- join
 
@@ -48,22 +43,39 @@ pub least-node : (f : FactSet) (x y : ℕ) → x < 17 → y < 17 → leastSum f 
 unfolding leastSum
 least-node f x y hx hy = rw (le-ltb zeroVar x (omega arith), le-ltb zeroVar y (omega arith))
 
--- A set without the mark shows a fact by its sum; what is not shown, is not shown by a set with the mark.
-pub shown-clear : (f : FactSet) (x y k : ℕ) → f .contradiction ≡ false → shown f x y k ≡ leb (leastSum f x y) k
-unfolding shown
-shown-clear f x y k e = go (f .contradiction) e
-  where
-    go : (b : Bool) → b ≡ false → pickBool b true (leb (leastSum f x y) k) ≡ leb (leastSum f x y) k
-    go true e = absurd (false≢true (sym e))
-    go false e = refl
+-- A question to a set: with the mark all is shown, without it what the sums show.
+asked-marked : {b : Bool} (c : Bool) → b ≡ true → pickBool b true c ≡ true
+asked-marked c e = rw e
 
-pub not-shown : (f : FactSet) (x y k : ℕ) → shown f x y k ≡ false → f .contradiction ≡ false
-unfolding shown
-not-shown f x y k s = go (f .contradiction) s
-  where
-    go : (b : Bool) → pickBool b true (leb (leastSum f x y) k) ≡ false → b ≡ false
-    go true s = s
-    go false s = refl
+asked-clear : {b : Bool} (c : Bool) → b ≡ false → pickBool b true c ≡ c
+asked-clear c e = rw e
+
+module _ (f : FactSet) (x y k : ℕ) where
+  pub shown-marked : f .contradiction ≡ true → shown f x y k ≡ true
+  unfolding shown
+  shown-marked e = asked-marked (leb (leastSum f x y) k) e
+
+  pub shown-clear : f .contradiction ≡ false → shown f x y k ≡ leb (leastSum f x y) k
+  unfolding shown
+  shown-clear e = asked-clear (leb (leastSum f x y) k) e
+
+  -- What is not shown, is not shown by a set with the mark.
+  pub not-shown : shown f x y k ≡ false → f .contradiction ≡ false
+  unfolding shown
+  not-shown s = go (f .contradiction) s
+    where
+      go : (b : Bool) → pickBool b true (leb (leastSum f x y) k) ≡ false → b ≡ false
+      go true s = s
+      go false s = refl
+
+module _ (f : FactSet) (q n k r m j : ℕ) where
+  pub end-marked : f .contradiction ≡ true → endShown f q n k r m j ≡ true
+  unfolding endShown
+  end-marked e = asked-marked (leb (concatenated (concatenated (leastSum f q r) (leastSum f n m)) k) j) e
+
+  pub end-clear : f .contradiction ≡ false → endShown f q n k r m j ≡ leb (concatenated (concatenated (leastSum f q r) (leastSum f n m)) k) j
+  unfolding endShown
+  end-clear e = asked-clear (leb (concatenated (concatenated (leastSum f q r) (leastSum f n m)) k) j) e
 
 -- ---- a sum in range
 
@@ -155,28 +167,44 @@ module _ (f : FactSet) (x : ℕ) where
   unfolding shifted
   shifted-variable k h = passed _ _ (le-ltb _ _ h)
 
--- ---- one fact, a drop and a shift as changes
+-- ---- the changes that statements and conditions are
 
-silent : (f : FactSet) → addedFact f noFact ≡ f
+pub silent : (f : FactSet) → addedFact f noFact ≡ f
 silent f = added-left f 17 17 0 (omega arith)
 
-module _ (f : FactSet) (x : ℕ) {g : FactSet} {none : Fact} (n : none ≡ noFact) where
-  pub changed-add : (y k : ℕ) → g ≡ changed f (record { target = 17; base = 17; up = 0; down = 0; facts = record { x = x; y = y; k = k } ∷ none ∷ none ∷ [] })
-      → g ≡ added f x y k
+module _ (f : FactSet) where
+  pub changed-adding : (a b : Fact) → changed f (adding a b) ≡ addedFact (addedFact f a) b
   unfolding changed addedFirst
-  changed-add y k e = e ∙ rw n (silent _ ∙ silent _ ∙ ap (λ (b : FactSet). added b x y k) (anew-left f 17 17 0 0 (omega arith)))
+  changed-adding a b = silent _ ∙ ap (λ (g : FactSet). addedFact (addedFact g a) b) (anew-left f 17 17 0 0 (omega arith))
 
-  pub changed-drop : g ≡ changed f (record { target = x; base = zeroVar; up = bias + maxValue; down = bias; facts = none ∷ none ∷ none ∷ [] }) → g ≡ dropped f x
+  pub changed-ranging : (x low high : ℕ) → changed f (ranging x low high) ≡ ranged f x low high
+  unfolding changed addedFirst anew ranged
+  changed-ranging x low high = silent _ ∙ silent _ ∙ silent _
+
+  pub changed-forgetting : (x : ℕ) → changed f (ranging x 0 maxValue) ≡ dropped f x
+  unfolding ranged dropped
+  changed-forgetting x = changed-ranging x 0 maxValue
+
+  pub changed-shifting : (x k : ℕ) (third : Fact) → x ≤ 15 → changed f (shifting x k third) ≡ addedFact (shifted f x k) third
+  unfolding changed addedFirst
+  changed-shifting x k third h =
+      ap (λ (g : FactSet). addedFact (added (added g zeroVar x bias) x zeroVar (bias + maxValue)) third) (anew-variable f x x k (negated k) h (omega arith))
+      ∙ ap (λ (g : FactSet). addedFact g third) (sym (shifted-variable f x k h))
+
+  pub changed-equating : (x y k : ℕ) (third : Fact) → changed f (equating x y k third) ≡ addedFact (added (added (dropped f x) x y k) y x (negated k)) third
   unfolding changed addedFirst anew dropped
-  changed-drop e = e ∙ rw n (silent _ ∙ silent _ ∙ silent _)
+  changed-equating x y k third = refl
 
-  pub changed-shift : (k : ℕ) {down : ℕ} → x ≤ 15 → down ≡ negated k
-      → g ≡ changed f (record { target = x; base = x; up = k; down = down; facts = record { x = zeroVar; y = x; k = bias } ∷ record { x = x; y = zeroVar; k = bias + maxValue } ∷ none ∷ [] })
-      → g ≡ shifted f x k
-  unfolding changed addedFirst
-  changed-shift k h d e =
-      e ∙ rw (n, d)
-      (silent _ ∙ ap (λ (b : FactSet). added (added b zeroVar x bias) x zeroVar (bias + maxValue)) (anew-variable f x x k (negated k) h (omega arith)) ∙ sym (shifted-variable f x k h))
+-- What add, drop and shift make, where `none` says nothing and `c` is their change.
+module _ (f : FactSet) {g : FactSet} {c : Change} (e : g ≡ changed f c) where
+  pub add-made : {a none : Fact} → none ≡ noFact → c ≡ adding a none → g ≡ addedFact f a
+  add-made {a} n d = e ∙ rw (d, n) (changed-adding f a noFact ∙ silent _)
+
+  pub drop-made : {x : ℕ} → c ≡ ranging x 0 maxValue → g ≡ dropped f x
+  drop-made {x} d = e ∙ rw d (changed-forgetting f x)
+
+  pub shift-made : {x k : ℕ} {none : Fact} → x ≤ 15 → none ≡ noFact → c ≡ shifting x k none → g ≡ shifted f x k
+  shift-made {x} {k} h n d = e ∙ rw (d, n) (changed-shifting f x k noFact h ∙ silent _)
 
 -- ---- sum by sum
 

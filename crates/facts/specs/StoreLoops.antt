@@ -8,13 +8,14 @@ use lib.ListN.{length, getD, set, length-set}
 use lib.Dec.{ltb, leb, eqb}
 use native.Mathlib.Numerals.{add-one}
 use native.Mathlib.Omega.{arith}
-use Rattle.facts.specs.Numbers.{bias, zeroVar}
+use Rattle.sums.specs.Numbers.{bias, zeroVar}
 use Rattle.facts.specs.Tabulate.{tabulate, length-tabulate, getD-tabulate, tabulate-alike, Filled, filled-none, filled-more, filled-next, filled-each, filled-kept, filled-whole}
-use Rattle.facts.specs.Store.{pick, pickBool, pickSet, concatenated, noRow, rowAt, inRow, sumAt, setOf, leastSum, shown, loweredRow, lowered, marked, added, ownRow, rerouted, reassigned, anew, factAt, addedFact, addedFirst, same, joinedSum, joinedRow}
+use Rattle.sums.specs.Sums.{pick, concatenated}
+use Rattle.facts.specs.Store.{pickBool, pickSet, noRow, rowAt, inRow, sumAt, setOf, leastSum, shown, loweredRow, lowered, marked, added, ownRow, rerouted, reassigned, anew, factAt, addedFact, addedFirst, same, joinedSum, joinedRow}
 use Rattle.facts.specs.Rows.{shortenedRow, columnTo, raisedRow, greatestRow, throughZero}
-use Rattle.facts.specs.StoreLaws.{least-node, shown-clear, added-left, added-right, added-shown, added-closed, added-lowered, anew-left, anew-right, anew-variable}
+use Rattle.facts.specs.StoreLaws.{least-node, shown-marked, shown-clear, added-left, added-right, added-shown, added-closed, added-lowered, anew-left, anew-right, anew-variable}
 use Rattle.facts.specs.declared.rows.Row.{Row}
-use Rattle.facts.specs.declared.Fact.{Fact}
+use Rattle.changes.specs.declared.Fact.{Fact}
 use Rattle.facts.specs.declared.FactSet.{FactSet}
 
 -- ---- a variable anew
@@ -49,10 +50,6 @@ module _ (f : FactSet) (x y up down : ℕ) where
 
 -- ---- three facts
 
-marked-shown : (f : FactSet) (x y k : ℕ) → f .contradiction ≡ true → shown f x y k ≡ true
-unfolding shown
-marked-shown f x y k e = ap (λ (b : Bool). pickBool b true (leb (leastSum f x y) k)) e
-
 not-true : (b : Bool) → not b ≡ true → b ≡ false
 not-true true e = sym e
 not-true false e = refl
@@ -82,7 +79,7 @@ module _ (f : FactSet) (x y k : ℕ) where
     way-right hx h e = e ∙ sym (added-right f x y k (omega arith) (omega arith))
 
     pub way-marked : x < 17 → y < 17 → not (f .contradiction) ≡ false → g ≡ f → g ≡ added f x y k
-    way-marked hx hy c e = e ∙ sym (added-shown f x y k (omega arith) (omega arith) (marked-shown f x y k (not-false _ c)))
+    way-marked hx hy c e = e ∙ sym (added-shown f x y k (omega arith) (omega arith) (shown-marked f x y k (not-false _ c)))
 
     pub way-known : x < 17 → y < 17 → sumAt f x y ≤ k → g ≡ f → g ≡ added f x y k
     way-known hx hy h e = e ∙ sym (added-shown f x y k (omega arith) (omega arith) (known-shown (omega arith) (omega arith) h))

@@ -5,41 +5,23 @@ ghost use mathlib.Core.Path.{_≡_};
 ghost use mathlib.Core.Bool.{false};
 ghost use Prim.Native.Nat.{_<_};
 ghost use lib.ListN.{getD};
-ghost use Rattle.facts.specs.Store.{contradictory, leastSum, shown, endShown, inRange, newSet, noFact, changed, added, dropped, shifted, joined};
+ghost use Rattle.facts.specs.Store.{contradictory, leastSum, newSet, changed, added, dropped, shifted, joined};
 ghost use Rattle.facts.specs.Rows.{columnTo};
 
 mod rows;
-mod sums;
 
+use changes::Change;
+use changes::Fact;
+use changes::adding;
+use changes::no_fact;
+use changes::ranging;
+use changes::shifting;
 use rows::Row;
+use sums::MAX_VALUE;
 
 pub struct FactSet {
     rows: [Row; 17],
     contradiction: bool,
-}
-
-// A fact x <= y + k, the sum k with the bias; where x or y is neither a variable nor zero it says nothing.
-pub struct Fact {
-    pub x: usize,
-    pub y: usize,
-    pub k: u64,
-}
-
-// What a statement or a condition does to the facts: the variable `target` anew, `base` - `down` <= `target` <= `base` + `up`, where it is one; then three facts
-// besides.
-pub struct Change {
-    pub target: usize,
-    pub base: usize,
-    pub up: u64,
-    pub down: u64,
-    pub facts: [Fact; 3],
-}
-
-// A fact that says nothing.
-fn no_fact() -> Fact
-    ensures { λ r. ⌜ r ≡ noFact ⌝ }
-{
-    Fact { x: 17, y: 17, k: 0 }
 }
 
 impl FactSet {
@@ -78,39 +60,6 @@ impl FactSet {
         }
         let row = self.rows[x];
         row.sums[y]
-    }
-
-    // x <= y + k is shown. Contradictory facts show every fact.
-    pub fn shows(self, x: usize, y: usize, k: u64) -> bool
-        ensures { λ r. ⌜ r ≡ shown self x y k ⌝ }
-    {
-        if self.contradiction {
-            return true;
-        }
-        self.sum(x, y) <= k
-    }
-
-    // The end (q, n, k) is at most the end (r, m, j): the chains from q to r and from n to m with k sum to at most j.
-    pub fn shows_end(self, q: usize, n: usize, k: u64, r: usize, m: usize, j: u64) -> bool
-        ensures { λ s. ⌜ s ≡ endShown self q n k r m j ⌝ }
-    {
-        if self.contradiction {
-            return true;
-        }
-        sums::concat(sums::concat(self.sum(q, r), self.sum(n, m)), k) <= j
-    }
-
-    // 0 <= y + k <= 4,294,967,295 is shown; a plain copy always counts as shown.
-    pub fn in_range(self, y: usize, k: u64) -> bool
-        ensures { λ r. ⌜ r ≡ inRange self y k ⌝ }
-    {
-        if k == sums::BIAS {
-            return true;
-        }
-        if self.shows(16, y, k) {
-            return self.shows(y, 16, sums::room_above(k));
-        }
-        false
     }
 
     // The sums from each to zero; the constant index is faster than a column's number.
@@ -202,28 +151,14 @@ impl FactSet {
     pub fn add(self, x: usize, y: usize, k: u64) -> FactSet
         ensures { λ r. ⌜ r ≡ added self x y k ⌝ }
     {
-        let none = no_fact();
-        self.after(Change {
-            target: 17,
-            base: 17,
-            up: 0,
-            down: 0,
-            facts: [Fact { x, y, k }, none, none],
-        })
+        self.after(adding(Fact { x, y, k }, no_fact()))
     }
 
     // Without x: what is shown of the others, and what is always known of x.
     pub fn drop(self, x: usize) -> FactSet
         ensures { λ r. ⌜ r ≡ dropped self x ⌝ }
     {
-        let none = no_fact();
-        self.after(Change {
-            target: x,
-            base: 16,
-            up: sums::MAX_VALUE,
-            down: sums::BIAS,
-            facts: [none, none, none],
-        })
+        self.after(ranging(x, 0, MAX_VALUE))
     }
 
     // Each fact of x moved with x, which is raised by k; and what is always known of the new x.
@@ -233,25 +168,7 @@ impl FactSet {
         if 15 < x {
             return self;
         }
-        self.after(Change {
-            target: x,
-            base: x,
-            up: k,
-            down: sums::negate(k),
-            facts: [
-                Fact {
-                    x: 16,
-                    y: x,
-                    k: sums::BIAS,
-                },
-                Fact {
-                    x,
-                    y: 16,
-                    k: sums::MAX_VALUE,
-                },
-                no_fact(),
-            ],
-        })
+        self.after(shifting(x, k, no_fact()))
     }
 
     // What both sides show. `pointers` tells the variables that are pointers: a fact relates a pointer and an integer only through zero.

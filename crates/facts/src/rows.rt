@@ -1,26 +1,57 @@
 // The rows of a fact set: the sums from one variable, or from zero, to each.
+use sums::BIAS;
+use sums::MAX_SUM;
+use sums::UNBOUNDED;
+use sums::concat;
 ghost use mathlib.Core.Path.{_≡_};
 ghost use mathlib.Core.Bool.{false};
-ghost use Prim.Native.Nat.{_<_};
+ghost use Prim.Native.Nat.{_<_, min, max};
 ghost use lib.ListN.{getD};
+ghost use lib.Dec.{eqb};
+ghost use Rattle.sums.specs.Sums.{pick};
 ghost use Rattle.facts.specs.Store.{newSum, newRow, ownRow};
-ghost use Rattle.facts.specs.Rows.{shortenedRow, raisedRow, Masks, maskRow, mergedRow, greatestRow, throughZero};
-use crate::sums;
+ghost use Rattle.facts.specs.Rows.{shortenedRow, raisedRow, IsMask, Masks, maskRow, mergedRow, greatestRow, throughZero};
 
 pub struct Row {
     pub sums: [u64; 17],
+}
+
+fn least(a: u64, b: u64) -> u64
+    ensures { λ r. ⌜ r ≡ min a b ⌝ }
+{
+    if a < b { a } else { b }
+}
+
+fn greatest(a: u64, b: u64) -> u64
+    ensures { λ r. ⌜ r ≡ max a b ⌝ }
+{
+    if a < b { b } else { a }
+}
+
+fn choose(first: bool, a: u64, b: u64) -> u64
+    ensures { λ r. ⌜ r ≡ pick first a b ⌝ }
+{
+    if first { a } else { b }
+}
+
+// b where every bit of the mask is set, a where none is; unlike a choice, a row of these is done several at a time.
+fn merge(mask: u64, a: u64, b: u64) -> u64
+    requires { ⌜ IsMask mask ⌝ }
+    ensures { λ r. ⌜ r ≡ pick (eqb mask 0) a b ⌝ }
+{
+    a ^ ((a ^ b) & mask)
 }
 
 fn new_sum(i: usize, j: usize) -> u64
     ensures { λ r. ⌜ r ≡ newSum i j ⌝ }
 {
     if i == j {
-        return sums::BIAS;
+        return BIAS;
     }
     if i == 16 {
-        return sums::BIAS;
+        return BIAS;
     }
-    sums::MAX_VALUE
+    MAX_SUM
 }
 
 pub fn new_row(i: usize) -> Row
@@ -39,7 +70,7 @@ pub fn lowered_row(row: Row, start: u64, through: Row) -> Row
 {
     let mut next = row;
     for j in 0..17 {
-        next.sums[j] = sums::least(row.sums[j], sums::concat(start, through.sums[j]));
+        next.sums[j] = least(row.sums[j], concat(start, through.sums[j]));
     }
     next
 }
@@ -50,7 +81,7 @@ pub fn own_row(base: Row, x: usize, up: u64) -> Row
 {
     let mut next = base;
     for j in 0..17 {
-        next.sums[j] = sums::choose(j == x, sums::BIAS, sums::concat(up, base.sums[j]));
+        next.sums[j] = choose(j == x, BIAS, concat(up, base.sums[j]));
     }
     next
 }
@@ -61,7 +92,7 @@ pub fn raised_row(row: Row, down: u64) -> Row
 {
     let mut next = row;
     for j in 0..17 {
-        next.sums[j] = sums::concat(row.sums[j], down);
+        next.sums[j] = concat(row.sums[j], down);
     }
     next
 }
@@ -72,7 +103,7 @@ pub fn mask_row(x: usize) -> Row
     ensures { λ r. ⌜ r ≡ maskRow x ⌝ }
 {
     let mut next = Row { sums: [0; 17] };
-    next.sums[x] = sums::UNBOUNDED;
+    next.sums[x] = UNBOUNDED;
     next
 }
 
@@ -83,7 +114,7 @@ pub fn rerouted_row(row: Row, mask: Row, to: u64) -> Row
 {
     let mut next = row;
     for j in 0..17 {
-        next.sums[j] = sums::merge(mask.sums[j], row.sums[j], to);
+        next.sums[j] = merge(mask.sums[j], row.sums[j], to);
     }
     next
 }
@@ -94,7 +125,7 @@ pub fn greatest_row(a: Row, b: Row) -> Row
 {
     let mut next = a;
     for j in 0..17 {
-        next.sums[j] = sums::greatest(a.sums[j], b.sums[j]);
+        next.sums[j] = greatest(a.sums[j], b.sums[j]);
     }
     next
 }
@@ -107,7 +138,7 @@ pub fn through_zero(row: Row, pointers: [bool; 17], pointer: bool, zero: Row) ->
     let to = row.sums[16];
     for j in 0..16 {
         if pointers[j] != pointer {
-            next.sums[j] = sums::concat(to, zero.sums[j]);
+            next.sums[j] = concat(to, zero.sums[j]);
         }
     }
     next

@@ -1,5 +1,5 @@
 // One field of a record: the number, index or literal that its word is, and what it may be.
-use words::BIAS;
+use sums::BIAS;
 ghost use mathlib.Core.Path.{_≡_};
 ghost use Rattle.fields.specs.Fields.{plain, indexOf, literalValue, isZero, isBelow, isLiteral, isConstant};
 

@@ -8,7 +8,7 @@ use borrow.Author.Tests.{ltb-true, leb-true, lt-ltb}
 use lib.Dec.{leb, ltb}
 use lib.IntN.{ℤ}
 use lib.ListN.{length, getD, set, length-set}
-use Rattle.facts.specs.Numbers.{bias}
+use Rattle.sums.specs.Numbers.{bias}
 use Rattle.fields.specs.Fields.{pickNumber}
 use Rattle.sections.specs.SectionsLaws.{both, Limits}
 use Rattle.sections.specs.declared.Sections.{Sections}

@@ -10,7 +10,7 @@ use borrow.Author.Tests.{leb-true, eqb-true, ne-eqb, eq-eqb}
 use lib.Dec.{leb, eqb}
 use lib.ListN.{length, getD}
 use Rattle.facts.specs.Store.{pickBool}
-use Rattle.facts.specs.Numbers.{maxValue}
+use Rattle.sums.specs.Numbers.{maxValue}
 use Rattle.sections.specs.declared.Sections.{Sections}
 use Rattle.rules.specs.BoundsRules.{isPointer, objectLength}
 use Rattle.rules.specs.declared.Environment.{Environment}

@@ -7,7 +7,7 @@ use mathlib.Core.List.{List}
 use native.Mathlib.Omega.{arith}
 use borrow.Author.Tests.{leb-true, leb-false, ltb-true, ltb-false, eqb-true, eqb-false, le-leb, lt-ltb, not-true, not-false}
 use lib.Dec.{eqb}
-use Rattle.facts.specs.Numbers.{zeroVar}
+use Rattle.sums.specs.Numbers.{zeroVar}
 use Rattle.chains.specs.Sound.{InRange, Holds, added-holds}
 use Rattle.facts.specs.declared.FactSet.{FactSet}
 use Rattle.sections.specs.SectionsLaws.{both}

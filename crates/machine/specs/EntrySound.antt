@@ -9,7 +9,7 @@ use borrow.Author.Tests.{leb-true, le-leb, eqb-true, eqb-false, eq-eqb}
 use lib.Dec.{leb, eqb}
 use lib.IntN.{ℤ}
 use lib.ListN.{length, getD, List·getD-eq-default}
-use Rattle.facts.specs.Numbers.{bias, zeroVar}
+use Rattle.sums.specs.Numbers.{bias, zeroVar}
 use Rattle.facts.specs.Store.{newSet}
 use Rattle.chains.specs.Sound.{InRange, new-holds}
 use Rattle.sections.specs.SectionsLaws.{both}

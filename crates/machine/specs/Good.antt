@@ -10,7 +10,7 @@ use lib.Dec.{eqb}
 use lib.IntN.{ℤ}
 use lib.ListN.{length, getD, set, length-set}
 use lib.Seq.{getD-set-same, getD-set-other}
-use Rattle.facts.specs.Numbers.{bias, maxValue}
+use Rattle.sums.specs.Numbers.{bias, maxValue}
 use Rattle.facts.specs.Store.{newSet}
 use Rattle.chains.specs.Sound.{InRange, Holds, Except}
 use Rattle.facts.specs.declared.FactSet.{FactSet}

@@ -5,7 +5,7 @@ use mathlib.Core.List.{List}
 use lib.Dec.{leb, ltb, eqb}
 use lib.IntN.{ℤ}
 use lib.ListN.{getD, set}
-use Rattle.facts.specs.Numbers.{bias, maxValue}
+use Rattle.sums.specs.Numbers.{bias, maxValue}
 use Rattle.sections.specs.declared.Sections.{Sections}
 use Rattle.conditions.specs.declared.Condition.{Condition}
 use Rattle.statements.specs.Statements.{statementAt}

@@ -6,7 +6,7 @@ use mathlib.Core.Bool.{true, false}
 use mathlib.Core.List.{List}
 use lib.IntN.{ℤ}
 use lib.ListN.{length, getD}
-use Rattle.facts.specs.Numbers.{bias, maxValue}
+use Rattle.sums.specs.Numbers.{bias, maxValue}
 use Rattle.sections.specs.declared.Sections.{Sections}
 use Rattle.blocks.specs.Tree.{tree}
 use Rattle.rules.specs.BoundsRules.{isPointer, objectLength}

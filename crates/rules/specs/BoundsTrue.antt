@@ -8,9 +8,10 @@ use native.Mathlib.Omega.{arith}
 use native.Mathlib.Nat.{eq-or-lt-of-le}
 use borrow.Author.Tests.{leb-true, ltb-true, eqb-true, eqb-false, not-false}
 use lib.Dec.{leb, ltb, eqb}
-use Rattle.facts.specs.Numbers.{bias, zeroVar}
+use Rattle.sums.specs.Numbers.{bias, zeroVar}
 use Rattle.facts.specs.Tabulate.{getD-tabulate}
-use Rattle.facts.specs.Store.{unbounded, shown, endShown}
+use Rattle.sums.specs.Sums.{unbounded}
+use Rattle.facts.specs.Store.{shown, endShown}
 use Rattle.chains.specs.Sound.{InRange, Holds, Except, end-true}
 use Rattle.facts.specs.declared.FactSet.{FactSet}
 use Rattle.sections.specs.SectionsLaws.{both}

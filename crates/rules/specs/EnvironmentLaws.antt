@@ -9,7 +9,7 @@ use borrow.Author.Tests.{ltb-true, ltb-false, eqb-true, ne-eqb}
 use lib.IntN.{ℤ}
 use lib.ListN.{length, List·getD-eq-default}
 use lib.Dec.{ltb}
-use Rattle.facts.specs.Numbers.{bias}
+use Rattle.sums.specs.Numbers.{bias}
 use Rattle.facts.specs.Tabulate.{tabulate, getD-tabulate, length-tabulate}
 use Rattle.sections.specs.Sections.{kindAt, integerAt, pointerAt}
 use Rattle.sections.specs.Typed.{IsInteger, IsPointer, IsIndex, missing, given}

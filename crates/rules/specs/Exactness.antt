@@ -8,7 +8,7 @@ use native.Mathlib.Omega.{arith}
 use borrow.Author.Tests.{eqb-true, ne-eqb}
 use lib.Dec.{eqb}
 use lib.IntN.{ℤ}
-use Rattle.facts.specs.Numbers.{bias, maxValue, zeroVar}
+use Rattle.sums.specs.Numbers.{bias, maxValue, zeroVar}
 use Rattle.facts.specs.Tabulate.{getD-tabulate}
 use Rattle.facts.specs.Store.{inRange, contradictory, newSet, added, dropped, ranged, shifted, joined}
 use Rattle.facts.specs.StoreLaws.{mark-dropped}

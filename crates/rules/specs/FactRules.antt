@@ -3,7 +3,7 @@ use Prim.Native.Nat.{ℕ, zero, suc, _+_, _-_}
 use mathlib.Core.Bool.{Bool, true, false, _&&_, _||_}
 use mathlib.Core.List.{List, [], _∷_}
 use lib.Dec.{eqb}
-use Rattle.facts.specs.Numbers.{bias, maxValue, zeroVar}
+use Rattle.sums.specs.Numbers.{bias, maxValue, zeroVar}
 use Rattle.facts.specs.Store.{inRange, added, dropped, ranged, shifted}
 use Rattle.facts.specs.declared.FactSet.{FactSet}
 use Rattle.conditions.specs.declared.Condition.{Condition}

@@ -8,8 +8,9 @@ use native.Mathlib.Omega.{arith}
 use native.Mathlib.Nat.{eq-or-lt-of-le}
 use borrow.Author.Tests.{ltb-true, ltb-false, lt-ltb, le-ltb, eqb-true, eqb-false}
 use lib.Dec.{ltb, eqb}
-use Rattle.facts.specs.Numbers.{bias, maxValue, zeroVar}
-use Rattle.facts.specs.Store.{pick, shown, inRange, added, dropped}
+use Rattle.sums.specs.Numbers.{bias, maxValue, zeroVar}
+use Rattle.sums.specs.Sums.{pick}
+use Rattle.facts.specs.Store.{shown, inRange, added, dropped}
 use Rattle.chains.specs.Sound.{InRange, True, Holds, Except, added-holds, dropped-holds}
 use Rattle.facts.specs.declared.FactSet.{FactSet}
 use Rattle.sections.specs.SectionsLaws.{both}

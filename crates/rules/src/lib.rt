@@ -8,12 +8,6 @@ pub use lookups::is_pointer;
 pub use lookups::length_at;
 use variables::End;
 
-// The greatest value of a variable.
-pub const MAX_VALUE: u32 = 4294967295;
-
-// The number that stands for zero beside those of variables.
-pub const ZERO: usize = 16;
-
 // An end of the bounds that are known of a pointer.
 pub enum KnownEnd {
     Known(End),

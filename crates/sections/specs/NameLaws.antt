@@ -8,7 +8,7 @@ use lib.IntN.{ℤ}
 use lib.Dec.{leb, ltb, eqb}
 use borrow.Author.Tests.{leb-true, ltb-true, eqb-true}
 use native.Mathlib.Omega.{arith}
-use Rattle.facts.specs.Numbers.{bias, zeroVar}
+use Rattle.sums.specs.Numbers.{bias, zeroVar}
 use Rattle.words.specs.Words.{word}
 use Rattle.fields.specs.Fields.{plain, pickNumber, indexOf, literalLimit, literalValue, isBelow, isLiteral, isConstant}
 use Rattle.sections.specs.Sections.{isVariable, variableStart, kindAt, integerAt, pointerAt, namesInteger, namesPointer, namesIndex}

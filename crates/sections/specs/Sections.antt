@@ -4,7 +4,7 @@ use mathlib.Core.Bool.{Bool, _&&_, _||_}
 use mathlib.Core.List.{List}
 use lib.IntN.{ℤ}
 use lib.Dec.{leb, ltb, eqb}
-use Rattle.facts.specs.Numbers.{bias}
+use Rattle.sums.specs.Numbers.{bias}
 use Rattle.words.specs.Words.{word}
 use Rattle.fields.specs.Fields.{plain, pickNumber}
 use Rattle.sections.specs.declared.Sections.{Sections}

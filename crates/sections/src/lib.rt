@@ -1,6 +1,6 @@
 // The sections of a table, and what a field of a record names: a variable of some kind, an index.
 use fields::plain;
-use words::BIAS;
+use sums::BIAS;
 use words::word;
 ghost use mathlib.Core.Path.{_≡_};
 ghost use Rattle.sections.specs.Sections.{inLimits, isVariable, kindAt, integerAt, pointerAt, namesInteger, namesPointer, namesIndex};

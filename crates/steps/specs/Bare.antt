@@ -6,7 +6,7 @@ use mathlib.Core.List.{List, []}
 use lib.Dec.{eqb}
 use lib.IntN.{ℤ}
 use lib.ListN.{length, getD, set}
-use Rattle.facts.specs.Numbers.{bias}
+use Rattle.sums.specs.Numbers.{bias}
 use Rattle.facts.specs.Tabulate.{tabulate}
 use Rattle.fields.specs.Fields.{pickNumber}
 use Rattle.sections.specs.declared.Sections.{Sections}

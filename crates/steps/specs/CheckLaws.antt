@@ -6,7 +6,7 @@ use mathlib.Core.List.{List}
 use native.Mathlib.Nat.{mul-le-mul}
 use native.Mathlib.Omega.{arith}
 use lib.Dec.{leb, ltb, eqb}
-use Rattle.facts.specs.Numbers.{bias, maxValue}
+use Rattle.sums.specs.Numbers.{bias, maxValue}
 use Rattle.facts.specs.Tabulate.{getD-tabulate}
 use Rattle.rules.specs.BoundsRules.{nothingKnown}
 use Rattle.machine.specs.Machine.{value, endValue, relates, none, firstOf, accessFailing, arithmeticFailing, combined}

@@ -4,7 +4,7 @@ use crate::numbers::condition_holds;
 use conditions::Condition;
 use machine::value_at;
 use stops::Check;
-use words::BIAS;
+use sums::BIAS;
 ghost use mathlib.Core.Path.{_≡_};
 ghost use mathlib.Core.Bool.{not};
 ghost use Prim.Native.Nat.{ℕ, _+_, _^_, _<_};

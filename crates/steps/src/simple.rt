@@ -8,10 +8,10 @@ use crate::numbers::combine;
 use machine::value_at;
 use machine::wide;
 use statements::Simple;
-use words::BIAS;
+use sums::BIAS;
 ghost use Prim.Native.Nat.{_+_, _-_, _^_, _<_};
 ghost use lib.ListN.{length, getD};
-ghost use Rattle.facts.specs.Numbers.{bias};
+ghost use Rattle.sums.specs.Numbers.{bias};
 ghost use Rattle.machine.specs.Machine.{value, address, arithmeticFailing, accessFailing};
 ghost use Rattle.steps.specs.Bare.{declaredIn, offsetFailing, indexFailing, Accessible, Operable, simpleMove, Assigns, Moves};
 

@@ -5,7 +5,7 @@ use mathlib.Core.List.{List}
 use lib.IntN.{ℤ}
 use lib.ListN.{length}
 use lib.Dec.{leb, ltb, eqb}
-use Rattle.facts.specs.Numbers.{bias}
+use Rattle.sums.specs.Numbers.{bias}
 use Rattle.refusals.specs.declared.Refusal.the-variants.{Length, Directory, ObjectLength, VariableRecord, StatementRecord}
 use Rattle.words.specs.Words.{word}
 use Rattle.fields.specs.Fields.{plain, pickNumber}

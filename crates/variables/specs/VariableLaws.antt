@@ -6,7 +6,7 @@ use mathlib.Core.List.{List}
 use lib.IntN.{ℤ}
 use lib.Dec.{eqb}
 use native.Mathlib.Omega.{arith}
-use Rattle.facts.specs.Numbers.{bias}
+use Rattle.sums.specs.Numbers.{bias}
 use Rattle.fields.specs.Fields.{isZero, isConstant}
 use Rattle.sections.specs.Sections.{isVariable, variableStart, kindAt, integerAt, pointerAt, namesPointer, namesIndex}
 use Rattle.sections.specs.SectionsLaws.{both, Limits, variable-limits}

@@ -4,7 +4,7 @@ use mathlib.Core.Bool.{Bool, true, false, _&&_}
 use mathlib.Core.List.{List}
 use lib.IntN.{ℤ}
 use lib.Dec.{ltb, eqb}
-use Rattle.facts.specs.Numbers.{bias}
+use Rattle.sums.specs.Numbers.{bias}
 use Rattle.words.specs.Words.{word}
 use Rattle.fields.specs.Fields.{plain, pickNumber, indexOf, isZero, isConstant}
 use Rattle.sections.specs.Sections.{inLimits, isVariable, objectStart, variableStart, namesPointer, namesIndex}

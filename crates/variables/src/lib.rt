@@ -7,7 +7,7 @@ use sections::Sections;
 use sections::in_limits;
 use sections::names_index;
 use sections::names_pointer;
-use words::BIAS;
+use sums::BIAS;
 use words::word;
 ghost use mathlib.Core.Path.{_≡_};
 ghost use Prim.Native.Nat.{_<_};

@@ -1,11 +1,9 @@
 // The words of a table as natural numbers, 2^33 more than the signed words. Only `biased` sees a signed word; everything else works on natural numbers.
+use sums::BIAS;
 ghost use mathlib.Core.Path.{_≡_};
 ghost use Prim.Native.Nat.{_+_, _%_, _<_, _≤_};
 ghost use lib.ListN.{length};
 ghost use Rattle.words.specs.Words.{biased, word, fieldsAt};
-
-// The word 0. Constants, sums and addresses are kept as the number that is this much more, so that they may be negative.
-pub const BIAS: u64 = 8589934592;
 
 // The seven words of a statement record.
 pub struct Fields {

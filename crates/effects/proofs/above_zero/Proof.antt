@@ -1,6 +1,7 @@
 -- `effects::above_zero` meets its contract.
 use borrow.Author.Needs.{needs}
 use mathlib.Core.Path.{_∙_}
+use Rattle.effects.specs.ChangeLaws.{adds-none}
 use Rattle.effects.specs.FactRulesLaws.{plain-kept, positive-added}
 use Rattle.effects.proofs.above_zero.Statement.{statement}
 use Rattle.effects.proofs.above_zero.Tie as tie
@@ -10,6 +11,6 @@ above-zero-spec =
     tie.close
     (tie.spec
     (λ c κs. search needs)
-    (λ c f. c .no-fact .ensures f ∙ plain-kept f _ _ (c .before .if1 .taken))
-    (λ c. search needs) (λ c κs. search needs)
-    (λ c f. c .fact .ensures f ∙ positive-added f _ _ (c .before .if1 .left)))
+    (λ c f. adds-none (c .no-fact .ensures) f ∙ plain-kept f _ _ (c .before .if1 .taken))
+    (λ c. search needs)
+    (λ c f. positive-added f _ _ (c .if1 .left)))

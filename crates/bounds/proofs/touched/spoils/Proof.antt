@@ -6,8 +6,7 @@ use Rattle.facts.specs.Tabulate.{length-under}
 use Rattle.rules.specs.declared.Effect.{Effect}
 use Rattle.bounds.specs.Stays.{changedBy, replacedBy}
 use Rattle.bounds.specs.BoundsRulesLaws.{stays-read}
-use Rattle.bounds.specs.ShownLaws.{asked}
-use Rattle.bounds.specs.TouchedLaws.{Spared, spared-none, spared-more, spared-touched, spared-all}
+use Rattle.bounds.specs.TouchedLaws.{asked, Spared, spared-none, spared-more, spared-touched, spared-all}
 use Rattle.bounds.proofs.touched.spoils.Statement.{statement}
 use Rattle.bounds.proofs.touched.spoils.Tie as tie
 

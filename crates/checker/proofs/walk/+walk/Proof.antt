@@ -15,11 +15,11 @@ use Rattle.checker.proofs.walk.walk.Kinds as walk-kinds
 use Rattle.checker.proofs.walk.+walk.Lts-walk as walk-lts
 use Rattle.effects.proofs.asked_sum.Reads as asked-sum-reads
 use Rattle.effects.proofs.plan_statement.Reads as plan-statement-reads
-use Rattle.facts.proofs.FactSet.in_range.Reads as in-range-reads
+use Rattle.shown.proofs.in_range.Reads as in-range-reads
 use Rattle.facts.proofs.FactSet.after.Reads as after-reads
 use Rattle.bounds.proofs.touches.Reads as touches-reads
 use Rattle.effects.proofs.assume.Reads as assume-reads
-use Rattle.bounds.proofs.check_effect.Reads as check-effect-reads
+use Rattle.declared.proofs.check_effect.Reads as check-effect-reads
 use Rattle.effects.proofs.lose.Reads as lose-reads
 use Rattle.checker.proofs.walk.walk_bundle.Reads as walk-bundle-reads
 use Rattle.facts.proofs.FactSet.contradicts.Reads as contradicts-reads

@@ -1,6 +1,6 @@
 -- `facts::FactSet::drop` meets its contract.
 use borrow.Author.Needs.{needs}
-use Rattle.facts.specs.StoreLaws.{changed-drop}
+use Rattle.facts.specs.StoreLaws.{drop-made}
 use Rattle.facts.proofs.FactSet.drop.Statement.{statement}
 use Rattle.facts.proofs.FactSet.drop.Tie as tie
 
@@ -9,4 +9,4 @@ drop-spec =
     tie.close
     (tie.spec
     (λ c κs. search needs) (λ c κs. search needs)
-    (λ c. changed-drop _ _ (c .before .no-fact .ensures) (c .after .ensures)))
+    (λ c. drop-made _ (c .after .ensures) (c .before .ranging .ensures)))

@@ -1,7 +1,7 @@
 -- `facts::FactSet::shift` meets its contract.
 use mathlib.Core.Path.{sym}
 use borrow.Author.Needs.{needs}
-use Rattle.facts.specs.StoreLaws.{shifted-other, changed-shift}
+use Rattle.facts.specs.StoreLaws.{shifted-other, shift-made}
 use Rattle.facts.proofs.FactSet.shift.Statement.{statement}
 use Rattle.facts.proofs.FactSet.shift.Tie as tie
 
@@ -11,4 +11,4 @@ shift-spec =
     (tie.spec
     (λ c. sym (shifted-other _ _ _ (c .if1 .taken)))
     (λ c κs. search needs) (λ c κs. search needs) (λ c κs. search needs)
-    (λ c. changed-shift _ _ (c .before .no-fact .ensures) _ (c .before .before .before .if1 .left) (c .before .before .negate .ensures) (c .after .ensures)))
+    (λ c. shift-made _ (c .after .ensures) (c .before .before .before .if1 .left) (c .before .before .no-fact .ensures) (c .before .shifting .ensures)))

@@ -3,7 +3,7 @@ use Prim.Native.Nat.{ℕ, _-_}
 use mathlib.Core.Path.{refl, ap}
 use mathlib.Core.List.{List}
 use borrow.Author.Needs.{needs}
-use Rattle.facts.specs.Numbers.{zeroVar}
+use Rattle.sums.specs.Numbers.{zeroVar}
 use Rattle.facts.specs.Tabulate.{Filled, filled-none, filled-more, filled-whole}
 use Rattle.facts.specs.Store.{sumAt}
 use Rattle.facts.specs.Rows.{columnTo}

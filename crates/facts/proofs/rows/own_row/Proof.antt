@@ -4,9 +4,10 @@ use mathlib.Core.Path.{ap}
 use mathlib.Core.List.{List}
 use borrow.Author.Needs.{needs}
 use lib.Dec.{eqb}
-use Rattle.facts.specs.Numbers.{bias}
+use Rattle.sums.specs.Numbers.{bias}
 use Rattle.facts.specs.Tabulate.{Filled, filled-none, filled-more, filled-whole}
-use Rattle.facts.specs.Store.{pick, inRow, concatenated, ownRow}
+use Rattle.sums.specs.Sums.{pick, concatenated}
+use Rattle.facts.specs.Store.{inRow, ownRow}
 use Rattle.facts.proofs.rows.own_row.Statement.{statement}
 use Rattle.facts.proofs.rows.own_row.Tie as tie
 

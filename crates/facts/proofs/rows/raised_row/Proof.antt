@@ -4,7 +4,8 @@ use mathlib.Core.Path.{ap}
 use mathlib.Core.List.{List}
 use borrow.Author.Needs.{needs}
 use Rattle.facts.specs.Tabulate.{Filled, filled-none, filled-more, filled-whole}
-use Rattle.facts.specs.Store.{inRow, concatenated}
+use Rattle.sums.specs.Sums.{concatenated}
+use Rattle.facts.specs.Store.{inRow}
 use Rattle.facts.specs.Rows.{raisedRow}
 use Rattle.facts.proofs.rows.raised_row.Statement.{statement}
 use Rattle.facts.proofs.rows.raised_row.Tie as tie

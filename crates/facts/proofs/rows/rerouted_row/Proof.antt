@@ -5,7 +5,8 @@ use mathlib.Core.List.{List}
 use borrow.Author.Needs.{needs}
 use lib.Dec.{eqb}
 use Rattle.facts.specs.Tabulate.{Filled, filled-none, filled-more, filled-whole}
-use Rattle.facts.specs.Store.{pick, inRow}
+use Rattle.sums.specs.Sums.{pick}
+use Rattle.facts.specs.Store.{inRow}
 use Rattle.facts.specs.Rows.{mergedRow}
 use Rattle.facts.proofs.rows.rerouted_row.Statement.{statement}
 use Rattle.facts.proofs.rows.rerouted_row.Tie as tie

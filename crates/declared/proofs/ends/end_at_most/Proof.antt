@@ -1,0 +1,16 @@
+-- `declared::ends::end_at_most` meets its contract.
+use borrow.Author.Needs.{needs}
+use mathlib.Core.Path.{sym, _∙_}
+use Rattle.rules.specs.BoundsRules.{endAtMost}
+use Rattle.declared.proofs.ends.end_at_most.Statement.{statement}
+use Rattle.declared.proofs.ends.end_at_most.Tie as tie
+
+pub end-at-most-spec : {M : Type 1} → statement M
+unfolding endAtMost
+end-at-most-spec =
+    tie.close
+    (tie.spec
+    (λ c κs. search needs)
+    (λ c. simp (sym (c .before .same-end .ensures) ∙ c .if1 .taken))
+    (λ c κs. search needs)
+    (λ c. simp (sym (c .before .before .same-end .ensures) ∙ c .before .if1 .left) (c .shows-end .ensures)))

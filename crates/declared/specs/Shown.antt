@@ -1,0 +1,33 @@
+-- What the functions of this crate give back, in terms of the rules: bounds that are the same, and the access that a statement makes.
+use mathlib.Core.Bool.{Bool, false, _&&_}
+use Rattle.statements.specs.declared.Simple.{Simple}
+use Rattle.statements.specs.declared.Simple.the-variants.{Literal, AddConstant, Arithmetic, Null, Address, PointerOffset, PointerIndex, Load, Store, Check}
+use Rattle.rules.specs.BoundsRules.{sameEnd}
+use Rattle.rules.specs.declared.KnownEnd.{KnownEnd}
+use Rattle.rules.specs.declared.KnownEnd.the-variants.{Known, Unknown}
+use Rattle.rules.specs.declared.Bounds.{Bounds}
+use Rattle.declared.specs.declared.Access.{Access}
+use Rattle.declared.specs.declared.Access.the-variants.{Through, Nothing}
+
+-- Both ends are known and the same.
+unfoldable pub sameKnown : KnownEnd → KnownEnd → Bool
+sameKnown Unknown g = false
+sameKnown (Known e) Unknown = false
+sameKnown (Known e) (Known g) = sameEnd e g
+
+-- Known and declared bounds are the same, end by end; each pair in the order in which `boundsShown` compares it.
+unfoldable pub sameBounds : Bounds → Bounds → Bool
+sameBounds k d = sameKnown (k .lower) (d .lower) && sameKnown (d .upper) (k .upper)
+
+-- Kinds 8 and 9 are accesses.
+abbrev pub accessOf : Simple → Access
+accessOf (Literal x k) = Nothing
+accessOf (AddConstant x y k) = Nothing
+accessOf (Arithmetic x y z op) = Nothing
+accessOf (Null p) = Nothing
+accessOf (Address p o) = Nothing
+accessOf (PointerOffset p q k) = Nothing
+accessOf (PointerIndex p q i) = Nothing
+accessOf (Load x p i k) = Through p
+accessOf (Store p i k x) = Through p
+accessOf (Check c) = Nothing

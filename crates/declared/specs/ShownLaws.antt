@@ -1,0 +1,163 @@
+-- Laws of declared bounds that are shown, as the code meets them.
+use Prim.Native.Nat.{ℕ, zero, suc, _+_, _-_, _≤_, _<_}
+use mathlib.Core.Path.{_≡_, refl, sym, ap, _∙_}
+use mathlib.Core.Bool.{Bool, true, false, not, _&&_, _||_, false≢true}
+use mathlib.Core.List.{List}
+use mathlib.Core.Logic.{_⊎_, inl, inr}
+use native.Mathlib.Omega.{arith}
+use native.Mathlib.Numerals.{sub-one}
+use lib.ListN.{length}
+use Rattle.sums.specs.Numbers.{bias, zeroVar}
+use Rattle.facts.specs.Store.{shown, endShown}
+use Rattle.facts.specs.declared.FactSet.{FactSet}
+use Rattle.refusals.specs.declared.Refusal.the-variants.{BoundsNotShown}
+use Rattle.sections.specs.SectionsLaws.{both}
+use Rattle.statements.specs.declared.Simple.{Simple}
+use Rattle.statements.specs.declared.Simple.the-variants.{Literal, AddConstant, Arithmetic, Null, Address, PointerOffset, PointerIndex, Load, Store, Check}
+use Rattle.rules.specs.BoundsRules.{isPointer, declared, known, endAtMost, knownAtMost, boundsShown, consIf, unshownFrom, unshown, accessShown}
+use Rattle.rules.specs.Rules.{boundsAt}
+use Rattle.rules.specs.Verdict.{lowestVerdict}
+use Rattle.rules.specs.declared.KnownEnd.{KnownEnd}
+use Rattle.rules.specs.declared.KnownEnd.the-variants.{Known, Unknown}
+use Rattle.rules.specs.declared.Bounds.{Bounds}
+use Rattle.rules.specs.declared.Environment.{Environment}
+use Rattle.rules.specs.declared.Verdict.the-variants.{Accepted, Refused}
+use Rattle.bounds.specs.BoundsRulesLaws.{stored, stored-known}
+use Rattle.declared.specs.Shown.{sameKnown, sameBounds, accessOf}
+use Rattle.declared.specs.declared.Access.{Access}
+use Rattle.declared.specs.declared.Access.the-variants.{Through, Nothing}
+
+-- ---- when declared bounds are shown
+
+-- Declared bounds are shown by both ends, or by a null pointer.
+module _ (f : FactSet) (p : ℕ) (k d : Bounds) where
+  pub ends-shown : knownAtMost f (k .lower) (d .lower) ≡ true → knownAtMost f (d .upper) (k .upper) ≡ true → boundsShown f p k d ≡ true
+  unfolding boundsShown
+  ends-shown s t = go (shown f p zeroVar bias) s t
+    where
+      go : (a : Bool) {c d : Bool} → c ≡ true → d ≡ true → (a || c && d) ≡ true
+      go true s t = refl
+      go false s t = rw (s, t)
+
+  pub null-shown : {r : Bool} → (knownAtMost f (k .lower) (d .lower) ≡ false) ⊎ (knownAtMost f (d .upper) (k .upper) ≡ false) → r ≡ shown f p zeroVar bias → r ≡ boundsShown f p k d
+  unfolding boundsShown
+  null-shown h e = e ∙ go (shown f p zeroVar bias) (knownAtMost f (k .lower) (d .lower)) (knownAtMost f (d .upper) (k .upper)) h
+    where
+      go : (a b c : Bool) → (b ≡ false) ⊎ (c ≡ false) → a ≡ (a || b && c)
+      go true b c h = refl
+      go false false c h = refl
+      go false true c (inl e) = absurd (false≢true (sym e))
+      go false true c (inr e) = sym e
+
+-- Bounds that are the same are shown, whatever the facts.
+same-at-most : (f : FactSet) (a b : KnownEnd) → sameKnown a b ≡ true → knownAtMost f a b ≡ true
+unfolding sameKnown knownAtMost endAtMost
+same-at-most f Unknown b h = absurd (false≢true h)
+same-at-most f (Known e) Unknown h = absurd (false≢true h)
+same-at-most f (Known e) (Known g) h = ap (λ (b : Bool). b || endShown f (e .pointer) (e .integer) (e .constant) (g .pointer) (g .integer) (g .constant)) h
+
+pub same-shown : (f : FactSet) (p : ℕ) (k d : Bounds) → sameBounds k d ≡ true → boundsShown f p k d ≡ true
+unfolding sameBounds
+same-shown f p k d h =
+    let t = both (sameKnown (k .lower) (d .lower)) (sameKnown (d .upper) (k .upper)) h in
+    ends-shown f p k d (same-at-most f (k .lower) (d .lower) (t .0)) (same-at-most f (d .upper) (k .upper) (t .1))
+
+-- ---- the pointers that are not shown, one after the other
+
+-- The pointer p is one whose declared bounds are not shown.
+unfoldable pub missed : Environment → FactSet → List Bounds → ℕ → Bool
+missed E f K p = isPointer E p && not (boundsShown f p (known K p) (declared E p))
+
+unshown-some : (E : Environment) (f : FactSet) (K : List Bounds) (n p : ℕ) → 0 < n → unshownFrom E f K n p ≡ consIf (missed E f K p) p (unshownFrom E f K (n - 1) (p + 1))
+unfolding unshownFrom missed
+unshown-some E f K zero p h = absurd (omega arith)
+unshown-some E f K (suc n) p h = rw sub-one
+
+-- The loop's invariant: the pointers that are not shown are those from p on.
+pub record Passed (E : Environment) (f : FactSet) (K : List Bounds) (p : ℕ) : Type 0 where
+  pub within : p ≤ 16
+  pub same : unshown E f K ≡ unshownFrom E f K (16 - p) p
+
+pub passed-none : (E : Environment) (f : FactSet) (K : List Bounds) → Passed E f K 0
+unfolding unshown
+passed-none E f K = record { within = omega arith; same = refl }
+
+module _ {E : Environment} {f : FactSet} {K : List Bounds} {p : ℕ} (q : Passed E f K p) where
+  pub passed-more : p < 16 → missed E f K p ≡ false → Passed E f K (p + 1)
+  passed-more h e =
+      let n : 16 - p - 1 ≡ 16 - (p + 1) = omega arith in
+      record {
+        within = omega arith;
+        same = q .same ∙ (unshown-some E f K (16 - p) p (omega arith)
+            ∙ (ap (λ (b : Bool). consIf b p (unshownFrom E f K (16 - p - 1) (p + 1))) e ∙ ap (λ (m : ℕ). unshownFrom E f K m (p + 1)) n));
+      }
+
+  pub passed-missed : (a : ℕ) → p < 16 → missed E f K p ≡ true → Refused (BoundsNotShown a p) ≡ lowestVerdict (boundsAt a (unshown E f K))
+  unfolding lowestVerdict boundsAt
+  passed-missed a h e = sym (ap (λ (ps : List ℕ). lowestVerdict (boundsAt a ps)) (q .same ∙ (unshown-some E f K (16 - p) p (omega arith) ∙ ap (λ (b : Bool). consIf b p (unshownFrom E f K (16 - p - 1) (p + 1))) e)))
+
+  pub passed-all : (a : ℕ) → 16 ≤ p → Accepted ≡ lowestVerdict (boundsAt a (unshown E f K))
+  unfolding lowestVerdict boundsAt unshownFrom
+  passed-all a h =
+      let n : 16 - p ≡ 0 = omega arith in
+      sym (ap (λ (ps : List ℕ). lowestVerdict (boundsAt a ps)) (q .same ∙ ap (λ (m : ℕ). unshownFrom E f K m p) n))
+
+missed-shown : (a : Bool) {b c : Bool} → b ≡ c → not b ≡ false → (a && not c) ≡ false
+missed-shown true e t = ap not (sym e) ∙ t
+missed-shown false e t = refl
+
+missed-not : {a b c : Bool} → a ≡ true → b ≡ c → not b ≡ true → (a && not c) ≡ true
+missed-not {a} {b} {c} p e t = ap (λ (x : Bool). x && not c) p ∙ (ap not (sym e) ∙ t)
+
+-- A pointer that is not asked, where its test says that it is shown.
+missed-unasked : (a b c : Bool) → (a && not b) ≡ false → (b ≡ true → c ≡ true) → (a && not c) ≡ false
+missed-unasked true true c t k = ap not (k refl)
+missed-unasked true false c t k = absurd (false≢true (sym t))
+missed-unasked false b c t k = refl
+
+-- A pointer with the known bounds k: it is asked only where they are not the declared ones.
+module _ (E : Environment) (f : FactSet) (K : List Bounds) (p : ℕ) (d : p < length (E .declared)) {k : Bounds} (e : k ≡ known K p) {same : Bool} (w : same ≡ sameBounds k (stored (E .declared) p)) where
+  pub unasked : (isPointer E p && not same) ≡ false → missed E f K p ≡ false
+  unfolding missed
+  unasked t =
+      missed-unasked (isPointer E p) same (boundsShown f p (known K p) (declared E p)) t
+      (λ s. same-shown f p (known K p) (declared E p) (rw (e, stored-known (E .declared) p d) at (sym w ∙ s)))
+
+  module _ {b : Bool} (s : b ≡ boundsShown f p k (stored (E .declared) p)) where
+    said : b ≡ boundsShown f p (known K p) (declared E p)
+    said = s ∙ (ap (λ (x : Bounds). boundsShown f p x (stored (E .declared) p)) e ∙ ap (boundsShown f p (known K p)) (stored-known (E .declared) p d))
+
+    pub asked-shown : not b ≡ false → missed E f K p ≡ false
+    unfolding missed
+    asked-shown t = missed-shown (isPointer E p) said t
+
+    pub asked-missed : (isPointer E p && not same) ≡ true → not b ≡ true → missed E f K p ≡ true
+    unfolding missed
+    asked-missed a t = missed-not (both (isPointer E p) (not same) a .0) said t
+
+-- ---- accesses
+
+-- What an access needs.
+abbrev needed : Environment → FactSet → List Bounds → Access → Bool
+needed E f K (Through p) = boundsShown f p (known K p) (declared E p)
+needed E f K Nothing = true
+
+access-needs : (E : Environment) (f : FactSet) (K : List Bounds) (s : Simple) → needed E f K (accessOf s) ≡ accessShown E f K s
+unfolding accessShown
+access-needs E f K (Literal x k) = refl
+access-needs E f K (AddConstant x y k) = refl
+access-needs E f K (Arithmetic x y z op) = refl
+access-needs E f K (Null p) = refl
+access-needs E f K (Address p o) = refl
+access-needs E f K (PointerOffset p q k) = refl
+access-needs E f K (PointerIndex p q i) = refl
+access-needs E f K (Load x p i k) = refl
+access-needs E f K (Store p i k x) = refl
+access-needs E f K (Check c) = refl
+
+module _ (E : Environment) (f : FactSet) (K : List Bounds) (s : Simple) {a : Access} (e : a ≡ accessOf s) where
+  pub nothing-needed : a ≡ Nothing → true ≡ accessShown E f K s
+  nothing-needed n = sym (ap (needed E f K) (sym e ∙ n)) ∙ access-needs E f K s
+
+  pub pointer-needed : {p : ℕ} {n d : Bounds} {b : Bool} → a ≡ Through p → n ≡ known K p → d ≡ declared E p → b ≡ boundsShown f p n d → b ≡ accessShown E f K s
+  pointer-needed t n d b = rw (n, d) at b ∙ (sym (ap (needed E f K) (sym e ∙ t)) ∙ access-needs E f K s)

@@ -1,0 +1,87 @@
+// When known bounds show declared ones.
+use facts::FactSet;
+use rules::Bounds;
+use rules::KnownEnd;
+use shown::shows;
+use shown::shows_end;
+use sums::BIAS;
+use sums::ZERO;
+use variables::End;
+ghost use mathlib.Core.Path.{_≡_};
+ghost use Rattle.rules.specs.BoundsRules.{sameEnd, endAtMost, knownAtMost, boundsShown};
+ghost use Rattle.declared.specs.Shown.{sameKnown, sameBounds};
+
+fn same_end(a: End, b: End) -> bool
+    ensures { λ r. ⌜ r ≡ sameEnd a b ⌝ }
+{
+    (a.pointer == b.pointer) & (a.integer == b.integer) & (a.constant == b.constant)
+}
+
+fn same_known(a: KnownEnd, b: KnownEnd) -> bool
+    ensures { λ r. ⌜ r ≡ sameKnown a b ⌝ }
+{
+    let KnownEnd::Known(e) = a else {
+        return false;
+    };
+    let KnownEnd::Known(g) = b else {
+        return false;
+    };
+    same_end(e, g)
+}
+
+// Known and declared bounds are the same, end by end: then they are shown, whatever the facts.
+pub(crate) fn same_bounds(known: Bounds, declared: Bounds) -> bool
+    ensures { λ r. ⌜ r ≡ sameBounds known declared ⌝ }
+{
+    let known_lower = known.lower;
+    let declared_lower = declared.lower;
+    let known_upper = known.upper;
+    let declared_upper = declared.upper;
+    same_known(known_lower, declared_lower) & same_known(declared_upper, known_upper)
+}
+
+// The end a is at most the end b.
+fn end_at_most(facts: FactSet, a: End, b: End) -> bool
+    ensures { λ r. ⌜ r ≡ endAtMost facts a b ⌝ }
+{
+    if same_end(a, b) {
+        return true;
+    }
+    shows_end(
+        facts,
+        a.pointer,
+        a.integer,
+        a.constant,
+        b.pointer,
+        b.integer,
+        b.constant,
+    )
+}
+
+fn known_at_most(facts: FactSet, a: KnownEnd, b: KnownEnd) -> bool
+    ensures { λ r. ⌜ r ≡ knownAtMost facts a b ⌝ }
+{
+    let KnownEnd::Known(e) = a else {
+        return false;
+    };
+    let KnownEnd::Known(g) = b else {
+        return false;
+    };
+    end_at_most(facts, e, g)
+}
+
+// The declared bounds of p are shown where `known` are its known bounds. The ends come first: where they are the same, the facts are not asked.
+pub(crate) fn bounds_shown(facts: FactSet, p: usize, known: Bounds, declared: Bounds) -> bool
+    ensures { λ r. ⌜ r ≡ boundsShown facts p known declared ⌝ }
+{
+    let known_lower = known.lower;
+    let declared_lower = declared.lower;
+    if known_at_most(facts, known_lower, declared_lower) {
+        let known_upper = known.upper;
+        let declared_upper = declared.upper;
+        if known_at_most(facts, declared_upper, known_upper) {
+            return true;
+        }
+    }
+    shows(facts, p, ZERO, BIAS)
+}

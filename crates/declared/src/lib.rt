@@ -1,0 +1,115 @@
+// Whether declared bounds are shown: after a statement, after a bundle, at an access in one.
+mod ends; // ends.rt: when known bounds show declared ones
+
+use bounds::KnownBounds;
+use bounds::effect_on;
+use bounds::source_of;
+use ends::bounds_shown;
+use ends::same_bounds;
+use facts::FactSet;
+use refusals::Refusal;
+use rules::Effect;
+use rules::Environment;
+use rules::Verdict;
+use rules::bounds_at;
+use statements::Simple;
+ghost use mathlib.Core.Path.{_≡_};
+ghost use Rattle.rules.specs.BoundsRules.{boundsAfter, unshown, accessShown};
+ghost use Rattle.rules.specs.Rules.{boundsAt};
+ghost use Rattle.rules.specs.Verdict.{lowestVerdict};
+ghost use Rattle.rules.specs.Ranges.{Short};
+ghost use Rattle.declared.specs.Shown.{accessOf};
+
+// The first pointer whose declared bounds are not shown after the effect, where the declared bounds were the known ones.
+pub fn check_effect(environment: Environment, facts: FactSet, effect: Effect, at: usize) -> Verdict
+    requires { ⌜ Short effect ⌝ }
+    ensures { λ r. ⌜ r ≡ lowestVerdict (boundsAt at (unshown environment facts (boundsAfter effect (environment .declared)))) ⌝ }
+{
+    let from = source_of(effect);
+    let source = environment.declared[from];
+    let mut p = 0;
+    while p < 16 {
+        let declared = environment.declared[p];
+        let known = effect_on(effect, p, declared, source);
+        if environment.pointers[p] & !same_bounds(known, declared) {
+            if !bounds_shown(facts, p, known, declared) {
+                return Verdict::Refused(Refusal::BoundsNotShown {
+                    statement: at,
+                    pointer: p,
+                });
+            }
+        }
+        p += 1;
+    }
+    Verdict::Accepted
+}
+
+// The first pointer whose declared bounds are not shown by the known ones.
+pub fn check_known(
+    environment: Environment,
+    facts: FactSet,
+    known: KnownBounds,
+    at: usize,
+) -> Verdict
+    ensures { λ r. ⌜ r ≡ lowestVerdict (boundsAt at (unshown environment facts (known .each))) ⌝ }
+{
+    let mut p = 0;
+    while p < 16 {
+        let own = known.each[p];
+        let declared = environment.declared[p];
+        if environment.pointers[p] & !same_bounds(own, declared) {
+            if !bounds_shown(facts, p, own, declared) {
+                return Verdict::Refused(Refusal::BoundsNotShown {
+                    statement: at,
+                    pointer: p,
+                });
+            }
+        }
+        p += 1;
+    }
+    Verdict::Accepted
+}
+
+// The pointer that a statement reads or writes through, if any.
+enum Access {
+    Through(usize),
+    Nothing,
+}
+
+fn access_of(simple: Simple) -> Access
+    ensures { λ r. ⌜ r ≡ accessOf simple ⌝ }
+{
+    match simple {
+        Simple::Load {
+            target: _,
+            pointer,
+            index: _,
+            constant: _,
+        } => Access::Through(pointer),
+        Simple::Store {
+            pointer,
+            index: _,
+            constant: _,
+            source: _,
+        } => Access::Through(pointer),
+        _ => Access::Nothing,
+    }
+}
+
+// An access needs the declared bounds of its pointer shown.
+pub fn access_shown(
+    environment: Environment,
+    facts: FactSet,
+    known: KnownBounds,
+    simple: Simple,
+) -> bool
+    ensures { λ r. ⌜ r ≡ accessShown environment facts (known .each) simple ⌝ }
+{
+    let access = access_of(simple);
+    let Access::Through(p) = access else {
+        return true;
+    };
+    let each = known.each;
+    let declared = environment.declared;
+    bounds_shown(facts, p, bounds_at(each, p), bounds_at(declared, p))
+}
