@@ -1,14 +1,7 @@
 // The fact store. A fact is x <= y + k over two of 16 variables and zero, which has number 16. A fact set keeps the least sum of the chains from
 // each of the 17 to each other one (a difference-bound matrix, closed under shortest paths) and a mark for facts that contradict.
 // A sum s is kept as the natural number s + 2^33. Nobody outside this crate reads the rows.
-ghost use mathlib.Core.Path.{_≡_};
-ghost use mathlib.Core.Bool.{false};
-ghost use Prim.Native.Nat.{_<_};
-ghost use lib.ListN.{getD};
-ghost use Rattle.facts.specs.Store.{contradictory, leastSum, newSet, changed, added, dropped, shifted, joined};
-ghost use Rattle.facts.specs.Rows.{columnTo};
-
-mod rows;
+mod rows; // rows.rt: the sums from one variable, or from zero, to each
 
 use changes::Change;
 use changes::Fact;
@@ -18,6 +11,12 @@ use changes::ranging;
 use changes::shifting;
 use rows::Row;
 use sums::MAX_VALUE;
+ghost use mathlib.Core.Path.{_≡_};
+ghost use mathlib.Core.Bool.{false};
+ghost use Prim.Native.Nat.{_<_};
+ghost use lib.ListN.{getD};
+ghost use Rattle.facts.specs.Store.{contradictory, leastSum, newSet, changed, added, dropped, shifted, joined};
+ghost use Rattle.facts.specs.Rows.{columnTo};
 
 pub struct FactSet {
     rows: [Row; 17],
