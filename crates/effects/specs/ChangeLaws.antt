@@ -8,7 +8,6 @@ use Rattle.changes.specs.declared.Change.{Change}
 use Rattle.changes.specs.declared.Fact.{Fact}
 use Rattle.facts.specs.Store.{addedFact, changed, dropped, ranged, shifted}
 use Rattle.facts.specs.StoreLaws.{silent, changed-adding, changed-ranging, changed-forgetting, changed-shifting, changed-equating}
-use Rattle.facts.specs.declared.FactSet.{FactSet}
 use Rattle.rules.specs.FactRules.{equated}
 use Rattle.effects.specs.Applied.{Adds, Makes}
 

@@ -27,7 +27,7 @@ ghost use Rattle.statements.specs.declared.Simple.the-variants.{AddConstant, Po
 ghost use Rattle.rules.specs.FactRules.{pickFacts, positive};
 ghost use Rattle.rules.specs.BoundsRules.{pickEffect};
 ghost use Rattle.rules.specs.Ranges.{InRange};
-ghost use Rattle.facts.specs.Store.{added, ranged};
+ghost use Rattle.facts.specs.Store.{added, dropped, ranged};
 ghost use Rattle.effects.specs.Applied.{Makes, Adds, Assumes, Plans, sourceAsked, constantAsked};
 
 // What a statement does to the facts and to known bounds.
@@ -41,6 +41,8 @@ pub struct Sum {
     pub source: usize,
     pub constant: u64,
 }
+
+// The changes below say in their contracts what they make of any facts.
 
 // Nothing at all.
 fn keep() -> Change
@@ -61,6 +63,13 @@ fn range(x: usize, low: u32, high: u32) -> Change
     ensures { λ r. ⌜ Makes r (λ f. ranged f x low high) ⌝ }
 {
     ranging(x, low, high)
+}
+
+// Drops x.
+fn forget(x: usize) -> Change
+    ensures { λ r. ⌜ Makes r (λ f. dropped f x) ⌝ }
+{
+    ranging(x, 0, MAX_VALUE)
 }
 
 // The facts that a condition gives: left RELATION right + offset.
@@ -122,7 +131,7 @@ fn add_constant(x: usize, y: usize, k: u64, fits: bool) -> Plan
     let forgotten = Effect::Forget { target: x };
     if !fits {
         return Plan {
-            change: ranging(x, 0, MAX_VALUE),
+            change: forget(x),
             effect: forgotten,
         };
     }
@@ -213,7 +222,7 @@ pub fn plan_statement(lengths: [u64; 16], simple: Simple, fits: bool) -> Plan
             right: _,
             operation: _,
         } => Plan {
-            change: ranging(target, 0, MAX_VALUE),
+            change: forget(target),
             effect: Effect::Forget { target },
         },
         Simple::Null { target } => Plan {
@@ -246,7 +255,7 @@ pub fn plan_statement(lengths: [u64; 16], simple: Simple, fits: bool) -> Plan
             index: _,
             constant: _,
         } => Plan {
-            change: ranging(target, 0, MAX_VALUE),
+            change: forget(target),
             effect: Effect::Forget { target },
         },
         Simple::Store {

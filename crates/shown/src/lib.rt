@@ -1,6 +1,7 @@
 // What a fact set shows.
 use facts::FactSet;
 use sums::BIAS;
+use sums::ZERO;
 use sums::concat;
 use sums::room_above;
 ghost use mathlib.Core.Path.{_≡_};
@@ -33,8 +34,8 @@ pub fn in_range(facts: FactSet, y: usize, k: u64) -> bool
     if k == BIAS {
         return true;
     }
-    if shows(facts, 16, y, k) {
-        return shows(facts, y, 16, room_above(k));
+    if shows(facts, ZERO, y, k) {
+        return shows(facts, y, ZERO, room_above(k));
     }
     false
 }

@@ -2,7 +2,7 @@
 use borrow.Author.Needs.{needs}
 use mathlib.Core.Path.{sym, _∙_}
 use borrow.Author.Tests.{not-true, not-false}
-use Rattle.effects.specs.ChangeLaws.{adds-none, makes-drop, makes-shift, makes-equal}
+use Rattle.effects.specs.ChangeLaws.{adds-none, makes-shift, makes-equal}
 use Rattle.effects.specs.FactRulesLaws.{sum-dropped, sum-shifted, sum-equated}
 use Rattle.effects.proofs.add_constant.Statement.{statement}
 use Rattle.effects.proofs.add_constant.Tie as tie
@@ -12,7 +12,7 @@ add-constant-spec =
     tie.close
     (tie.spec
     (λ c κs. search needs)
-    (λ c f r. sum-dropped _ f _ _ _ (sym r ∙ not-true _ (c .before .if1 .taken)) (makes-drop (c .ranging .ensures) f))
+    (λ c f r. sum-dropped _ f _ _ _ (sym r ∙ not-true _ (c .before .if1 .taken)) (c .forget .ensures f))
     (λ c κs. search needs) (λ c κs. search needs)
     (λ c f r. sum-shifted _ f _ _ _ (sym r ∙ not-false _ (c .before .before .before .if1 .left)) (c .before .before .if2 .taken) (makes-shift (search needs) (c .shifting .ensures) f ∙ adds-none (c .before .no-fact .ensures) _))
     (λ c κs. search needs) (λ c κs. search needs)

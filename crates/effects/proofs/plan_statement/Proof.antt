@@ -6,7 +6,6 @@ use Rattle.facts.specs.StoreLaws.{plain-in-range}
 use Rattle.rules.specs.FactRules.{factsAfter}
 use Rattle.rules.specs.BoundsRules.{effect}
 use Rattle.effects.specs.Applied.{applied}
-use Rattle.effects.specs.ChangeLaws.{makes-drop}
 use Rattle.effects.proofs.plan_statement.Statement.{statement}
 use Rattle.effects.proofs.plan_statement.Tie as tie
 
@@ -28,11 +27,11 @@ plan-statement-spec =
     (λ c κs. rw (c .before .simple9 .given .1) at (c .before .before .before .pre))
     (λ c f r. simp (c .before .before .simple .given .1, c .range .ensures f))
     (λ c f r. simp (c .before .before .simple2 .given .1) (c .add-constant .ensures f (rw (c .before .before .simple2 .given .1) at r)))
-    (λ c f r. simp (c .before .before .simple3 .given .1, makes-drop (c .ranging .ensures) f))
+    (λ c f r. simp (c .before .before .simple3 .given .1, c .forget .ensures f))
     (λ c f r. simp (c .before .before .simple4 .given .1, c .range2 .ensures f))
     (λ c f r. simp (c .before .before .before .simple5 .given .1, c .length-at .ensures, c .before .range3 .ensures f))
     (λ c f r. simp (c .before .before .simple6 .given .1) (c .add-offset .ensures f (sym (plain-in-range f 0 _ refl))))
     (λ c f r. simp (c .before .before .before .simple7 .given .1, c .index-effect .ensures, c .before .range4 .ensures f))
-    (λ c f r. simp (c .before .before .simple8 .given .1, makes-drop (c .ranging2 .ensures) f))
+    (λ c f r. simp (c .before .before .simple8 .given .1, c .forget2 .ensures f))
     (λ c f r. simp (c .before .enum-told .given .1, c .keep .ensures f))
     (λ c f r. simp (c .before .before .simple9 .given .1, c .assume .ensures f)))
