@@ -4,9 +4,7 @@
 use sections::Sections;
 use statements::StatementRead;
 use statements::read_statement;
-use std::num::wrapping_add_usize;
 ghost use mathlib.Core.Path.{_≡_};
-ghost use Prim.Native.Nat.{_+_, _%_, _^_};
 ghost use Rattle.statements.specs.Statements.{statementAt};
 
 pub struct Reader<'a> {
@@ -20,23 +18,6 @@ impl<'a> Reader<'a> {
         ensures { λ r. ⌜ (r .table ≡ table .entry) × (r .at ≡ at) ⌝ }
     {
         Reader { table, at }
-    }
-
-    // The number of the statement due.
-    pub fn number(self) -> usize
-        ensures { λ n. ⌜ n ≡ self .entry .at ⌝ }
-    {
-        self.at
-    }
-
-    // The reader of the same table `count` statements further on. No table has so many statements that the number wraps.
-    pub fn skip(self, count: usize) -> Reader<'a>
-        ensures { λ r. ⌜ (r .table ≡ self .entry .table) × (r .at ≡ (self .entry .at + count) % 2 ^ 64) ⌝ }
-    {
-        Reader {
-            table: self.table,
-            at: wrapping_add_usize(self.at, count),
-        }
     }
 
     // The statement due.

@@ -1,9 +1,13 @@
 -- `facts::FactSet::after` meets its contract: the first loop fills one more row a turn; each turn of the second adds one more fact, and each turn of the third, inside
 -- it, lowers one more row.
-use Prim.Native.Nat.{ℕ, _-_}
-use mathlib.Core.Path.{_≡_, ap, ap₂, _∙_}
+use Prim.Native.Nat.{ℕ, _+_, _-_, _*_, _<_}
+use mathlib.Core.Path.{_≡_, refl, ap, ap₂, _∙_}
 use mathlib.Core.Logic.{⊎-elim}
+use borrow.Author.Count.{falls}
 use borrow.Author.Needs.{needs}
+use mir.Syntax.{w64}
+use mir.Val.{Fits}
+use native.Mathlib.Omega.{arith}
 use lib.ListN.{length}
 use Rattle.facts.specs.declared.rows.Row.{Row}
 use Rattle.facts.specs.declared.FactSet.{FactSet}
@@ -43,38 +47,57 @@ remade c =
     (⊎-elim (λ w. anew-nowhere _ _ _ _ _ (w .0 .taken) (w .1 .left) (w .2))
     (λ w. anew-none _ _ _ _ _ (w .0 .left) (w .1))) (c .if1 .came)
 
+-- An index below 17, or below 3, times an element's size, and one more than it.
+row-fits : {i : ℕ} → i < 17 → Fits w64 (i * 136)
+row-fits h = record { fits = omega arith }
+
+sum-fits : {i : ℕ} → i < 17 → Fits w64 (i * 8)
+sum-fits h = record { fits = omega arith }
+
+fact-fits : {n : ℕ} → n < 3 → Fits w64 (n * 24)
+fact-fits h = record { fits = omega arith }
+
+next-fits : {i : ℕ} → i < 17 → Fits w64 (i + 1)
+next-fits h = record { fits = omega arith }
+
+next3-fits : {n : ℕ} → n < 3 → Fits w64 (n + 1)
+next3-fits h = record { fits = omega arith }
+
+a-row : {x : ℕ} → x < 16 → x < 17
+a-row h = omega arith
+
 pub after-spec : {M : Type 1} → statement M
 after-spec =
     tie.close
     (tie.spec
     Inv-loop μ-loop Inv-loop3 μ-loop3 Inv-loop2 μ-loop2
-    (λ c. search needs) (λ c. search needs) (λ c κs. search needs) (λ c κs. search needs) (λ c κs. search needs) (λ c κs. search needs)
-    (λ c. (filled-none _ _ _ (search (length-under, needs)), search needs))
-    (λ c. search needs) (λ c. search needs) (λ c. search needs) (λ c. search needs)
-    (λ c κs. masks _ (search needs) (c .before .before .before .before .mask-row .ensures))
-    (λ c. search needs) (λ c. search needs) (λ c. search needs) (λ c. search needs)
+    (λ c. row-fits (c .if2 .taken)) (λ c. c .if2 .taken) (λ c κs. tt) (λ c κs. c .before .before .if2 .taken) (λ c κs. tt) (λ c κs. a-row (c .before .before .before .before .before .if1 .taken))
+    (λ c. (filled-none _ _ _ (search (length-under, needs)), refl))
+    (λ c. row-fits (c .loop-test .taken)) (λ c. c .loop-test .taken) (λ c. sum-fits (c .before .loop-test .taken)) (λ c. c .before .loop-test .taken)
+    (λ c κs. masks _ (a-row (c .before .before .before .before .before .before .before .before .before .before .if1 .taken)) (c .before .before .before .before .mask-row .ensures))
+    (λ c. row-fits (c .before .before .before .loop-test .taken)) (λ c. c .before .before .before .loop-test .taken) (λ c. next-fits (c .before .before .before .loop-test .taken)) (λ c. falls 17 _ (c .before .before .before .loop-test .taken))
     (λ c. let at = c .before .before .before .before .loop in
     let made = c .before .before .before .before .before in
     let from = made .before .before .before .before .before .before .before .args in (
-      filled-more (at .inv .0) (search needs)
-          (c .rerouted-row .ensures ∙ merged-rerouted (from .change .target) _ _ (search needs) (made .mask-row .ensures)
+      filled-more (at .inv .0) (c .before .before .before .loop-test .taken)
+          (c .rerouted-row .ensures ∙ merged-rerouted (from .change .target) _ _ (a-row (c .before .before .before .before .before .before .before .before .before .before .before .if1 .taken)) (made .mask-row .ensures)
           ∙ ap₂ (λ (row : Row) (to : ℕ). reroutedRow row (from .change .target) to) (filled-next noRow (at .inv .0))
-          (in-column (from .t1) (from .change .base) (from .change .down) (at .i) (search needs) (made .before .before .column-to .ensures) (made .before .raised-row .ensures))),
+          (in-column (from .t1) (from .change .base) (from .change .down) (at .i) (c .before .before .before .loop-test .taken) (made .before .before .column-to .ensures) (made .before .raised-row .ensures))),
       at .inv .1,
     ))
-    (λ c. search needs) (λ c. search needs)
+    (λ c. row-fits (a-row (c .before .before .before .before .before .before .before .before .if1 .taken))) (λ c. a-row (c .before .before .before .before .before .before .before .before .if1 .taken))
     (λ c. told-none (ap (λ (f : FactSet). length (f .rows)) (remade (c .before)) ∙ long-anew _ _ _ _ _ (search (length-under, needs))))
-    (λ c. search needs) (λ c. search needs) (λ c. search needs) (λ c. search needs) (λ c. search needs) (λ c. search needs) (λ c. search needs) (λ c. search needs)
-    (λ c. search needs) (λ c. search needs) (λ c κs. search needs)
-    (λ c. lowering-none (search needs))
-    (λ c. search needs) (λ c. search needs) (λ c. search needs) (λ c. search needs) (λ c κs. search needs)
-    (λ c. search needs) (λ c. search needs) (λ c κs. search needs) (λ c. search needs) (λ c. search needs) (λ c. search needs) (λ c. search needs)
+    (λ c. fact-fits (c .loop2-test .taken)) (λ c. c .loop2-test .taken) (λ c. row-fits (c .before .before .if3 .taken)) (λ c. c .before .before .if3 .taken) (λ c. sum-fits (c .before .before .if4 .taken)) (λ c. c .before .before .if4 .taken) (λ c. row-fits (c .before .before .before .before .if4 .taken)) (λ c. c .before .before .before .before .if4 .taken)
+    (λ c. sum-fits (c .before .before .before .before .before .before .if3 .taken)) (λ c. c .before .before .before .before .before .before .if3 .taken) (λ c κs. tt)
+    (λ c. lowering-none (c .before .before .before .before .before .before .before .before .before .before .before .before .loop2 .inv .long))
+    (λ c. row-fits (c .loop3-test .taken)) (λ c. c .loop3-test .taken) (λ c. sum-fits (c .before .before .before .before .before .before .before .before .before .before .before .before .if3 .taken)) (λ c. c .before .before .before .before .before .before .before .before .before .before .before .before .if3 .taken) (λ c κs. tt)
+    (λ c. sum-fits (c .before .before .before .before .before .before .before .before .before .before .before .before .before .if4 .taken)) (λ c. c .before .before .before .before .before .before .before .before .before .before .before .before .before .if4 .taken) (λ c κs. tt) (λ c. row-fits (c .before .before .before .before .before .before .loop3-test .taken)) (λ c. c .before .before .before .before .before .before .loop3-test .taken) (λ c. next-fits (c .before .before .before .before .before .loop3-test .taken)) (λ c. falls 17 _ (c .before .before .before .before .before .loop3-test .taken))
     (λ c. let at = c .before .before .before .before .before .before .loop3 in
-    ⊎-elim (λ w. lowering-falls (at .inv) (search needs) (c .before .before .concat2 .ensures) (w .0 .taken) (w .1 .ensures) (w .2))
-    (λ w. lowering-stays (at .inv) (search needs) (c .before .before .concat2 .ensures) (w .0 .left) (w .1))
+    ⊎-elim (λ w. lowering-falls (at .inv) (c .before .before .before .before .before .loop3-test .taken) (c .before .before .concat2 .ensures) (w .0 .taken) (w .1 .ensures) (w .2))
+    (λ w. lowering-stays (at .inv) (c .before .before .before .before .before .loop3-test .taken) (c .before .before .concat2 .ensures) (w .0 .left) (w .1))
     (c .if8 .came))
-    (λ c. search needs) (λ c. search needs)
-    (λ c. told-more (c .before .before .before .loop2 .inv) (search needs)
+    (λ c. next3-fits (c .before .before .loop2-test .taken)) (λ c. falls 3 _ (c .before .before .loop2-test .taken))
+    (λ c. told-more (c .before .before .before .loop2 .inv) (c .before .before .loop2-test .taken)
     (⊎-elim (λ w. way-closed _ _ _ _ (w .0 .taken) (w .1 .taken) (w .2 .taken) (w .5 .taken) (w .8 .ensures) (w .9 .taken) (w .10))
     (⊎-elim (λ w. way-lowered _ _ _ _ (w .0 .taken) (w .1 .taken) (w .2 .taken) (w .5 .taken) (w .8 .ensures) (w .9 .left) (w .12 ∙ lowering-done (w .10 .inv) (w .11 .left)))
     (⊎-elim (λ w. way-known _ _ _ _ (w .0 .taken) (w .1 .taken) (w .5 .left) (w .6))
