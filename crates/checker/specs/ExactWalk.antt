@@ -31,7 +31,7 @@ use Rattle.rules.specs.FactRules.{conditionFacts, factsAfter, loopFacts}
 use Rattle.rules.specs.BoundsRules.{sameEnd, endAtMost}
 use Rattle.rules.specs.Rules.{bundleFacts, bundleFaults, sidesJoined, blockFacts, blockFaults}
 use Rattle.rules.specs.Verdict.{environmentOf}
-use Rattle.checker.specs.BundleLaws.{no-fault}
+use Rattle.bundles.specs.BundleLaws.{no-fault}
 use Rattle.rules.specs.RuleLaws.{no-first, no-rest}
 use Rattle.rules.specs.Exactness.{Traced, traced-exact, traced-new, traced-join, variables, traced-condition, traced-negated, traced-after, traced-body}
 use Rattle.rules.specs.declared.Bounds.{Bounds}

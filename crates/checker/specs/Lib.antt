@@ -1,5 +1,4 @@
 pub mod Walk
-pub mod BundleLaws
 pub mod WalkLaws
 pub mod VerdictLaws
 pub mod ExactWalk

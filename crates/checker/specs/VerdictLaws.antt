@@ -33,7 +33,7 @@ use Rattle.checker.specs.Walk.{Walks}
 use Rattle.rules.specs.declared.Environment.{Environment}
 use Rattle.rules.specs.declared.Verdict.{Verdict}
 use Rattle.rules.specs.declared.Verdict.the-variants.{Refused}
-use Rattle.checker.specs.declared.walk.Walked.{Walked}
+use Rattle.bundles.specs.declared.Walked.{Walked}
 
 -- The lengths that a well-formed table declares are in range.
 module _ (T : List ℤ) (h : Sections) (w : Formed T h) where

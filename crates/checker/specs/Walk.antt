@@ -1,29 +1,13 @@
--- The answer of a walk, in terms of the rules.
-use Prim.Native.Nat.{ℕ, _+_}
-use mathlib.Core.Path.{_≡_}
-use mathlib.Core.List.{List, []}
+-- The answer of a walk over a block, in terms of the rules.
+use mathlib.Core.List.{List}
 use lib.IntN.{ℤ}
 use Rattle.facts.specs.declared.FactSet.{FactSet}
 use Rattle.sections.specs.declared.Sections.{Sections}
-use Rattle.statements.specs.declared.Simple.{Simple}
 use Rattle.blocks.specs.Tree.{Block}
-use Rattle.rules.specs.BoundsRules.{unshown}
-use Rattle.rules.specs.Rules.{Fault, also, boundsAt, bundleFacts, bundleBounds, bundleFaults, blockFacts, blockFaults}
-use Rattle.rules.specs.Verdict.{lowestVerdict}
-use Rattle.rules.specs.declared.Bounds.{Bounds}
+use Rattle.rules.specs.Rules.{blockFacts, blockFaults}
 use Rattle.rules.specs.declared.Environment.{Environment}
-use Rattle.checker.specs.declared.walk.Walked.{Walked}
-
--- ---- the answer of a walk
-
--- The verdict is that of the faults; where there is none, the facts are these.
-pub record Passes (faults : List Fault) (facts : FactSet) (r : Walked) : Type 0 where
-  pub said : r .verdict ≡ lowestVerdict faults
-  pub kept : faults ≡ [] → r .facts ≡ facts
-
-abbrev pub WalksBundle : Environment → ℕ → List Simple → FactSet → List Bounds → Walked → Type 0
-WalksBundle E head ss f K r =
-    Passes (also (bundleFaults E (head + 1) ss f K) (boundsAt head (unshown E (bundleFacts ss f) (bundleBounds E ss f K)))) (bundleFacts ss f) r
+use Rattle.bundles.specs.Bundles.{Passes}
+use Rattle.bundles.specs.declared.Walked.{Walked}
 
 abbrev pub Walks : List ℤ → Sections → Environment → Block → FactSet → Walked → Type 0
 Walks T h E b f r = Passes (blockFaults T h E b f) (blockFacts T h E b f) r

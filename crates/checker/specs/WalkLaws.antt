@@ -30,14 +30,15 @@ use Rattle.rules.specs.Ranges.{InRange}
 use Rattle.effects.specs.Applied.{Applied, applied}
 use Rattle.bounds.specs.Stays.{namedIn, touches}
 use Rattle.declared.specs.UntouchedLaws.{unnamed}
-use Rattle.checker.specs.Walk.{WalksBundle, Walks}
+use Rattle.bundles.specs.Bundles.{WalksBundle}
+use Rattle.checker.specs.Walk.{Walks}
 use Rattle.effects.specs.FactRulesLaws.{read-ranged}
 use Rattle.rules.specs.declared.Environment.{Environment}
 use Rattle.rules.specs.declared.Effect.{Effect}
 use Rattle.rules.specs.declared.Verdict.{Verdict}
 use Rattle.rules.specs.declared.Verdict.the-variants.{Accepted, Refused}
-use Rattle.checker.specs.declared.walk.Walked.{Walked}
-use Rattle.checker.specs.BundleLaws.{pass, skip, stops, fault-verdict, ends, carry, also-assoc, none-refused, applied-facts, applied-effect, lineFaults}
+use Rattle.bundles.specs.declared.Walked.{Walked}
+use Rattle.bundles.specs.BundleLaws.{pass, skip, stops, fault-verdict, ends, carry, also-assoc, none-refused, applied-facts, applied-effect, lineFaults}
 
 -- A walk of the one block is a walk of the other.
 pub record Same (T : List ℤ) (h : Sections) (E : Environment) (b : Block) (f : FactSet) (c : Block) (g : FactSet) : Type 0 where

@@ -1,12 +1,10 @@
 // The walk over the statements.
-use bounds::KnownBounds;
 use bounds::Named;
-use bounds::bounds_after;
 use bounds::touches;
+use bundles::Walked;
+use bundles::walk_bundle;
 use conditions::negated;
-use declared::access_shown;
 use declared::check_effect;
-use declared::check_known;
 use effects::asked_sum;
 use effects::assume;
 use effects::lose;
@@ -21,79 +19,10 @@ use shown::in_range;
 use statements::Statement;
 use statements::StatementRead;
 ghost use mathlib.Core.Path.{_≡_};
-ghost use Prim.Native.Nat.{_+_, _^_, _<_};
-ghost use Rattle.blocks.specs.Tree.{simples, parse};
-ghost use Rattle.rules.specs.BoundsRules.{unshown};
-ghost use Rattle.rules.specs.Rules.{boundsAt};
+ghost use Rattle.blocks.specs.Tree.{parse};
 ghost use Rattle.rules.specs.Ranges.{Measured};
 ghost use Rattle.bounds.specs.Stays.{namedIn};
-ghost use Rattle.checker.specs.Walk.{Walks, Passes, WalksBundle};
-
-// The verdict on a block, and the facts after it where nothing is refused.
-pub(crate) struct Walked {
-    pub verdict: Verdict,
-    pub facts: FactSet,
-}
-
-// The end of a bundle with its head at `head`: all declared bounds must be shown.
-fn end_bundle(environment: Environment, head: usize, facts: FactSet, known: KnownBounds) -> Walked
-    ensures { λ r. ⌜ Passes (boundsAt head (unshown environment facts (known .each))) facts r ⌝ }
-{
-    Walked {
-        verdict: check_known(environment, facts, known, head),
-        facts,
-    }
-}
-
-// The bundle of the `count` statements after its head; its statements are cut short at the first that is of another kind, which the layout refuses.
-fn walk_bundle(
-    table: &[i32],
-    sections: Sections,
-    environment: Environment,
-    head: usize,
-    count: usize,
-    given: FactSet,
-) -> Walked
-    requires { ⌜ Measured environment × (head < 2 ^ 40) ⌝ }
-    ensures { λ r. ⌜ WalksBundle environment head (simples count (now (table .entry)) sections (head + 1)) given (environment .declared) r ⌝ }
-{
-    let lengths = environment.lengths;
-    let declared = environment.declared;
-    let mut known = KnownBounds { each: declared };
-    let mut facts = given;
-    let mut at = head + 1;
-    let mut left = count;
-    while left > 0 {
-        let got = read_due(table, sections, at);
-        let StatementRead::Read(statement) = got else {
-            break;
-        };
-        let Statement::Plain(simple) = statement else {
-            break;
-        };
-        if facts.contradicts() {
-            return Walked {
-                verdict: Verdict::Refused(Refusal::Contradiction(at)),
-                facts,
-            };
-        }
-        if !access_shown(environment, facts, known, simple) {
-            return Walked {
-                verdict: Verdict::Refused(Refusal::BundleAccess(at)),
-                facts,
-            };
-        }
-        let sum = asked_sum(simple);
-        let fits = in_range(facts, sum.source, sum.constant);
-        let plan = plan_statement(lengths, simple, fits);
-        let effect = plan.effect;
-        known = bounds_after(effect, known);
-        facts = facts.after(plan.change);
-        at += 1;
-        left -= 1;
-    }
-    end_bundle(environment, head, facts, known)
-}
+ghost use Rattle.checker.specs.Walk.{Walks};
 
 // The block of `first` to `end` - 1 from the facts `given`. `allowed` is at least the number of its statements; it falls at each. The fact set is changed in
 // place by its own methods alone: a function in between would copy it in and out.

@@ -8,7 +8,7 @@ use borrow.Fn.Kinds.{In}
 use borrow.Fn.PlainCycle.{Measures, is, falls, and}
 use Rattle.blocks.specs.Tree.{parse}
 use Rattle.effects.specs.FactRulesLaws.{carried-out}
-use Rattle.checker.specs.BundleLaws.{applied-short}
+use Rattle.bundles.specs.BundleLaws.{applied-short}
 use Rattle.checker.specs.WalkLaws.{Kept, Turn, arm, placed, falls as left-falls, negated-offset, if-counts, while-count, bundle-count, if-offset, while-offset, plain-ranged, kept-none, kept-done, kept-end, kept-unread, turn-contrary, plain-refused, turn-plain, turn-untouched, then-refused, else-refused, turn-if, body-refused, turn-while, bundle-refused, turn-bundle}
 use Rattle.checker.proofs.walk.walk.Reads as walk
 use Rattle.checker.proofs.walk.walk.Kinds as walk-kinds
@@ -21,7 +21,7 @@ use Rattle.bounds.proofs.touches.Reads as touches-reads
 use Rattle.effects.proofs.assume.Reads as assume-reads
 use Rattle.declared.proofs.check_effect.Reads as check-effect-reads
 use Rattle.effects.proofs.lose.Reads as lose-reads
-use Rattle.checker.proofs.walk.walk_bundle.Reads as walk-bundle-reads
+use Rattle.bundles.proofs.walk_bundle.Reads as walk-bundle-reads
 use Rattle.facts.proofs.FactSet.contradicts.Reads as contradicts-reads
 use Rattle.facts.proofs.FactSet.join.Reads as join-reads
 use Rattle.conditions.proofs.negated.Reads as negated-reads

@@ -7,10 +7,10 @@ use native.Mathlib.Omega.{arith}
 use Rattle.statements.specs.declared.StatementRead.the-variants.{Read}
 use Rattle.statements.specs.StatementLaws.{read-within, read-limits}
 use Rattle.effects.specs.FactRulesLaws.{carried-out, read-ranged}
-use Rattle.checker.specs.BundleLaws.{Held, held-none, held-done, held-unread, held-other, held-contrary, held-access, held-more, applied-facts, applied-effect, applied-short}
+use Rattle.bundles.specs.BundleLaws.{Held, held-none, held-done, held-unread, held-other, held-contrary, held-access, held-more, applied-facts, applied-effect, applied-short}
 use Rattle.blocks.proofs.Variants.{not-plain}
-use Rattle.checker.proofs.walk.walk_bundle.Statement.{statement}
-use Rattle.checker.proofs.walk.walk_bundle.Tie as tie
+use Rattle.bundles.proofs.walk_bundle.Statement.{statement}
+use Rattle.bundles.proofs.walk_bundle.Tie as tie
 
 abbrev Inv-loop : tie.InvT-loop
 Inv-loop table sections environment head count lengths known₀ facts₀ at₀ left₀ known facts at left = Held table sections environment head count facts₀ (environment .declared) at left facts (known .each)

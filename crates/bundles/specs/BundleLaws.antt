@@ -23,7 +23,7 @@ use Rattle.rules.specs.Rules.{Fault, refusal, notShown, also, faultIf, accessAt
 use Rattle.rules.specs.Verdict.{lowestVerdict}
 use Rattle.rules.specs.Ranges.{InRange, Measured, Short}
 use Rattle.effects.specs.Applied.{Applied, applied}
-use Rattle.checker.specs.Walk.{Passes, WalksBundle}
+use Rattle.bundles.specs.Bundles.{Passes, WalksBundle}
 use Rattle.effects.specs.FactRulesLaws.{effect-lengths}
 use Rattle.bounds.specs.BoundsRulesLaws.{effect-short}
 use Rattle.rules.specs.declared.Bounds.{Bounds}
@@ -31,7 +31,7 @@ use Rattle.rules.specs.declared.Environment.{Environment}
 use Rattle.rules.specs.declared.Effect.{Effect}
 use Rattle.rules.specs.declared.Verdict.{Verdict}
 use Rattle.rules.specs.declared.Verdict.the-variants.{Accepted, Refused}
-use Rattle.checker.specs.declared.walk.Walked.{Walked}
+use Rattle.bundles.specs.declared.Walked.{Walked}
 
 -- ---- faults in order
 

@@ -1,0 +1,21 @@
+-- The answer of a walk over a bundle, in terms of the rules.
+use Prim.Native.Nat.{ℕ, _+_}
+use mathlib.Core.Path.{_≡_}
+use mathlib.Core.List.{List, []}
+use Rattle.facts.specs.declared.FactSet.{FactSet}
+use Rattle.statements.specs.declared.Simple.{Simple}
+use Rattle.rules.specs.BoundsRules.{unshown}
+use Rattle.rules.specs.Rules.{Fault, also, boundsAt, bundleFacts, bundleBounds, bundleFaults}
+use Rattle.rules.specs.Verdict.{lowestVerdict}
+use Rattle.rules.specs.declared.Bounds.{Bounds}
+use Rattle.rules.specs.declared.Environment.{Environment}
+use Rattle.bundles.specs.declared.Walked.{Walked}
+
+-- The verdict is that of the faults; where there is none, the facts are these.
+pub record Passes (faults : List Fault) (facts : FactSet) (r : Walked) : Type 0 where
+  pub said : r .verdict ≡ lowestVerdict faults
+  pub kept : faults ≡ [] → r .facts ≡ facts
+
+abbrev pub WalksBundle : Environment → ℕ → List Simple → FactSet → List Bounds → Walked → Type 0
+WalksBundle E head ss f K r =
+    Passes (also (bundleFaults E (head + 1) ss f K) (boundsAt head (unshown E (bundleFacts ss f) (bundleBounds E ss f K)))) (bundleFacts ss f) r
