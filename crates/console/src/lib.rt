@@ -1,6 +1,6 @@
 // Text on standard output. What the system then writes no contract can say.
-use files::Text;
 use libc::STDOUT_FILENO;
+use text::Text;
 ghost use mathlib.Core.Path.{_≡_};
 ghost use Prim.Native.Nat.{min};
 

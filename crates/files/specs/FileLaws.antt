@@ -1,6 +1,6 @@
 -- The parts of a line put together, and the verdict on a file.
-use Prim.Native.Nat.{ℕ, _+_, _*_, _/_, _%_, _≤_, _<_, min}
-use mathlib.Core.Path.{_≡_, refl, ap, subst, _∙_}
+use Prim.Native.Nat.{ℕ, _*_, _/_, _%_, _≤_, _<_}
+use mathlib.Core.Path.{_≡_, refl, ap, _∙_}
 use native.Mathlib.Omega.{arith}
 use mathlib.Core.Bool.{Bool, true, false, _&&_}
 use mathlib.Core.List.{List, [], _∷_, _++_, append-assoc}
@@ -8,7 +8,7 @@ use borrow.Author.Tests.{eq-eqb, ne-eqb, lt-leb}
 use lib.Dec.{leb}
 use lib.IntN.{ℤ}
 use lib.ListN.{length, take}
-use Rattle.facts.specs.Tabulate.{tabulate, length-tabulate, Filled}
+use Rattle.facts.specs.Tabulate.{tabulate, length-tabulate}
 use Rattle.refusals.specs.Refusals.{number, place, pointer}
 use Rattle.refusals.specs.declared.Refusal.{Refusal}
 use Rattle.refusals.specs.declared.Refusal.the-variants.{Length}
@@ -17,10 +17,10 @@ use Rattle.rules.specs.Rules.{refusal}
 use Rattle.rules.specs.Verdict.{faults, Answers}
 use Rattle.rules.specs.declared.Verdict.{Verdict}
 use Rattle.rules.specs.declared.Verdict.the-variants.{Refused}
-use Rattle.files.specs.Text.{bytesOf, textOf, decimal, Grown}
-use Rattle.files.specs.Words.{wordAt}
-use Rattle.files.specs.Files.{space, lineFeed, refusedWord, spaced, refusedLine, wordsOf, WordsRead, fileFaults}
-use Rattle.files.specs.declared.text.Text.{Text}
+use Rattle.text.specs.Text.{bytesOf, textOf, decimal, Grown}
+use Rattle.encoding.specs.Words.{wordAt, WordsRead}
+use Rattle.files.specs.Files.{space, lineFeed, refusedWord, spaced, refusedLine, wordsOf, fileFaults}
+use Rattle.text.specs.declared.Text.{Text}
 
 -- "refused ", the number, a space, the place.
 abbrev pub started : ℕ → ℕ → List ℕ
@@ -36,13 +36,6 @@ unfolding refusedLine spaced refusedWord bytesOf
 line-of-other r {n} {p} en ep e g = g .text ∙ rw (← en, ← ep, ne-eqb n 8 e) (simp append-assoc)
 
 -- ---- the verdict on a file
-
--- The loop over the words has ended.
-pub words-read : {bytes : List ℕ} {old table : List ℤ} {count i : ℕ} → Filled table old (length old) (λ j. wordAt bytes (4 * j)) i → i ≤ count → count ≤ i
-    → count ≡ min (length bytes / 4) (length old) → WordsRead bytes old count table
-words-read {bytes} {old} {table} {count} {i} p h g e =
-    let q : i ≡ count = omega arith in
-    record { many = e; filled = subst (λ (n : ℕ). Filled table old (length old) (λ j. wordAt bytes (4 * j)) n) q p }
 
 and-false : (a : Bool) → (a && false) ≡ false
 and-false true = refl

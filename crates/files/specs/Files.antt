@@ -1,12 +1,11 @@
 -- "The verdict program reads a file on standard input": the verdict on a file's bytes, and the line that is printed.
-use Prim.Native.Nat.{ℕ, _+_, _*_, _/_, _%_, min}
-use mathlib.Core.Path.{_≡_}
+use Prim.Native.Nat.{ℕ, _*_, _/_, _%_}
 use mathlib.Core.Bool.{Bool, true, false}
 use mathlib.Core.List.{List, [], _∷_, _++_}
 use lib.Dec.{eqb}
 use lib.IntN.{ℤ}
 use lib.ListN.{length}
-use Rattle.facts.specs.Tabulate.{tabulate, Filled}
+use Rattle.facts.specs.Tabulate.{tabulate}
 use Rattle.refusals.specs.Refusals.{number, place, pointer}
 use Rattle.refusals.specs.declared.Refusal.{Refusal}
 use Rattle.refusals.specs.declared.Refusal.the-variants.{Length}
@@ -14,8 +13,8 @@ use Rattle.rules.specs.Rules.{Fault, refusal}
 use Rattle.rules.specs.Verdict.{faults}
 use Rattle.rules.specs.declared.Verdict.{Verdict}
 use Rattle.rules.specs.declared.Verdict.the-variants.{Accepted, Refused}
-use Rattle.files.specs.Words.{wordAt}
-use Rattle.files.specs.Text.{bytesOf, pickText, decimal}
+use Rattle.encoding.specs.Words.{wordAt}
+use Rattle.text.specs.Text.{bytesOf, pickText, decimal}
 
 abbrev pub pickFaults : Bool → List Fault → List Fault → List Fault
 pickFaults true a b = a
@@ -24,11 +23,6 @@ pickFaults false a b = b
 -- The words of a file.
 unfoldable pub wordsOf : List ℕ → List ℤ
 wordsOf bytes = tabulate (length bytes / 4) (λ i. wordAt bytes (4 * i))
-
--- Of a file's words as many as there is room for are at the front of `table`; behind them it is `old` still.
-pub record WordsRead (bytes : List ℕ) (old : List ℤ) (count : ℕ) (table : List ℤ) : Type 0 where
-  pub many : count ≡ min (length bytes / 4) (length old)
-  pub filled : Filled table old (length old) (λ i. wordAt bytes (4 * i)) count
 
 -- "file: length not a multiple of 4" is cause 1, place 0; else the faults of the table that the words are.
 unfoldable pub fileFaults : List ℕ → List Fault

@@ -27,7 +27,7 @@ fn read_routine(name: &[u8], table: &mut [i32]) -> usize
     let size = io::read_full(file, &mut bytes);
     libc::close(file);
     console::write_text(files::verdict_line(files::check_file(&bytes[..size])));
-    files::read_words(&bytes[..size], table)
+    encoding::read_words(&bytes[..size], table)
 }
 
 // Runs the routine for one late boat; the values are row pointer, count of rows and boat.

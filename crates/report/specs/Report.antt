@@ -8,7 +8,7 @@ use Rattle.stops.specs.Checks.{checkNumber, checkStatement}
 use Rattle.stops.specs.declared.Check.{Check}
 use Rattle.interpreter.specs.declared.Outcome.{Outcome}
 use Rattle.interpreter.specs.declared.Outcome.the-variants.{Done, Spent, Stopped, Refused}
-use Rattle.files.specs.Text.{bytesOf, decimal, pickText}
+use Rattle.text.specs.Text.{bytesOf, decimal, pickText}
 
 abbrev pub numeral : ℕ → List ℕ
 numeral n = decimal 20 n

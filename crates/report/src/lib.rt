@@ -1,14 +1,14 @@
 // What a rehearsal tells a scorer, as lines of text.
-use files::Text;
 use interpreter::Outcome;
 use refusals::Refusal;
 use stops::Check;
 use stops::check_number;
 use stops::check_statement;
+use text::Text;
 ghost use mathlib.Core.List.{_++_};
 ghost use Prim.Native.Nat.{_+_, _≤_};
 ghost use lib.ListN.{length};
-ghost use Rattle.files.specs.Text.{textOf, decimal, Grown, Line};
+ghost use Rattle.text.specs.Text.{textOf, decimal, Grown, Line};
 ghost use Rattle.report.specs.Report.{refusedText, stoppedText, entryText, entryLine, leftLine, rowLine, firstRowLine};
 
 // A phrase and a number behind it.

@@ -1,8 +1,8 @@
 -- `files::refused_line` meets its contract: each call adds its part to the line.
 use native.Mathlib.Omega.{arith}
 use borrow.Author.Needs.{needs}
-use Rattle.files.specs.Text.{bytesOf}
-use Rattle.files.specs.TextLaws.{grown-both, within}
+use Rattle.text.specs.Text.{bytesOf}
+use Rattle.text.specs.TextLaws.{grown-both, within}
 use Rattle.files.specs.Files.{refusedWord}
 use Rattle.files.specs.FileLaws.{line-of-eight, line-of-other}
 use Rattle.files.proofs.refused_line.Statement.{statement}

@@ -2,8 +2,8 @@
 use mathlib.Core.Path.{sym, ap, _∙_}
 use native.Mathlib.Omega.{arith}
 use borrow.Author.Needs.{needs}
-use Rattle.files.specs.Text.{bytesOf}
-use Rattle.files.specs.TextLaws.{grown-both}
+use Rattle.text.specs.Text.{bytesOf}
+use Rattle.text.specs.TextLaws.{grown-both}
 use Rattle.files.specs.Files.{acceptedWord, lineOf}
 use Rattle.files.proofs.verdict_line.Statement.{statement}
 use Rattle.files.proofs.verdict_line.Tie as tie

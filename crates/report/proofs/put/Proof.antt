@@ -1,7 +1,7 @@
 -- `report::put` meets its contract.
 use native.Mathlib.Omega.{arith}
 use borrow.Author.Needs.{needs}
-use Rattle.files.specs.TextLaws.{grown-both, within}
+use Rattle.text.specs.TextLaws.{grown-both, within}
 use Rattle.report.proofs.put.Statement.{statement}
 use Rattle.report.proofs.put.Tie as tie
 

@@ -1,7 +1,7 @@
 -- `report::put_check` meets its contract.
 use borrow.Author.Needs.{needs}
-use Rattle.files.specs.Text.{bytesOf}
-use Rattle.files.specs.TextLaws.{grown-both}
+use Rattle.text.specs.Text.{bytesOf}
+use Rattle.text.specs.TextLaws.{grown-both}
 use Rattle.report.specs.ReportLaws.{stopped-at}
 use Rattle.report.proofs.put_check.Statement.{statement}
 use Rattle.report.proofs.put_check.Tie as tie

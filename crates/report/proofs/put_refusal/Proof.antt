@@ -1,7 +1,7 @@
 -- `report::put_refusal` meets its contract.
 use borrow.Author.Needs.{needs}
-use Rattle.files.specs.Text.{bytesOf}
-use Rattle.files.specs.TextLaws.{grown-both}
+use Rattle.text.specs.Text.{bytesOf}
+use Rattle.text.specs.TextLaws.{grown-both}
 use Rattle.report.specs.ReportLaws.{refused-eight, refused-other}
 use Rattle.report.proofs.put_refusal.Statement.{statement}
 use Rattle.report.proofs.put_refusal.Tie as tie

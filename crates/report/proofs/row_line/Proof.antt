@@ -1,7 +1,7 @@
 -- `report::row_line` meets its contract.
 use borrow.Author.Needs.{needs}
-use Rattle.files.specs.Text.{bytesOf}
-use Rattle.files.specs.TextLaws.{grown-both}
+use Rattle.text.specs.Text.{bytesOf}
+use Rattle.text.specs.TextLaws.{grown-both}
 use Rattle.report.specs.ReportLaws.{free-row, taken-row}
 use Rattle.report.proofs.row_line.Statement.{statement}
 use Rattle.report.proofs.row_line.Tie as tie
