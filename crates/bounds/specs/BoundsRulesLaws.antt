@@ -4,51 +4,31 @@ use mathlib.Core.Path.{_≡_, refl, sym, ap, _∙_}
 use mathlib.Core.Bool.{Bool, true, false, not, _&&_, false≢true}
 use mathlib.Core.List.{List}
 use native.Mathlib.Omega.{arith}
-use borrow.Author.Tests.{ne-eqb, not-true}
+use borrow.Author.Tests.{not-true}
 use lib.Dec.{eqb}
-use lib.ListN.{length, getD, set}
+use lib.ListN.{length, set}
 use lib.Seq.{ext-getD}
 use Rattle.facts.specs.Store.{inRange}
-use Rattle.facts.specs.Tabulate.{any-default, tabulate, length-tabulate, getD-tabulate, Filled, filled-more, filled-next, filled-kept}
+use Rattle.facts.specs.Tabulate.{tabulate, length-tabulate, getD-tabulate, Filled, filled-more, filled-next, filled-kept}
 use Rattle.facts.specs.declared.FactSet.{FactSet}
 use Rattle.sections.specs.SectionsLaws.{both}
 use Rattle.statements.specs.declared.Simple.{Simple}
 use Rattle.statements.specs.declared.Simple.the-variants.{Literal, AddConstant, Arithmetic, Null, Address, PointerOffset, PointerIndex, Load, Store, Check}
 use Rattle.rules.specs.BoundsRules.{nothingKnown, pickEnd, pickBounds, pickEffect, known, names, forgetEnd, shiftConstant, shiftEnd, forgetBounds, shiftBounds, objectBounds, effectOn, boundsAfter, effect}
-use Rattle.rules.specs.BoundsTrue.{known-after}
 use Rattle.rules.specs.Ranges.{InRange, Measured, Short}
-use Rattle.bounds.specs.Stays.{sourceOf, effectOnOne, keepsAll, endStays, boundsStay, stays, changedBy, replacedBy, leftAlone}
 use Rattle.rules.specs.declared.KnownEnd.{KnownEnd}
 use Rattle.rules.specs.declared.KnownEnd.the-variants.{Known, Unknown}
 use Rattle.rules.specs.declared.Bounds.{Bounds}
 use Rattle.rules.specs.declared.Environment.{Environment}
 use Rattle.rules.specs.declared.Effect.{Effect}
 use Rattle.rules.specs.declared.Effect.the-variants.{Keep, Forget, Shift, Copy, Object}
+use Rattle.stays.specs.Stays.{endStays, boundsStay, stays}
+use Rattle.stays.specs.StaysLaws.{stored, stored-known}
+use Rattle.transfer.specs.Transfer.{sourceOf, effectOnOne}
+use Rattle.transfer.specs.TransferLaws.{effect-on-one, effect-on-read, source-within}
+use Rattle.bounds.specs.Kept.{keepsAll}
 
 -- ---- effects
-
-effect-on-one : (e : Effect) (K : List Bounds) (p : ℕ) → effectOn e K p ≡ effectOnOne e p (known K p) (known K (sourceOf e))
-unfolding effectOn
-effect-on-one Keep K p = refl
-effect-on-one (Forget v) K p = refl
-effect-on-one (Shift v k) K p = refl
-effect-on-one (Copy v q) K p = refl
-effect-on-one (Object v n) K p = refl
-
--- What the code reads at an index of an array of bounds; past the array's end, which it never reads, this stands.
-abbrev blank : Bounds
-blank = record { lower = Known (record { pointer = 0; integer = 0; constant = 0 }); upper = Known (record { pointer = 0; integer = 0; constant = 0 }) }
-
-abbrev pub stored : List Bounds → ℕ → Bounds
-stored K p = getD K p blank
-
-pub stored-known : (K : List Bounds) (p : ℕ) → p < length K → stored K p ≡ known K p
-stored-known K p h = any-default K p _ _ h
-
-effect-on-read : (e : Effect) (K : List Bounds) (p : ℕ) {r : Bounds} (q : ℕ) → p < length K → q < length K → q ≡ sourceOf e
-    → r ≡ effectOnOne e p (stored K p) (stored K q) → r ≡ effectOn e K p
-effect-on-read e K p q h i z t =
-    t ∙ (ap (λ (b : Bounds). effectOnOne e p b (stored K q)) (stored-known K p h) ∙ (ap (effectOnOne e p (known K p)) (stored-known K q i ∙ ap (known K) z) ∙ sym (effect-on-one e K p)))
 
 -- An effect that keeps all bounds makes the same list again.
 pub all-kept : (e : Effect) (K : List Bounds) {b : Bool} → length K ≡ 16 → b ≡ keepsAll e → b ≡ true → K ≡ boundsAfter e K
@@ -59,22 +39,6 @@ all-kept (Forget v) K l s t = absurd (false≢true (sym s ∙ t))
 all-kept (Shift v k) K l s t = absurd (false≢true (sym s ∙ t))
 all-kept (Copy v q) K l s t = absurd (false≢true (sym s ∙ t))
 all-kept (Object v n) K l s t = absurd (false≢true (sym s ∙ t))
-
--- The source of an effect is a variable.
-pub source-below : (e : Effect) → Short e → sourceOf e < 16
-source-below Keep s = omega arith
-source-below (Forget v) s = omega arith
-source-below (Shift v k) s = omega arith
-source-below (Copy v q) s = s
-source-below (Object v n) s = omega arith
-
-source-within : (K : List Bounds) (e : Effect) {q : ℕ} → q ≡ sourceOf e → Short e → length K ≡ 16 → q < length K
-source-within K e z s l = omega (arith, source-below e s)
-
--- What the code makes of one pointer's bounds is what is known of it after the effect.
-pub effect-known : (e : Effect) (K : List Bounds) {p : ℕ} {r : Bounds} (q : ℕ) → p < 16 → length K ≡ 16 → Short e → q ≡ sourceOf e
-    → r ≡ effectOnOne e p (stored K p) (stored K q) → r ≡ known (boundsAfter e K) p
-effect-known e K {p} q h l s z t = effect-on-read e K p q (omega arith) (source-within K e z s l) z t ∙ sym (known-after e K p h)
 
 short-picked : (b : Bool) (e g : Effect) → Short e → Short g → Short (pickEffect b e g)
 short-picked true e g p q = p
@@ -142,18 +106,6 @@ stays-same (Object v n) p own source h =
 
 pub stays-known : (e : Effect) (K : List Bounds) (p : ℕ) → stays e p (known K p) ≡ true → effectOn e K p ≡ known K p
 stays-known e K p h = effect-on-one e K p ∙ stays-same e p (known K p) (known K (sourceOf e)) h
-
--- The two numbers of an effect say which bounds it leaves as they are: no pointer has the number 17.
-pub left-alone : (e : Effect) (p : ℕ) (b : Bounds) → p < 16 → leftAlone (changedBy e) (replacedBy e) p b ≡ stays e p b
-unfolding leftAlone stays
-left-alone Keep p b h = ap (λ (t : Bool). not t && boundsStay 17 b) (ne-eqb p 17 (λ e. omega arith))
-left-alone (Forget v) p b h = ap (λ (t : Bool). not t && boundsStay v b) (ne-eqb p 17 (λ e. omega arith))
-left-alone (Shift v k) p b h = ap (λ (t : Bool). not t && boundsStay v b) (ne-eqb p 17 (λ e. omega arith))
-left-alone (Copy v q) p b h = refl
-left-alone (Object v n) p b h = refl
-
-pub stays-read : (e : Effect) (p : ℕ) (b : Bounds) {c r : ℕ} {st : Bool} → p < 16 → c ≡ changedBy e → r ≡ replacedBy e → st ≡ leftAlone c r p b → st ≡ stays e p b
-stays-read e p b h x y s = rw (x, y) at s ∙ left-alone e p b h
 
 -- ---- known bounds after an effect, one pointer after the other
 

@@ -1,3 +1,2 @@
+pub mod Kept
 pub mod BoundsRulesLaws
-pub mod Stays
-pub mod TouchedLaws

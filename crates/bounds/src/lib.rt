@@ -1,21 +1,60 @@
-// The bounds in force: what an effect makes of known bounds, and whether it touches declared ones.
-mod known; // known.rt: known bounds after an effect
-mod stays; // stays.rt: which bounds an effect leaves as they are
-mod touched; // touched.rt: whether an effect touches declared bounds
-
-pub use known::bounds_after;
-pub use known::effect_on;
-pub use known::source_of;
+// What an effect makes of the known bounds of all pointers.
 use rules::Bounds;
-pub use touched::named_in;
-pub use touched::touches;
+use rules::Effect;
+use stays::changed_by;
+use stays::left_alone;
+use stays::replaced_by;
+use transfer::effect_on;
+use transfer::source_of;
+ghost use mathlib.Core.Path.{_≡_};
+ghost use Rattle.rules.specs.BoundsRules.{boundsAfter};
+ghost use Rattle.rules.specs.Ranges.{Short};
+ghost use Rattle.bounds.specs.Kept.{keepsAll};
 
 // The known bounds of each pointer, inside a bundle.
 pub struct KnownBounds {
     pub each: [Bounds; 16],
 }
 
-// For each variable, whether some pointer's declared bounds name it; for 17, whether some are not known. Made once, since an environment is large to pass.
-pub struct Named {
-    pub each: [bool; 18],
+// The effect leaves all known bounds as they are.
+fn keeps_all(effect: Effect) -> bool
+    ensures { λ r. ⌜ r ≡ keepsAll effect ⌝ }
+{
+    match effect {
+        Effect::Keep => true,
+        Effect::Forget { target: _ } => false,
+        Effect::Shift {
+            target: _,
+            constant: _,
+        } => false,
+        Effect::Copy {
+            target: _,
+            source: _,
+        } => false,
+        Effect::Object {
+            target: _,
+            length: _,
+        } => false,
+    }
+}
+
+pub fn bounds_after(effect: Effect, known: KnownBounds) -> KnownBounds
+    requires { ⌜ Short effect ⌝ }
+    ensures { λ r. ⌜ r .each ≡ boundsAfter effect (known .each) ⌝ }
+{
+    if keeps_all(effect) {
+        return known;
+    }
+    let from = source_of(effect);
+    let source = known.each[from];
+    let changed = changed_by(effect);
+    let replaced = replaced_by(effect);
+    let mut next = known;
+    for p in 0..16 {
+        let own = known.each[p];
+        if !left_alone(changed, replaced, p, own) {
+            next.each[p] = effect_on(effect, p, own, source);
+        }
+    }
+    next
 }

@@ -28,7 +28,7 @@ use Rattle.rules.specs.Rules.{Fault, also, faultIf, boundsAt, bundleFacts, bund
 use Rattle.rules.specs.Verdict.{lowestVerdict}
 use Rattle.rules.specs.Ranges.{InRange}
 use Rattle.effects.specs.Applied.{Applied, applied}
-use Rattle.bounds.specs.Stays.{namedIn, touches}
+use Rattle.touched.specs.Touched.{namedIn, touches}
 use Rattle.declared.specs.UntouchedLaws.{unnamed}
 use Rattle.bundles.specs.Bundles.{WalksBundle}
 use Rattle.checker.specs.Walk.{Walks}

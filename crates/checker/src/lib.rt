@@ -3,13 +3,13 @@ mod walk; // walk.rt: the walk over the statements
 
 use blocks::Layout;
 use blocks::read_layout;
-use bounds::named_in;
 use facts::FactSet;
 use rules::Verdict;
 use rules::read_environment;
 use sections::Sections;
 use table::Form;
 use table::read_form;
+use touched::named_in;
 ghost use mathlib.Core.Path.{_≡_};
 ghost use Rattle.table.specs.FormLaws.{Formed};
 ghost use Rattle.rules.specs.Verdict.{sectionFaults, faults, Answers, lowestVerdict};

@@ -1,6 +1,4 @@
 // The walk over the statements.
-use bounds::Named;
-use bounds::touches;
 use bundles::Walked;
 use bundles::walk_bundle;
 use conditions::negated;
@@ -18,10 +16,12 @@ use sections::Sections;
 use shown::in_range;
 use statements::Statement;
 use statements::StatementRead;
+use touched::Named;
+use touched::touches;
 ghost use mathlib.Core.Path.{_≡_};
 ghost use Rattle.blocks.specs.Tree.{parse};
 ghost use Rattle.rules.specs.Ranges.{Measured};
-ghost use Rattle.bounds.specs.Stays.{namedIn};
+ghost use Rattle.touched.specs.Touched.{namedIn};
 ghost use Rattle.checker.specs.Walk.{Walks};
 
 // The block of `first` to `end` - 1 from the facts `given`. `allowed` is at least the number of its statements; it falls at each. The fact set is changed in

@@ -22,7 +22,7 @@ use Rattle.rules.specs.declared.KnownEnd.the-variants.{Known, Unknown}
 use Rattle.rules.specs.declared.Bounds.{Bounds}
 use Rattle.rules.specs.declared.Environment.{Environment}
 use Rattle.rules.specs.declared.Verdict.the-variants.{Accepted, Refused}
-use Rattle.bounds.specs.BoundsRulesLaws.{stored, stored-known}
+use Rattle.stays.specs.StaysLaws.{stored, stored-known}
 use Rattle.declared.specs.Shown.{sameKnown, sameBounds, accessOf}
 use Rattle.declared.specs.declared.Access.{Access}
 use Rattle.declared.specs.declared.Access.the-variants.{Through, Nothing}

@@ -21,8 +21,10 @@ use Rattle.rules.specs.declared.Bounds.{Bounds}
 use Rattle.rules.specs.declared.Environment.{Environment}
 use Rattle.rules.specs.declared.Effect.{Effect}
 use Rattle.rules.specs.declared.Effect.the-variants.{Forget}
-use Rattle.bounds.specs.Stays.{endStays, boundsStay, stays, changedBy, replacedBy, leftAlone, touchedAt, touchedFrom, touched, namedIn, touches}
-use Rattle.bounds.specs.BoundsRulesLaws.{stays-known, left-alone}
+use Rattle.stays.specs.Stays.{endStays, boundsStay, stays, changedBy, replacedBy, leftAlone}
+use Rattle.stays.specs.StaysLaws.{left-alone}
+use Rattle.touched.specs.Touched.{touchedAt, touchedFrom, touched, namedIn, touches}
+use Rattle.bounds.specs.BoundsRulesLaws.{stays-known}
 use Rattle.declared.specs.Shown.{sameKnown, sameBounds}
 use Rattle.declared.specs.ShownLaws.{same-shown, missed}
 

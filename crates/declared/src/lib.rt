@@ -2,8 +2,6 @@
 mod ends; // ends.rt: when known bounds show declared ones
 
 use bounds::KnownBounds;
-use bounds::effect_on;
-use bounds::source_of;
 use ends::bounds_shown;
 use ends::same_bounds;
 use facts::FactSet;
@@ -13,6 +11,8 @@ use rules::Environment;
 use rules::Verdict;
 use rules::bounds_at;
 use statements::Simple;
+use transfer::effect_on;
+use transfer::source_of;
 ghost use mathlib.Core.Path.{_≡_};
 ghost use Rattle.rules.specs.BoundsRules.{boundsAfter, unshown, accessShown};
 ghost use Rattle.rules.specs.Rules.{boundsAt};

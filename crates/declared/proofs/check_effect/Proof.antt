@@ -6,7 +6,7 @@ use mathlib.Core.Path.{_≡_}
 use mathlib.Core.Logic.{⊎-elim}
 use Rattle.facts.specs.Tabulate.{length-under}
 use Rattle.rules.specs.BoundsRules.{known, boundsAfter}
-use Rattle.bounds.specs.BoundsRulesLaws.{source-below, effect-known}
+use Rattle.transfer.specs.TransferLaws.{source-below, effect-known}
 use Rattle.declared.specs.ShownLaws.{Passed, passed-none, passed-more, passed-missed, passed-all, unasked, asked-shown, asked-missed}
 use Rattle.declared.proofs.check_effect.Statement.{statement}
 use Rattle.declared.proofs.check_effect.Tie as tie

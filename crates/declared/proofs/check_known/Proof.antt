@@ -5,7 +5,7 @@ use mathlib.Core.Path.{_≡_}
 use mathlib.Core.Logic.{⊎-elim}
 use Rattle.facts.specs.Tabulate.{length-under}
 use Rattle.rules.specs.BoundsRules.{known}
-use Rattle.bounds.specs.BoundsRulesLaws.{stored, stored-known}
+use Rattle.stays.specs.StaysLaws.{stored, stored-known}
 use Rattle.declared.specs.ShownLaws.{Passed, passed-none, passed-more, passed-missed, passed-all, unasked, asked-shown, asked-missed}
 use Rattle.declared.proofs.check_known.Statement.{statement}
 use Rattle.declared.proofs.check_known.Tie as tie

@@ -17,7 +17,7 @@ use Rattle.effects.proofs.asked_sum.Reads as asked-sum-reads
 use Rattle.effects.proofs.plan_statement.Reads as plan-statement-reads
 use Rattle.shown.proofs.in_range.Reads as in-range-reads
 use Rattle.facts.proofs.FactSet.after.Reads as after-reads
-use Rattle.bounds.proofs.touches.Reads as touches-reads
+use Rattle.touched.proofs.touches.Reads as touches-reads
 use Rattle.effects.proofs.assume.Reads as assume-reads
 use Rattle.declared.proofs.check_effect.Reads as check-effect-reads
 use Rattle.effects.proofs.lose.Reads as lose-reads
