@@ -9,20 +9,12 @@ use lib.Dec.{eqb}
 use Rattle.sums.specs.Numbers.{zeroVar}
 use Rattle.facts.specs.Tabulate.{tabulate}
 use Rattle.sums.specs.Sums.{pick, unbounded, concatenated}
-use Rattle.facts.specs.Store.{pickBool, inRow, sumAt, rowOf, same}
+use Rattle.facts.specs.Store.{pickBool, inRow, rowOf, same}
 use Rattle.facts.specs.declared.rows.Row.{Row}
-use Rattle.facts.specs.declared.FactSet.{FactSet}
 
 -- A row that falls: each sum lowered to the chain that begins with `start` and goes on as `through`.
 unfoldable pub shortenedRow : Row → ℕ → Row → Row
 shortenedRow row start through = rowOf (λ j. min (inRow row j) (concatenated start (inRow through j)))
-
--- The sums of each row to y.
-unfoldable pub columnTo : FactSet → ℕ → Row
-columnTo f y = rowOf (λ i. sumAt f i y)
-
-unfoldable pub raisedRow : Row → ℕ → Row
-raisedRow row down = rowOf (λ j. concatenated (inRow row j) down)
 
 -- A mask has every bit or none.
 abbrev pub IsMask : ℕ → Type 0

@@ -12,19 +12,13 @@ use Rattle.sums.specs.Numbers.{bias, zeroVar}
 use Rattle.facts.specs.Tabulate.{tabulate, length-tabulate, getD-tabulate, tabulate-alike, Filled, filled-none, filled-more, filled-next, filled-each, filled-kept, filled-whole}
 use Rattle.sums.specs.Sums.{pick, concatenated}
 use Rattle.facts.specs.Store.{pickBool, pickSet, noRow, rowAt, inRow, sumAt, setOf, leastSum, shown, loweredRow, lowered, marked, added, ownRow, rerouted, reassigned, anew, factAt, addedFact, addedFirst, same, joinedSum, joinedRow}
-use Rattle.facts.specs.Rows.{shortenedRow, columnTo, raisedRow, greatestRow, throughZero}
+use Rattle.facts.specs.Rows.{shortenedRow, greatestRow, throughZero}
 use Rattle.facts.specs.StoreLaws.{least-node, shown-marked, shown-clear, added-left, added-right, added-shown, added-closed, added-lowered, anew-left, anew-right, anew-variable}
 use Rattle.facts.specs.declared.rows.Row.{Row}
 use Rattle.changes.specs.declared.Fact.{Fact}
 use Rattle.facts.specs.declared.FactSet.{FactSet}
 
 -- ---- a variable anew
-
--- The sums to y, raised.
-pub in-column : {column to : Row} (f : FactSet) (y down i : ℕ) → i < 17 → to ≡ columnTo f y → column ≡ raisedRow to down
-    → inRow column i ≡ concatenated (sumAt f i y) down
-unfolding columnTo raisedRow
-in-column f y down i h e d = rw (d, getD-tabulate, e, getD-tabulate)
 
 long-picked : (b : Bool) (f g : FactSet) → length (f .rows) ≡ 17 → length (g .rows) ≡ 17 → length (pickSet b f g .rows) ≡ 17
 long-picked true f g d e = d

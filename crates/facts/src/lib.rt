@@ -13,10 +13,8 @@ use rows::Row;
 use sums::MAX_VALUE;
 ghost use mathlib.Core.Path.{_≡_};
 ghost use mathlib.Core.Bool.{false};
-ghost use Prim.Native.Nat.{_<_};
 ghost use lib.ListN.{getD};
 ghost use Rattle.facts.specs.Store.{contradictory, leastSum, newSet, changed, added, dropped, shifted, joined};
-ghost use Rattle.facts.specs.Rows.{columnTo};
 
 pub struct FactSet {
     rows: [Row; 17],
@@ -61,41 +59,6 @@ impl FactSet {
         row.sums[y]
     }
 
-    // The sums from each to zero; the constant index is faster than a column's number.
-    fn zero_column(self) -> Row
-        ensures { λ r. ⌜ r ≡ columnTo self 16 ⌝ }
-    {
-        let mut column = Row { sums: [0; 17] };
-        for i in 0..17 {
-            let row = self.rows[i];
-            column.sums[i] = row.sums[16];
-        }
-        column
-    }
-
-    fn column(self, y: usize) -> Row
-        requires { ⌜ y < 17 ⌝ }
-        ensures { λ r. ⌜ r ≡ columnTo self y ⌝ }
-    {
-        let mut column = Row { sums: [0; 17] };
-        for i in 0..17 {
-            let row = self.rows[i];
-            column.sums[i] = row.sums[y];
-        }
-        column
-    }
-
-    // The sums from each to y.
-    fn column_to(self, y: usize) -> Row
-        requires { ⌜ y < 17 ⌝ }
-        ensures { λ r. ⌜ r ≡ columnTo self y ⌝ }
-    {
-        if y == 16 {
-            return self.zero_column();
-        }
-        self.column(y)
-    }
-
     // The facts after a change: the target anew, then the three facts besides; one that is shown already changes nothing. One function with one exit: a set that
     // passes a function's boundary is copied.
     pub fn after(mut self, change: Change) -> FactSet
@@ -106,11 +69,11 @@ impl FactSet {
         if target < 16 {
             if base < 17 {
                 let own = rows::own_row(self.rows[base], target, change.up);
-                let column = rows::raised_row(self.column_to(base), change.down);
                 let mask = rows::mask_row(target);
                 for i in 0..17 {
                     let row = self.rows[i];
-                    self.rows[i] = rows::rerouted_row(row, mask, column.sums[i]);
+                    let to = sums::concat(row.sums[base], change.down);
+                    self.rows[i] = rows::rerouted_row(row, mask, to);
                 }
                 self.rows[target] = own;
             }

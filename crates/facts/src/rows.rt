@@ -10,7 +10,7 @@ ghost use lib.ListN.{getD};
 ghost use lib.Dec.{eqb};
 ghost use Rattle.sums.specs.Sums.{pick};
 ghost use Rattle.facts.specs.Store.{newSum, newRow, ownRow};
-ghost use Rattle.facts.specs.Rows.{shortenedRow, raisedRow, IsMask, Masks, maskRow, mergedRow, greatestRow, throughZero};
+ghost use Rattle.facts.specs.Rows.{shortenedRow, IsMask, Masks, maskRow, mergedRow, greatestRow, throughZero};
 
 pub struct Row {
     pub sums: [u64; 17],
@@ -82,17 +82,6 @@ pub fn own_row(base: Row, x: usize, up: u64) -> Row
     let mut next = base;
     for j in 0..17 {
         next.sums[j] = choose(j == x, BIAS, concat(up, base.sums[j]));
-    }
-    next
-}
-
-// Every sum raised by `down`.
-pub fn raised_row(row: Row, down: u64) -> Row
-    ensures { λ r. ⌜ r ≡ raisedRow row down ⌝ }
-{
-    let mut next = row;
-    for j in 0..17 {
-        next.sums[j] = concat(row.sums[j], down);
     }
     next
 }

@@ -12,19 +12,20 @@ use lib.ListN.{length}
 use Rattle.facts.specs.declared.rows.Row.{Row}
 use Rattle.facts.specs.declared.FactSet.{FactSet}
 use Rattle.facts.specs.Tabulate.{Filled, filled-none, filled-more, filled-next, filled-whole, length-under}
-use Rattle.facts.specs.Store.{noRow, reroutedRow, rerouted, anew}
+use Rattle.sums.specs.Sums.{concatenated}
+use Rattle.facts.specs.Store.{noRow, inRow, reroutedRow, rerouted, anew}
 use Rattle.facts.specs.Masks.{masks, merged-rerouted}
 use Rattle.facts.specs.StoreLaws.{changed-steps}
-use Rattle.facts.specs.StoreLoops.{in-column, long-anew, anew-none, anew-nowhere, anew-filled, Lowering, lowering-none, lowering-falls, lowering-stays, lowering-done, Told, told-none, told-more, told-all, way-left, way-right, way-marked, way-known, way-closed, way-lowered}
+use Rattle.facts.specs.StoreLoops.{long-anew, anew-none, anew-nowhere, anew-filled, Lowering, lowering-none, lowering-falls, lowering-stays, lowering-done, Told, told-none, told-more, told-all, way-left, way-right, way-marked, way-known, way-closed, way-lowered}
 use Rattle.facts.proofs.FactSet.after.Statement.{statement}
 use Rattle.facts.proofs.FactSet.after.Tie as tie
 
 abbrev Inv-loop : tie.InvT-loop
-Inv-loop change self₀ target base own column mask i₀ self i =
+Inv-loop change self₀ target base own mask i₀ self i =
     Filled (self .rows) (self₀ .rows) 17 (rerouted self₀ target base (change .down)) i × (self .contradiction ≡ self₀ .contradiction)
 
 abbrev μ-loop : tie.MeasureT-loop
-μ-loop change self₀ target base own column mask i₀ self i = 17 - i
+μ-loop change self₀ target base own mask i₀ self i = 17 - i
 
 abbrev Inv-loop3 : tie.InvT-loop3
 Inv-loop3 self₀ target base facts n x y k through i₀ self i = Lowering x y k through self₀ self i
@@ -43,7 +44,7 @@ remade : (c : tie.Joined1 Inv-loop μ-loop Inv-loop3 μ-loop3 Inv-loop2 μ-loop2
     c .if1 .self ≡ anew (from .t1) (from .change .target) (from .change .base) (from .change .up) (from .change .down)
 remade c =
     let from = c .before .args in
-    ⊎-elim (λ w. anew-filled (from .t1) _ _ (from .change .up) (from .change .down) (w .0 .taken) (w .1 .taken) (w .3 .ensures) (filled-whole (w .7 .inv .0) (w .8 .left)) (w .7 .inv .1) (w .9))
+    ⊎-elim (λ w. anew-filled (from .t1) _ _ (from .change .up) (from .change .down) (w .0 .taken) (w .1 .taken) (w .3 .ensures) (filled-whole (w .5 .inv .0) (w .6 .left)) (w .5 .inv .1) (w .7))
     (⊎-elim (λ w. anew-nowhere _ _ _ _ _ (w .0 .taken) (w .1 .left) (w .2))
     (λ w. anew-none _ _ _ _ _ (w .0 .left) (w .1))) (c .if1 .came)
 
@@ -71,21 +72,22 @@ after-spec =
     tie.close
     (tie.spec
     Inv-loop μ-loop Inv-loop3 μ-loop3 Inv-loop2 μ-loop2
-    (λ c. row-fits (c .if2 .taken)) (λ c. c .if2 .taken) (λ c κs. tt) (λ c κs. c .before .before .if2 .taken) (λ c κs. tt) (λ c κs. a-row (c .before .before .before .before .before .if1 .taken))
+    (λ c. row-fits (c .if2 .taken)) (λ c. c .if2 .taken) (λ c κs. tt) (λ c κs. a-row (c .before .before .before .if1 .taken))
     (λ c. (filled-none _ _ _ (search (length-under, needs)), refl))
-    (λ c. row-fits (c .loop-test .taken)) (λ c. c .loop-test .taken) (λ c. sum-fits (c .before .loop-test .taken)) (λ c. c .before .loop-test .taken)
-    (λ c κs. masks _ (a-row (c .before .before .before .before .before .before .before .before .before .before .if1 .taken)) (c .before .before .before .before .mask-row .ensures))
-    (λ c. row-fits (c .before .before .before .loop-test .taken)) (λ c. c .before .before .before .loop-test .taken) (λ c. next-fits (c .before .before .before .loop-test .taken)) (λ c. falls 17 _ (c .before .before .before .loop-test .taken))
-    (λ c. let at = c .before .before .before .before .loop in
-    let made = c .before .before .before .before .before in
-    let from = made .before .before .before .before .before .before .before .args in (
-      filled-more (at .inv .0) (c .before .before .before .loop-test .taken)
-          (c .rerouted-row .ensures ∙ merged-rerouted (from .change .target) _ _ (a-row (c .before .before .before .before .before .before .before .before .before .before .before .if1 .taken)) (made .mask-row .ensures)
-          ∙ ap₂ (λ (row : Row) (to : ℕ). reroutedRow row (from .change .target) to) (filled-next noRow (at .inv .0))
-          (in-column (from .t1) (from .change .base) (from .change .down) (at .i) (c .before .before .before .loop-test .taken) (made .before .before .column-to .ensures) (made .before .raised-row .ensures))),
+    (λ c. row-fits (c .loop-test .taken)) (λ c. c .loop-test .taken) (λ c. sum-fits (c .before .before .before .before .before .before .if2 .taken)) (λ c. c .before .before .before .before .before .before .if2 .taken) (λ c κs. tt)
+    (λ c κs. masks _ (a-row (c .before .before .before .before .before .before .before .before .before .if1 .taken)) (c .before .before .before .before .before .mask-row .ensures))
+    (λ c. row-fits (c .before .before .before .before .loop-test .taken)) (λ c. c .before .before .before .before .loop-test .taken) (λ c. next-fits (c .before .before .before .before .loop-test .taken)) (λ c. falls 17 _ (c .before .before .before .before .loop-test .taken))
+    (λ c. let at = c .before .before .before .before .before .loop in
+    let made = c .before .before .before .before .before .before in
+    let from = made .before .before .before .before .before .args in
+    let kept = filled-next noRow (at .inv .0) in (
+      filled-more (at .inv .0) (c .before .before .before .before .loop-test .taken)
+          (c .rerouted-row .ensures ∙ merged-rerouted (from .change .target) _ _ (a-row (made .before .before .before .before .if1 .taken)) (made .mask-row .ensures)
+          ∙ ap₂ (λ (row : Row) (to : ℕ). reroutedRow row (from .change .target) to) kept
+          (c .before .concat .ensures ∙ ap (λ (row : Row). concatenated (inRow row (from .change .base)) (from .change .down)) kept)),
       at .inv .1,
     ))
-    (λ c. row-fits (a-row (c .before .before .before .before .before .before .before .before .if1 .taken))) (λ c. a-row (c .before .before .before .before .before .before .before .before .if1 .taken))
+    (λ c. row-fits (a-row (c .before .before .before .before .before .before .if1 .taken))) (λ c. a-row (c .before .before .before .before .before .before .if1 .taken))
     (λ c. told-none (ap (λ (f : FactSet). length (f .rows)) (remade (c .before)) ∙ long-anew _ _ _ _ _ (search (length-under, needs))))
     (λ c. fact-fits (c .loop2-test .taken)) (λ c. c .loop2-test .taken) (λ c. row-fits (c .before .before .if3 .taken)) (λ c. c .before .before .if3 .taken) (λ c. sum-fits (c .before .before .if4 .taken)) (λ c. c .before .before .if4 .taken) (λ c. row-fits (c .before .before .before .before .if4 .taken)) (λ c. c .before .before .before .before .if4 .taken)
     (λ c. sum-fits (c .before .before .before .before .before .before .if3 .taken)) (λ c. c .before .before .before .before .before .before .if3 .taken) (λ c κs. tt)
@@ -93,8 +95,8 @@ after-spec =
     (λ c. row-fits (c .loop3-test .taken)) (λ c. c .loop3-test .taken) (λ c. sum-fits (c .before .before .before .before .before .before .before .before .before .before .before .before .if3 .taken)) (λ c. c .before .before .before .before .before .before .before .before .before .before .before .before .if3 .taken) (λ c κs. tt)
     (λ c. sum-fits (c .before .before .before .before .before .before .before .before .before .before .before .before .before .if4 .taken)) (λ c. c .before .before .before .before .before .before .before .before .before .before .before .before .before .if4 .taken) (λ c κs. tt) (λ c. row-fits (c .before .before .before .before .before .before .loop3-test .taken)) (λ c. c .before .before .before .before .before .before .loop3-test .taken) (λ c. next-fits (c .before .before .before .before .before .loop3-test .taken)) (λ c. falls 17 _ (c .before .before .before .before .before .loop3-test .taken))
     (λ c. let at = c .before .before .before .before .before .before .loop3 in
-    ⊎-elim (λ w. lowering-falls (at .inv) (c .before .before .before .before .before .loop3-test .taken) (c .before .before .concat2 .ensures) (w .0 .taken) (w .1 .ensures) (w .2))
-    (λ w. lowering-stays (at .inv) (c .before .before .before .before .before .loop3-test .taken) (c .before .before .concat2 .ensures) (w .0 .left) (w .1))
+    ⊎-elim (λ w. lowering-falls (at .inv) (c .before .before .before .before .before .loop3-test .taken) (c .before .before .concat3 .ensures) (w .0 .taken) (w .1 .ensures) (w .2))
+    (λ w. lowering-stays (at .inv) (c .before .before .before .before .before .loop3-test .taken) (c .before .before .concat3 .ensures) (w .0 .left) (w .1))
     (c .if8 .came))
     (λ c. next3-fits (c .before .before .loop2-test .taken)) (λ c. falls 3 _ (c .before .before .loop2-test .taken))
     (λ c. told-more (c .before .before .before .loop2 .inv) (c .before .before .loop2-test .taken)
