@@ -1,10 +1,9 @@
--- What the functions of this crate give back, in terms of the rules: a change for a condition, a plan for a statement, and marks of targets.
+-- What the functions of this crate give back, in terms of the rules: a change for a condition and a plan for a statement.
 use Prim.Native.Nat.{ℕ}
-use mathlib.Core.Bool.{Bool, true, false}
-use mathlib.Core.List.{List, [], _∷_}
-use lib.ListN.{set, replicate}
+use mathlib.Core.Bool.{Bool}
+use mathlib.Core.List.{List, []}
 use mathlib.Core.Path.{_≡_}
-use Rattle.sums.specs.Numbers.{bias, zeroVar}
+use Rattle.sums.specs.Numbers.{bias}
 use Rattle.facts.specs.Store.{inRange, addedFact, changed}
 use Rattle.changes.specs.declared.Change.{Change}
 use Rattle.changes.specs.declared.Fact.{Fact}
@@ -73,26 +72,3 @@ constantAsked (Check c) = bias
 abbrev pub Plans : List ℕ → Simple → Bool → Plan → Type 0
 Plans lengths s fits r =
     (f : FactSet) → fits ≡ inRange f (sourceAsked s) (constantAsked s) → record { facts = changed f (r .change); effect = r .effect } ≡ applied lengths f s
-
--- ---- the targets of a loop's body
-
--- The variable that a statement assigns, or the number of none.
-abbrev pub targetNumber : Simple → ℕ
-targetNumber (Literal x k) = x
-targetNumber (AddConstant x y k) = x
-targetNumber (Arithmetic x y z op) = x
-targetNumber (Null p) = p
-targetNumber (Address p o) = p
-targetNumber (PointerOffset p q k) = p
-targetNumber (PointerIndex p q i) = p
-targetNumber (Load x p i k) = x
-targetNumber (Store p i k x) = zeroVar
-targetNumber (Check c) = zeroVar
-
-abbrev pub noMarks : List Bool
-noMarks = replicate 16 false
-
--- The marks with each of these numbers marked.
-unfoldable pub marked : List Bool → List ℕ → List Bool
-marked marks [] = marks
-marked marks (x ∷ xs) = marked (set marks x true) xs

@@ -1,7 +1,5 @@
 // What a condition and a statement of kinds 1 to 10 do to the facts, planned as a change of the fact set, and what the statement does to known bounds.
-// No function here takes a fact set but those for loops: the caller asks the one question a plan may need, and makes the change.
-mod loops; // loops.rt: the variables that a loop's body assigns
-
+// No function here takes a fact set: the caller asks the one question a plan may need, and makes the change.
 use changes::Change;
 use changes::Fact;
 use changes::adding;
@@ -10,7 +8,6 @@ use changes::no_fact;
 use changes::ranging;
 use changes::shifting;
 use conditions::Condition;
-pub use loops::lose;
 use rules::Effect;
 use rules::length_at;
 use statements::Simple;

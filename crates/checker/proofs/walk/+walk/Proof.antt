@@ -20,7 +20,7 @@ use Rattle.facts.proofs.FactSet.after.Reads as after-reads
 use Rattle.touched.proofs.touches.Reads as touches-reads
 use Rattle.effects.proofs.assume.Reads as assume-reads
 use Rattle.declared.proofs.check_effect.Reads as check-effect-reads
-use Rattle.effects.proofs.lose.Reads as lose-reads
+use Rattle.loops.proofs.lose.Reads as lose-reads
 use Rattle.bundles.proofs.walk_bundle.Reads as walk-bundle-reads
 use Rattle.facts.proofs.FactSet.contradicts.Reads as contradicts-reads
 use Rattle.facts.proofs.FactSet.join.Reads as join-reads

@@ -1,9 +1,9 @@
--- `effects::loops::lose` meets its contract.
+-- `loops::lose` meets its contract.
 use borrow.Author.Needs.{needs}
 use mathlib.Core.Path.{_∙_}
-use Rattle.effects.specs.FactRulesLaws.{loop-facts}
-use Rattle.effects.proofs.loops.lose.Statement.{statement}
-use Rattle.effects.proofs.loops.lose.Tie as tie
+use Rattle.loops.specs.MarkLaws.{loop-facts}
+use Rattle.loops.proofs.lose.Statement.{statement}
+use Rattle.loops.proofs.lose.Tie as tie
 
 pub lose-spec : {M : Type 1} → statement M
 lose-spec =

@@ -1,7 +1,7 @@
--- `effects::loops::target_of` meets its contract.
+-- `loops::target_of` meets its contract.
 use borrow.Author.Needs.{needs}
-use Rattle.effects.proofs.loops.target_of.Statement.{statement}
-use Rattle.effects.proofs.loops.target_of.Tie as tie
+use Rattle.loops.proofs.target_of.Statement.{statement}
+use Rattle.loops.proofs.target_of.Tie as tie
 
 pub target-of-spec : {M : Type 1} → statement M
 target-of-spec =

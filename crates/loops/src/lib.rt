@@ -11,7 +11,7 @@ ghost use Prim.Native.Nat.{_+_, _^_, _<_};
 ghost use lib.ListN.{getD};
 ghost use Rattle.flow.specs.Shape.{targetOf, targetsFrom};
 ghost use Rattle.rules.specs.FactRules.{droppedEach, loopFacts};
-ghost use Rattle.effects.specs.Applied.{targetNumber, noMarks, marked};
+ghost use Rattle.loops.specs.Marks.{targetNumber, noMarks, marked};
 
 // The variable that a statement assigns, or 16 for none.
 fn target_of(simple: Simple) -> usize

@@ -1,10 +1,10 @@
--- `effects::loops::mark_target` meets its contract.
+-- `loops::mark_target` meets its contract.
 use borrow.Author.Needs.{needs}
-use Rattle.effects.specs.Applied.{marked}
-use Rattle.effects.specs.FactRulesLaws.{read-target, read-past, read-other}
+use Rattle.loops.specs.Marks.{marked}
+use Rattle.loops.specs.MarkLaws.{read-target, read-past, read-other}
 use Rattle.blocks.proofs.Variants.{not-plain}
-use Rattle.effects.proofs.loops.mark_target.Statement.{statement}
-use Rattle.effects.proofs.loops.mark_target.Tie as tie
+use Rattle.loops.proofs.mark_target.Statement.{statement}
+use Rattle.loops.proofs.mark_target.Tie as tie
 
 pub mark-target-spec : {M : Type 1} → statement M
 unfolding marked

@@ -7,9 +7,9 @@ use mathlib.Core.Logic.{⊎-elim}
 use native.Mathlib.Omega.{arith}
 use lib.ListN.{getD}
 use Rattle.rules.specs.FactRules.{droppedEach}
-use Rattle.effects.specs.FactRulesLaws.{dropped-none, drop-marked, drop-unmarked, drop-done}
-use Rattle.effects.proofs.loops.drop_marked.Statement.{statement}
-use Rattle.effects.proofs.loops.drop_marked.Tie as tie
+use Rattle.loops.specs.MarkLaws.{dropped-none, drop-marked, drop-unmarked, drop-done}
+use Rattle.loops.proofs.drop_marked.Statement.{statement}
+use Rattle.loops.proofs.drop_marked.Tie as tie
 
 abbrev Inv-loop : tie.InvT-loop
 Inv-loop facts₀ marks v₀ facts v = (facts ≡ droppedEach v (λ n. getD (marks .each) n false) facts₀) × (v ≤ 16)

@@ -2,11 +2,11 @@
 use borrow.Author.Needs.{needs}
 use Prim.Native.Nat.{_+_}
 use mathlib.Core.Path.{_≡_, refl, sym, _∙_}
-use Rattle.effects.specs.Applied.{noMarks, marked}
-use Rattle.effects.specs.FactRulesLaws.{mark-more, mark-none}
+use Rattle.loops.specs.Marks.{noMarks, marked}
+use Rattle.loops.specs.MarkLaws.{mark-more, mark-none}
 use Rattle.flow.specs.Shape.{targetsFrom}
-use Rattle.effects.proofs.loops.mark_targets.Statement.{statement}
-use Rattle.effects.proofs.loops.mark_targets.Tie as tie
+use Rattle.loops.proofs.mark_targets.Statement.{statement}
+use Rattle.loops.proofs.mark_targets.Tie as tie
 
 abbrev Inv-loop : tie.InvT-loop
 Inv-loop table sections first count marks₀ at₀ left₀ marks at left = (marked noMarks (targetsFrom table sections first count) ≡ marked (marks .each) (targetsFrom table sections at left)) × (at + left ≡ first + count)
