@@ -1,11 +1,11 @@
 // Causes 10 to 12: the memory directory, the lengths of values and origins, and the entry values.
 use crate::EntryVerdict;
 use crate::entry_bounds::bounds_true;
+use lookups::is_pointer;
+use lookups::length_at;
 use machine::value_at;
 use refusals::Refusal;
 use rules::Environment;
-use rules::is_pointer;
-use rules::length_at;
 use sections::Sections;
 ghost use mathlib.Core.Path.{_≡_};
 ghost use Prim.Native.Nat.{_*_, _<_};

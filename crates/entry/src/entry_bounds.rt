@@ -1,8 +1,8 @@
 // Whether declared bounds are true at entry. Ends are whole numbers: a constant of any size is compared without a sum that wraps.
 use crate::ends::end_of;
+use lookups::bounds_at;
 use machine::value_at;
 use rules::Environment;
-use rules::bounds_at;
 use sums::BIAS;
 use variables::End;
 ghost use mathlib.Core.Path.{_≡_};

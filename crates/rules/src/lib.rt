@@ -1,11 +1,7 @@
 // The rules: the bounds in force, what a statement does to them and to the facts, and the verdict (specs); and what a table declares.
 mod declarations; // declarations.rt: what a table declares
-mod lookups; // lookups.rt: what is declared of a number
 
 pub use declarations::read_environment;
-pub use lookups::bounds_at;
-pub use lookups::is_pointer;
-pub use lookups::length_at;
 use variables::End;
 
 // An end of the bounds that are known of a pointer.

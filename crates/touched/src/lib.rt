@@ -1,7 +1,7 @@
 // Whether an effect touches declared bounds: only those have to be shown again.
+use lookups::is_pointer;
 use rules::Effect;
 use rules::Environment;
-use rules::is_pointer;
 use stays::changed_by;
 use stays::left_alone;
 use stays::replaced_by;

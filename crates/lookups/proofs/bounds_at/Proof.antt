@@ -1,11 +1,11 @@
--- `rules::lookups::bounds_at` meets its contract.
+-- `lookups::bounds_at` meets its contract.
 use borrow.Author.Needs.{needs}
 use mathlib.Core.Path.{sym}
 use lib.ListN.{List·getD-eq-default}
 use Rattle.facts.specs.Tabulate.{any-default, length-under}
 use Rattle.rules.specs.BoundsRules.{nothingKnown}
-use Rattle.rules.proofs.lookups.bounds_at.Statement.{statement}
-use Rattle.rules.proofs.lookups.bounds_at.Tie as tie
+use Rattle.lookups.proofs.bounds_at.Statement.{statement}
+use Rattle.lookups.proofs.bounds_at.Tie as tie
 
 pub bounds-at-spec : {M : Type 1} → statement M
 bounds-at-spec =

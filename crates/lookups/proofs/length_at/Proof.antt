@@ -1,9 +1,9 @@
--- `rules::lookups::length_at` meets its contract.
+-- `lookups::length_at` meets its contract.
 use borrow.Author.Needs.{needs}
 use mathlib.Core.Path.{sym}
 use lib.ListN.{List·getD-eq-default}
-use Rattle.rules.proofs.lookups.length_at.Statement.{statement}
-use Rattle.rules.proofs.lookups.length_at.Tie as tie
+use Rattle.lookups.proofs.length_at.Statement.{statement}
+use Rattle.lookups.proofs.length_at.Tie as tie
 
 pub length-at-spec : {M : Type 1} → statement M
 length-at-spec =

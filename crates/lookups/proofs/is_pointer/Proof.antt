@@ -1,10 +1,10 @@
--- `rules::lookups::is_pointer` meets its contract.
+-- `lookups::is_pointer` meets its contract.
 use borrow.Author.Needs.{needs}
 use mathlib.Core.Path.{sym}
 use mathlib.Core.Bool.{false}
 use lib.ListN.{List·getD-eq-default}
-use Rattle.rules.proofs.lookups.is_pointer.Statement.{statement}
-use Rattle.rules.proofs.lookups.is_pointer.Tie as tie
+use Rattle.lookups.proofs.is_pointer.Statement.{statement}
+use Rattle.lookups.proofs.is_pointer.Tie as tie
 
 pub is-pointer-spec : {M : Type 1} → statement M
 is-pointer-spec =

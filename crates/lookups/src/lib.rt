@@ -1,10 +1,10 @@
 // What is declared of a variable or an object by its number; of a number that has none, what the definitions say.
-use crate::Bounds;
-use crate::KnownEnd;
+use rules::Bounds;
+use rules::KnownEnd;
 ghost use mathlib.Core.Path.{_≡_};
 ghost use mathlib.Core.Bool.{false};
 ghost use lib.ListN.{getD};
 ghost use Rattle.rules.specs.BoundsRules.{nothingKnown};
 
 // v is a pointer.
 pub fn is_pointer(pointers: [bool; 17], v: usize) -> bool
