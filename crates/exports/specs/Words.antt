@@ -12,8 +12,8 @@ use Rattle.rules.specs.declared.Verdict.{Verdict}
 use Rattle.rules.specs.declared.Verdict.the-variants as verdict
 use Rattle.stops.specs.Checks.{checkNumber, checkStatement}
 use Rattle.interpreter.specs.Claim.{runFaults, RunAnswer}
-use Rattle.interpreter.specs.declared.Outcome.{Outcome}
-use Rattle.interpreter.specs.declared.Outcome.the-variants.{Done, Spent, Stopped, Refused}
+use Rattle.stops.specs.declared.Outcome.{Outcome}
+use Rattle.stops.specs.declared.Outcome.the-variants.{Done, Spent, Stopped, Refused}
 
 abbrev pub wordOf : ℕ → ℕ
 wordOf n = n % 2 ^ 32

@@ -1,6 +1,6 @@
 // What C and Rust link: the check and the run on lent slices, with the answer as words in a lent slice (include/mizzengrape.h).
-use interpreter::Outcome;
 use rules::Verdict;
+use stops::Outcome;
 use stops::check_number;
 use stops::check_statement;
 ghost use mathlib.Core.Path.{_≡_};

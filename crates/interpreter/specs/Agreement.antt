@@ -15,12 +15,12 @@ use Rattle.rules.specs.declared.Environment.{Environment}
 use Rattle.machine.specs.Machine.{high, Status, going, stopped, stuck, Point, successorsOf, pointAfter}
 use Rattle.stops.specs.Checks.{checkOf}
 use Rattle.steps.specs.Bare.{Move, move}
-use Rattle.interpreter.specs.BareRun.{Result, result}
+use Rattle.runs.specs.BareRun.{Result, result}
 use Rattle.entry.specs.Ends.{endsOf}
 use Rattle.steps.specs.declared.Step.{Step}
 use Rattle.steps.specs.declared.Step.the-variants.{Go, Stop}
-use Rattle.interpreter.specs.declared.Outcome.{Outcome}
-use Rattle.interpreter.specs.declared.Outcome.the-variants.{Done, Spent, Stopped}
+use Rattle.stops.specs.declared.Outcome.{Outcome}
+use Rattle.stops.specs.declared.Outcome.the-variants.{Done, Spent, Stopped}
 
 -- What the step to a point says, by the point's status and the statement due there. (No run that is begun is stuck.)
 abbrev pub stepShown : Status → ℕ → Step

@@ -29,8 +29,8 @@ use Rattle.machine.specs.Soundness.{Outside}
 use Rattle.stops.specs.Checks.{checkNumber, checkStatement}
 use Rattle.stops.specs.declared.Check.{Check}
 use Rattle.interpreter.specs.Agreement.{outcomeShown}
-use Rattle.interpreter.specs.declared.Outcome.{Outcome}
-use Rattle.interpreter.specs.declared.Outcome.the-variants as outcome
+use Rattle.stops.specs.declared.Outcome.{Outcome}
+use Rattle.stops.specs.declared.Outcome.the-variants as outcome
 
 -- ---- what refuses a run
 

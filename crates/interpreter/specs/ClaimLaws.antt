@@ -39,16 +39,16 @@ use Rattle.entry.specs.Entry.{entryRefusals}
 use Rattle.interpreter.specs.BegunLaws.{entry-begun}
 use Rattle.entry.specs.Ends.{endsOf}
 use Rattle.steps.specs.Bare.{Prepared}
-use Rattle.interpreter.specs.BareRun.{Result, Ends, SafeRun, bareRun}
+use Rattle.runs.specs.BareRun.{Result, Ends, SafeRun, bareRun}
 use Rattle.interpreter.specs.StartLaws.{admitted, start-prepared, start-safe, start-agrees}
 use Rattle.interpreter.specs.Agreement.{pickOutcome, outcomeShown, resultShown}
 use Rattle.interpreter.specs.Claim.{failingAt, AccessInside, answerAt, AtPoint, Ran, entryFaults, runFaults, RunAnswer}
 use Rattle.entry.specs.Entered.{entered}
 use Rattle.entry.specs.declared.EntryVerdict.{EntryVerdict}
 use Rattle.entry.specs.declared.EntryVerdict.the-variants as entry
-use Rattle.interpreter.specs.declared.Outcome.the-variants as outcome
-use Rattle.interpreter.specs.declared.Outcome.{Outcome}
-use Rattle.interpreter.specs.declared.Outcome.the-variants.{Done, Spent, Stopped}
+use Rattle.stops.specs.declared.Outcome.the-variants as outcome
+use Rattle.stops.specs.declared.Outcome.{Outcome}
+use Rattle.stops.specs.declared.Outcome.the-variants.{Done, Spent, Stopped}
 
 allowed-inside : (D : List ℕ) (n : ℕ) (a : Access) → AccessAllowed D n a → AccessInside D a
 allowed-inside D n no-access h = tt

@@ -1,7 +1,5 @@
-pub mod BareRun
 pub mod BegunLaws
 pub mod EndsLaws
-pub mod RunLaws
 pub mod Agreement
 pub mod AgreementLaws
 pub mod StartLaws

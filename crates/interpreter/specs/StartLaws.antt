@@ -27,7 +27,7 @@ use Rattle.rules.specs.declared.Environment.{Environment}
 use Rattle.machine.specs.Machine.{value, high, boundsTrue, stuck, start, pointAfter}
 use Rattle.entry.specs.Entry.{memoryRight, endBefore, pairRight, lengthsRight, entryRight, consUnless, failures, entryRefusals}
 use Rattle.steps.specs.Bare.{Prepared}
-use Rattle.interpreter.specs.BareRun.{bareRun, SafeRun}
+use Rattle.runs.specs.BareRun.{bareRun, SafeRun}
 use Rattle.entry.specs.Ends.{endsOf}
 use Rattle.interpreter.specs.EndsLaws.{ends-long, ends-small}
 use Rattle.interpreter.specs.Agreement.{resultShown, Runnable}

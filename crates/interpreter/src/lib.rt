@@ -1,17 +1,14 @@
-// The interpreter: the run of an accepted routine, and its outcome.
-mod resume; // resume.rt: the run up to a limit
-
+// The interpreter: the run of an accepted routine.
 use checker::check;
 use entry::EntryVerdict;
 use entry::enter;
 use entry::lay_ends;
 use flow::write_successors;
-use refusals::Refusal;
-use resume::resume;
 use rules::Verdict;
 use rules::read_environment;
+use runs::resume;
 use sections::Sections;
-use stops::Check;
+use stops::Outcome;
 use table::Form;
 use table::read_form;
 ghost use mathlib.Core.Path.{_≡_};
@@ -20,14 +17,6 @@ ghost use Rattle.table.specs.Form.{formOf};
 ghost use Rattle.table.specs.declared.Form.the-variants.{WellFormed};
 ghost use Rattle.rules.specs.Verdict.{faults};
 ghost use Rattle.interpreter.specs.Claim.{runFaults, RunAnswer};
-
-// How a run ends.
-pub enum Outcome {
-    Refused(Refusal),
-    Done { steps: u32 },
-    Spent { steps: u32, statement: usize },
-    Stopped { steps: u32, check: Check },
-}
 
 // A run of an accepted table of these sections: causes 10 to 12, then the steps.
 fn run_sections(

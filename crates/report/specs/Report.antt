@@ -6,8 +6,8 @@ use Rattle.refusals.specs.Refusals.{number, place, pointer}
 use Rattle.refusals.specs.declared.Refusal.{Refusal}
 use Rattle.stops.specs.Checks.{checkNumber, checkStatement}
 use Rattle.stops.specs.declared.Check.{Check}
-use Rattle.interpreter.specs.declared.Outcome.{Outcome}
-use Rattle.interpreter.specs.declared.Outcome.the-variants.{Done, Spent, Stopped, Refused}
+use Rattle.stops.specs.declared.Outcome.{Outcome}
+use Rattle.stops.specs.declared.Outcome.the-variants.{Done, Spent, Stopped, Refused}
 use Rattle.text.specs.Text.{bytesOf, decimal, pickText}
 
 abbrev pub numeral : ℕ → List ℕ

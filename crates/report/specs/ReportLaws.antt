@@ -7,8 +7,8 @@ use Rattle.refusals.specs.Refusals.{number, place, pointer}
 use Rattle.refusals.specs.declared.Refusal.{Refusal}
 use Rattle.stops.specs.Checks.{checkNumber, checkStatement}
 use Rattle.stops.specs.declared.Check.{Check}
-use Rattle.interpreter.specs.declared.Outcome.{Outcome}
-use Rattle.interpreter.specs.declared.Outcome.the-variants.{Done, Spent, Stopped, Refused}
+use Rattle.stops.specs.declared.Outcome.{Outcome}
+use Rattle.stops.specs.declared.Outcome.the-variants.{Done, Spent, Stopped, Refused}
 use Rattle.text.specs.Text.{bytesOf, Grown, Line}
 use Rattle.text.specs.declared.Text.{Text}
 use Rattle.report.specs.Report.{numeral, refusedText, stoppedText, entryText, leftLine, rowLine, firstRowLine}

@@ -1,7 +1,7 @@
 // What a rehearsal tells a scorer, as lines of text.
-use interpreter::Outcome;
 use refusals::Refusal;
 use stops::Check;
+use stops::Outcome;
 use stops::check_number;
 use stops::check_statement;
 use text::Text;

@@ -1,4 +1,5 @@
-// The five named checks of a run, each with the statement at which it fails; the paper's number of each.
+// How a run ends, and the five named checks, each with the statement at which it fails; the paper's number of each.
+use refusals::Refusal;
 ghost use mathlib.Core.Path.{_≡_};
 ghost use Rattle.stops.specs.Checks.{checkNumber, checkStatement};
 
@@ -8,6 +9,14 @@ pub enum Check {
     OutOfBounds(usize),
     NullArithmetic(usize),
     AddressRange(usize),
+}
+
+// A run's answer: refused, done, spent, or stopped, with the check that failed.
+pub enum Outcome {
+    Refused(Refusal),
+    Done { steps: u32 },
+    Spent { steps: u32, statement: usize },
+    Stopped { steps: u32, check: Check },
 }
 
 pub fn check_number(check: Check) -> u32

@@ -9,8 +9,8 @@ use Rattle.sections.specs.declared.Sections.{Sections}
 use Rattle.steps.specs.Bare.{bareMove, Ready}
 use Rattle.steps.specs.declared.Step.{Step}
 use Rattle.steps.specs.declared.Step.the-variants.{Go, Stop}
-use Rattle.interpreter.specs.declared.Outcome.{Outcome}
-use Rattle.interpreter.specs.declared.Outcome.the-variants.{Done, Spent, Stopped}
+use Rattle.stops.specs.declared.Outcome.{Outcome}
+use Rattle.stops.specs.declared.Outcome.the-variants.{Done, Spent, Stopped}
 
 -- A run's end: its outcome, and the values and cells then.
 pub record Result : Type 0 where

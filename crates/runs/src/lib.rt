@@ -1,13 +1,13 @@
 // The run: steps from a statement on, up to a limit.
-use crate::Outcome;
 use sections::Sections;
 use steps::Step;
 use steps::advance;
+use stops::Outcome;
 ghost use Rattle.steps.specs.Bare.{Prepared};
-ghost use Rattle.interpreter.specs.BareRun.{SafeRun, bareRun, Ends};
+ghost use Rattle.runs.specs.BareRun.{SafeRun, bareRun, Ends};
 
 // Steps from the statement `first`, `limit` at most, with the values and cells as they are. A run that is spent goes on from the statement that it gives.
-pub(crate) fn resume(
+pub fn resume(
     table: &[i32],
     sections: Sections,
     ends: &[u64],

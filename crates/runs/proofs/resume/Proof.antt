@@ -1,14 +1,14 @@
--- `interpreter::resume::resume` meets its contract.
+-- `runs::resume` meets its contract.
 use Prim.Native.Nat.{_+_, _-_, _≤_}
 use mathlib.Core.Path.{_≡_, refl, _∙_}
 use native.Mathlib.Omega.{arith}
 use borrow.Author.Needs.{needs}
 use lib.ListN.{length}
 use Rattle.steps.specs.Bare.{Prepared}
-use Rattle.interpreter.specs.BareRun.{SafeRun, bareRun}
-use Rattle.interpreter.specs.RunLaws.{carry, still-prepared, run-done, run-spent, safe-ready, run-go, safe-go, run-stop}
-use Rattle.interpreter.proofs.resume.resume.Statement.{statement}
-use Rattle.interpreter.proofs.resume.resume.Tie as tie
+use Rattle.runs.specs.BareRun.{SafeRun, bareRun}
+use Rattle.runs.specs.RunLaws.{carry, still-prepared, run-done, run-spent, safe-ready, run-go, safe-go, run-stop}
+use Rattle.runs.proofs.resume.Statement.{statement}
+use Rattle.runs.proofs.resume.Tie as tie
 
 abbrev Inv-loop : tie.InvT-loop
 Inv-loop table sections ends directory successors first values₀ cells₀ limit at₀ steps₀ values cells at steps =

@@ -9,12 +9,12 @@ use lib.IntN.{ℤ}
 use lib.ListN.{length}
 use Rattle.sections.specs.declared.Sections.{Sections}
 use Rattle.steps.specs.Bare.{bareMove, Ready, Prepared, Moves}
-use Rattle.interpreter.specs.BareRun.{Result, follow, bareRun, Onward, SafeRun, Ends}
+use Rattle.runs.specs.BareRun.{Result, follow, bareRun, Onward, SafeRun, Ends}
 use Rattle.stops.specs.declared.Check.{Check}
 use Rattle.steps.specs.declared.Step.{Step}
 use Rattle.steps.specs.declared.Step.the-variants.{Go, Stop}
-use Rattle.interpreter.specs.declared.Outcome.{Outcome}
-use Rattle.interpreter.specs.declared.Outcome.the-variants.{Done, Spent, Stopped}
+use Rattle.stops.specs.declared.Outcome.{Outcome}
+use Rattle.stops.specs.declared.Outcome.the-variants.{Done, Spent, Stopped}
 
 -- A run that is the same as another ends as that does.
 pub carry : {o p : Result} {r : Outcome} {vs cs : List ℕ} → o ≡ p → Ends p r vs cs → Ends o r vs cs

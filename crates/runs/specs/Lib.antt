@@ -1,0 +1,2 @@
+pub mod BareRun
+pub mod RunLaws
