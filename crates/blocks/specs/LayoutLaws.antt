@@ -12,7 +12,6 @@ use lib.Dec.{ltb, eqb}
 use Rattle.refusals.specs.declared.Refusal.{Refusal}
 use Rattle.refusals.specs.declared.Refusal.the-variants.{StatementRecord, BlockLayout}
 use Rattle.sections.specs.declared.Sections.{Sections}
-use Rattle.conditions.specs.declared.Condition.{Condition}
 use Rattle.statements.specs.declared.Simple.{Simple}
 use Rattle.statements.specs.declared.Statement.{Statement}
 use Rattle.statements.specs.declared.Statement.the-variants.{Plain, If, While, Bundle}
@@ -21,7 +20,10 @@ use Rattle.statements.specs.declared.StatementRead.the-variants.{Read, Unread}
 use Rattle.statements.specs.Statements.{statementAt}
 use Rattle.blocks.specs.declared.Layout.{Layout}
 use Rattle.blocks.specs.declared.Layout.the-variants.{LaidOut, Refused}
-use Rattle.blocks.specs.Layout.{maxDepth, maxBundle, also, when, contents, contentsFrom, bundleLayout, kindLayout, nodeLayout, blockLayout, verdict}
+use Rattle.blocks.specs.declared.Parts.{Parts}
+use Rattle.blocks.specs.declared.Parts.the-variants as parts
+use Rattle.blocks.specs.Parts.{Leads, Parted}
+use Rattle.blocks.specs.Layout.{maxDepth, maxBundle, also, when, contents, contentsFrom, bundleLayout, nodeLayout, blockLayout, verdict}
 
 -- Lists of refusals.
 
@@ -176,73 +178,36 @@ module _ {T : List ℤ} {h : Sections} {d end allowed : ℕ} {xs : List Refusal}
   pub turn-end : end ≤ at → LaidOut ≡ verdict xs
   turn-end p = laid-out xs (k .same ∙ block-end left T h d at end p)
 
-  module _ (some : 0 < left) (within : at < end) where
-    pub turn-unread : statementAt T h at ≡ Unread → Refused (StatementRecord at) ≡ verdict xs
-    unfolding verdict
-    turn-unread e = rw (k .same ∙ block-some left T h d at end _ some within e)
+  pub fewer : left - 1 ≤ allowed
+  fewer = omega (arith, k .less)
 
-    pub turn-deep : {s : Statement} → statementAt T h at ≡ Read s → maxDepth < d → Refused (BlockLayout at) ≡ verdict xs
-    turn-deep e p = refuse _ _ _ (lt-ltb _ _ p) ∙ ap verdict (sym (k .same ∙ block-some left T h d at end _ some within e))
+  pub falls : {t : ℕ} → 0 < left → allowed ≡ t → left - 1 < t
+  falls some e = omega (arith, some, k .less)
 
--- A turn of the loop, once its statement is read and not too deep.
-pub record Turn (T : List ℤ) (h : Sections) (d end allowed : ℕ) (xs : List Refusal) (at left : ℕ) (s : Statement) : Type 0 where
-  pub so-far : Kept T h d end allowed xs at left
-  pub some : 0 < left
-  pub within : at < end
-  pub read : statementAt T h at ≡ Read s
-  pub shallow : d ≤ maxDepth
+  module _ (some : 0 < left) {r : Parts} (p : Parted T h d at end r) where
+    pub turn-refused : {v : Refusal} → r ≡ parts.Refused v → Refused v ≡ verdict xs
+    turn-refused e = (rw e at (p .leads left some)) ∙ ap verdict (sym (k .same))
 
-module _ {T : List ℤ} {h : Sections} {d end allowed : ℕ} {xs : List Refusal} {at left : ℕ} where
-  pub arm : {s r : Statement} → Turn T h d end allowed xs at left s → s ≡ r → Turn T h d end allowed xs at left r
-  arm u e = rw e at u
+    pub turn-next : {x : ℕ} → r ≡ parts.Next x → Kept T h d end allowed xs x (left - 1)
+    turn-next e = record { same = k .same ∙ (rw e at (p .leads left some)); less = fewer }
 
-  pub falls : {s : Statement} {t : ℕ} → Turn T h d end allowed xs at left s → allowed ≡ t → left - 1 < t
-  falls u e = omega (arith, u .some, u .so-far .less)
+    module _ {x y : ℕ} (e : r ≡ parts.Blocks x y) where
+      blocks : Leads (parts.Blocks x y) T h d at end left
+      blocks = rw e at (p .leads left some)
 
-  rest : (s : Statement) → Turn T h d end allowed xs at left s → xs ≡ kindLayout s (λ e x y. blockLayout (left - 1) T h e x y) T h d at end
-  rest s u =
-      u .so-far .same
-      ∙ (block-some left T h d at end _ (u .some) (u .within) (u .read) ∙ skip _ _ _ (le-ltb _ _ (u .shallow)))
+      pub shallow : d ≤ maxDepth
+      shallow = blocks .0
 
-  fewer : {s : Statement} → Turn T h d end allowed xs at left s → left - 1 ≤ allowed
-  fewer u = omega (arith, u .so-far .less)
+      module _ {o : Layout} (w : o ≡ verdict (blockLayout (left - 1) T h (d + 1) (at + 1) x)) where
+        pub then-refused : {v : Refusal} → o ≡ Refused v → o ≡ verdict xs
+        then-refused q = refuse-part _ _ o _ w q ∙ ap verdict (sym (k .same ∙ blocks .1))
 
-  pub turn-plain : {p : Simple} → Turn T h d end allowed xs at left (Plain p) → Kept T h d end allowed xs (at + 1) (left - 1)
-  turn-plain {p} u = record { same = rest (Plain p) u; less = fewer u }
+        module _ (q : o ≡ LaidOut) {z : Layout} (u : z ≡ verdict (blockLayout (left - 1) T h (d + 1) x y)) where
+          past-then : xs ≡ also (blockLayout (left - 1) T h (d + 1) x y) (blockLayout (left - 1) T h d y end)
+          past-then = k .same ∙ (blocks .1 ∙ pass _ _ (none-refused _ o w q))
 
-  module _ {c : Condition} {n m : ℕ} (u : Turn T h d end allowed xs at left (If c n m)) where
-    pub if-past : end < at + 1 + n + m → Refused (BlockLayout at) ≡ verdict xs
-    if-past p = refuse _ _ _ (lt-ltb _ _ p) ∙ ap verdict (sym (rest (If c n m) u))
+          pub else-refused : {v : Refusal} → z ≡ Refused v → z ≡ verdict xs
+          else-refused f = refuse-part _ _ z _ u f ∙ ap verdict (sym past-then)
 
-    module _ (p : at + 1 + n + m ≤ end) {r : Layout} (w : r ≡ verdict (blockLayout (left - 1) T h (d + 1) (at + 1) (at + 1 + n))) where
-      pub then-refused : {v : Refusal} → r ≡ Refused v → r ≡ verdict xs
-      then-refused e = refuse-part _ _ r _ w e ∙ ap verdict (sym (rest (If c n m) u ∙ skip _ _ _ (le-ltb _ _ p)))
-
-      module _ (q : r ≡ LaidOut) {o : Layout} (z : o ≡ verdict (blockLayout (left - 1) T h (d + 1) (at + 1 + n) (at + 1 + n + m))) where
-        past-then : xs
-            ≡ also (blockLayout (left - 1) T h (d + 1) (at + 1 + n) (at + 1 + n + m)) (blockLayout (left - 1) T h d (at + 1 + n + m) end)
-        past-then = rest (If c n m) u ∙ (skip _ _ _ (le-ltb _ _ p) ∙ pass _ _ (none-refused _ r w q))
-
-        pub else-refused : {v : Refusal} → o ≡ Refused v → o ≡ verdict xs
-        else-refused e = refuse-part _ _ o _ z e ∙ ap verdict (sym past-then)
-
-        pub turn-if : o ≡ LaidOut → Kept T h d end allowed xs (at + 1 + n + m) (left - 1)
-        turn-if e = record { same = past-then ∙ pass _ _ (none-refused _ o z e); less = fewer u }
-
-  module _ {c : Condition} {n : ℕ} (u : Turn T h d end allowed xs at left (While c n)) where
-    pub while-past : end < at + 1 + n → Refused (BlockLayout at) ≡ verdict xs
-    while-past p = refuse _ _ _ (lt-ltb _ _ p) ∙ ap verdict (sym (rest (While c n) u))
-
-    module _ (p : at + 1 + n ≤ end) {r : Layout} (w : r ≡ verdict (blockLayout (left - 1) T h (d + 1) (at + 1) (at + 1 + n))) where
-      pub body-refused : {v : Refusal} → r ≡ Refused v → r ≡ verdict xs
-      body-refused e = refuse-part _ _ r _ w e ∙ ap verdict (sym (rest (While c n) u ∙ skip _ _ _ (le-ltb _ _ p)))
-
-      pub turn-while : r ≡ LaidOut → Kept T h d end allowed xs (at + 1 + n) (left - 1)
-      turn-while e = record { same = rest (While c n) u ∙ (skip _ _ _ (le-ltb _ _ p) ∙ pass _ _ (none-refused _ r w e)); less = fewer u }
-
-  module _ {n : ℕ} (u : Turn T h d end allowed xs at left (Bundle n)) {r : Layout} (w : r ≡ verdict (bundleLayout T h at n end)) where
-    pub bundle-refused : {v : Refusal} → r ≡ Refused v → r ≡ verdict xs
-    bundle-refused e = refuse-part _ _ r _ w e ∙ ap verdict (sym (rest (Bundle n) u))
-
-    pub turn-bundle : r ≡ LaidOut → Kept T h d end allowed xs (at + 1 + n) (left - 1)
-    turn-bundle e = record { same = rest (Bundle n) u ∙ pass _ _ (none-refused _ r w e); less = fewer u }
+          pub turn-blocks : z ≡ LaidOut → Kept T h d end allowed xs y (left - 1)
+          turn-blocks f = record { same = past-then ∙ pass _ _ (none-refused _ z u f); less = fewer }

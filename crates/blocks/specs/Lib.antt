@@ -2,3 +2,5 @@ pub mod Tree
 pub mod TreeLaws
 pub mod Layout
 pub mod LayoutLaws
+pub mod Parts
+pub mod PartsLaws

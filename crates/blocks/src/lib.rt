@@ -7,6 +7,7 @@ use statements::read_statement;
 ghost use mathlib.Core.Path.{_≡_};
 ghost use Prim.Native.Nat.{_<_};
 ghost use Rattle.blocks.specs.Layout.{verdict, contents, bundleLayout, blockLayout, layout};
+ghost use Rattle.blocks.specs.Parts.{blocksOf, Parted};
 
 // Blocks hold blocks to this depth; top statements have depth 0.
 const MAX_DEPTH: usize = 8;
@@ -18,6 +19,13 @@ const MAX_BUNDLE: usize = 16;
 pub enum Layout {
     LaidOut,
     Refused(Refusal),
+}
+
+// What a statement of a block leads to: a refusal, the next statement, or two blocks and the statement behind them.
+enum Parts {
+    Refused(Refusal),
+    Next(usize),
+    Blocks { middle: usize, rest: usize },
 }
 
 // The contents of a bundle: `count` statements from `first` on, its head at `head`.
@@ -64,6 +72,58 @@ fn lay_bundle(table: &[i32], sections: Sections, head: usize, count: usize, end:
     lay_contents(table, sections, head, first, count)
 }
 
+// Two blocks behind the head at `head`, of these counts, in a block that ends at `end`.
+fn split(head: usize, then: usize, other: usize, end: usize) -> Parts
+    requires { ⌜ head < end ⌝ }
+    ensures { λ r. ⌜ r ≡ blocksOf head then other end ⌝ }
+{
+    let inner = head + 1;
+    if then > end - inner {
+        return Parts::Refused(Refusal::BlockLayout(head));
+    }
+    let middle = inner + then;
+    if other > end - middle {
+        return Parts::Refused(Refusal::BlockLayout(head));
+    }
+    Parts::Blocks {
+        middle: middle,
+        rest: middle + other,
+    }
+}
+
+// The parts of the statement at `at`, in a block of the depth `depth` that ends at `end`. The body of a loop is a block beside an empty one.
+fn read_parts(table: &[i32], sections: Sections, depth: usize, at: usize, end: usize) -> Parts
+    requires { ⌜ at < end ⌝ }
+    ensures { λ r. ⌜ Parted (now (table .entry)) sections depth at end r ⌝ }
+{
+    let got = read_statement(table, sections, at);
+    let StatementRead::Read(s) = got else {
+        return Parts::Refused(Refusal::StatementRecord(at));
+    };
+    if depth > MAX_DEPTH {
+        return Parts::Refused(Refusal::BlockLayout(at));
+    }
+    match s {
+        Statement::Plain(_) => Parts::Next(at + 1),
+        Statement::If {
+            condition: _,
+            then_count,
+            else_count,
+        } => split(at, then_count, else_count, end),
+        Statement::While {
+            condition: _,
+            count,
+        } => split(at, count, 0, end),
+        Statement::Bundle { count } => {
+            let held = lay_bundle(table, sections, at, count, end);
+            match held {
+                Layout::Refused(refusal) => Parts::Refused(refusal),
+                Layout::LaidOut => Parts::Next(at + 1 + count),
+            }
+        }
+    }
+}
+
 // The block of `first` to `end` - 1, at the depth `depth`. `allowed` is at least the number of its statements; it falls at each.
 fn lay_block(
     table: &[i32],
@@ -82,33 +142,16 @@ fn lay_block(
             break;
         }
         left -= 1;
-        let got = read_statement(table, sections, at);
-        let StatementRead::Read(s) = got else {
-            return Layout::Refused(Refusal::StatementRecord(at));
-        };
-        if depth > MAX_DEPTH {
-            return Layout::Refused(Refusal::BlockLayout(at));
-        }
-        let inner = at + 1;
-        let room = end - inner;
-        match s {
-            Statement::Plain(_) => {
-                at = inner;
+        let parts = read_parts(table, sections, depth, at, end);
+        match parts {
+            Parts::Refused(refusal) => {
+                return Layout::Refused(refusal);
             }
-            Statement::If {
-                condition: _,
-                then_count,
-                else_count,
-            } => {
-                if then_count > room {
-                    return Layout::Refused(Refusal::BlockLayout(at));
-                }
-                let middle = inner + then_count;
-                if else_count > end - middle {
-                    return Layout::Refused(Refusal::BlockLayout(at));
-                }
-                let rest = middle + else_count;
-                let then = lay_block(table, sections, depth + 1, inner, middle, left);
+            Parts::Next(next) => {
+                at = next;
+            }
+            Parts::Blocks { middle, rest } => {
+                let then = lay_block(table, sections, depth + 1, at + 1, middle, left);
                 let Layout::LaidOut = then else {
                     return then;
                 };
@@ -117,27 +160,6 @@ fn lay_block(
                     return other;
                 };
                 at = rest;
-            }
-            Statement::While {
-                condition: _,
-                count,
-            } => {
-                if count > room {
-                    return Layout::Refused(Refusal::BlockLayout(at));
-                }
-                let rest = inner + count;
-                let body = lay_block(table, sections, depth + 1, inner, rest, left);
-                let Layout::LaidOut = body else {
-                    return body;
-                };
-                at = rest;
-            }
-            Statement::Bundle { count } => {
-                let held = lay_bundle(table, sections, at, count, end);
-                let Layout::LaidOut = held else {
-                    return held;
-                };
-                at = inner + count;
             }
         }
     }
