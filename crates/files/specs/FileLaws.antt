@@ -1,41 +1,22 @@
--- The parts of a line put together, and the verdict on a file.
+-- The verdict on a file.
 use Prim.Native.Nat.{ℕ, _*_, _/_, _%_, _≤_, _<_}
 use mathlib.Core.Path.{_≡_, refl, ap, _∙_}
 use native.Mathlib.Omega.{arith}
 use mathlib.Core.Bool.{Bool, true, false, _&&_}
-use mathlib.Core.List.{List, [], _∷_, _++_, append-assoc}
+use mathlib.Core.List.{List, [], _∷_}
 use borrow.Author.Tests.{eq-eqb, ne-eqb, lt-leb}
 use lib.Dec.{leb}
 use lib.IntN.{ℤ}
 use lib.ListN.{length, take}
 use Rattle.facts.specs.Tabulate.{tabulate, length-tabulate}
-use Rattle.refusals.specs.Refusals.{number, place, pointer}
-use Rattle.refusals.specs.declared.Refusal.{Refusal}
 use Rattle.refusals.specs.declared.Refusal.the-variants.{Length}
 use Rattle.table.specs.Form.{lengthRight, formOf}
 use Rattle.rules.specs.Rules.{refusal}
 use Rattle.rules.specs.Verdict.{faults, Answers}
 use Rattle.rules.specs.declared.Verdict.{Verdict}
 use Rattle.rules.specs.declared.Verdict.the-variants.{Refused}
-use Rattle.text.specs.Text.{bytesOf, textOf, decimal, Grown}
 use Rattle.encoding.specs.Words.{wordAt, WordsRead}
-use Rattle.files.specs.Files.{space, lineFeed, refusedWord, spaced, refusedLine, wordsOf, fileFaults}
-use Rattle.text.specs.declared.Text.{Text}
-
--- "refused ", the number, a space, the place.
-abbrev pub started : ℕ → ℕ → List ℕ
-started n p = (((([] ++ (refusedWord ++ (space ∷ []))) ++ decimal 20 n) ++ (space ∷ [])) ++ decimal 20 p)
-
-pub line-of-eight : (r : Refusal) {n p q : ℕ} {t : Text} → n ≡ number r → p ≡ place r → q ≡ pointer r → n ≡ 8
-    → Grown [] (((started n p ++ (space ∷ [])) ++ decimal 20 q) ++ (lineFeed ∷ [])) 0 t → textOf t ≡ refusedLine r
-unfolding refusedLine spaced refusedWord bytesOf
-line-of-eight r {n} {p} {q} en ep eq e g = g .text ∙ rw (← en, ← ep, ← eq, eq-eqb n 8 e) (simp append-assoc)
-
-pub line-of-other : (r : Refusal) {n p : ℕ} {t : Text} → n ≡ number r → p ≡ place r → (n ≡ 8 → ⊥) → Grown [] (started n p ++ (lineFeed ∷ [])) 0 t → textOf t ≡ refusedLine r
-unfolding refusedLine spaced refusedWord bytesOf
-line-of-other r {n} {p} en ep e g = g .text ∙ rw (← en, ← ep, ne-eqb n 8 e) (simp append-assoc)
-
--- ---- the verdict on a file
+use Rattle.files.specs.Files.{wordsOf, fileFaults}
 
 and-false : (a : Bool) → (a && false) ≡ false
 and-false true = refl

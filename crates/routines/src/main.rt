@@ -12,7 +12,7 @@ fn show(letter: u8) {
     let mut bytes = io::large_buffer();
     let size = io::read_full(file, &mut bytes);
     libc::close(file);
-    let line = files::verdict_line(files::check_file(&bytes[..size]));
+    let line = verdicts::verdict_line(files::check_file(&bytes[..size]));
     let head = [b'(', letter, b')', b' '];
     io::write_all(STDOUT_FILENO, &head);
     console::write_text(line);
