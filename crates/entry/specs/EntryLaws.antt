@@ -12,11 +12,9 @@ use Rattle.sums.specs.Numbers.{bias}
 use Rattle.refusals.specs.declared.Refusal.{Refusal}
 use Rattle.refusals.specs.declared.Refusal.the-variants.{MemorySize, DirectoryPair, EntryLengths, EntryValue}
 use Rattle.sections.specs.declared.Sections.{Sections}
-use Rattle.variables.specs.declared.End.{End}
 use Rattle.rules.specs.declared.Environment.{Environment}
 use Rattle.machine.specs.Machine.{originHolds}
 use Rattle.entry.specs.Entry.{memoryRight, endBefore, pairRight, lengthsRight, entryRight, failures, entryRefusals}
-use Rattle.entry.specs.Ends.{endNumber}
 use Rattle.entry.specs.Entered.{entered}
 use Rattle.entry.specs.declared.EntryVerdict.{EntryVerdict}
 use Rattle.entry.specs.declared.EntryVerdict.the-variants.{Begun, Refused}
@@ -118,11 +116,3 @@ module _ (h : Sections) (E : Environment) (D cs vs os : List ℕ) where
       pub enter-values : (r : EntryVerdict) → lengthsRight h vs os ≡ true → r ≡ entered (failures (entryRight h E D vs os) EntryValue (h .variables) 0) → r ≡ entered (entryRefusals h E D cs vs os)
       unfolding entryRefusals
       enter-values r l e = rw (m, begun-none pairs p, l) e
-
--- ---- the numbers of an end
-
-pub number-else : (e : End) (j : ℕ) → (j ≡ 0 → ⊥) → (j ≡ 1 → ⊥) → e .constant ≡ endNumber e j
-unfolding endNumber
-number-else e zero p q = absurd (p refl)
-number-else e (suc zero) p q = absurd (q refl)
-number-else e (suc (suc n)) p q = refl

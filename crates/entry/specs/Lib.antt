@@ -1,4 +1,3 @@
 pub mod Entry
 pub mod Entered
-pub mod Ends
 pub mod EntryLaws

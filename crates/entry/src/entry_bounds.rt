@@ -1,5 +1,5 @@
 // Whether declared bounds are true at entry. Ends are whole numbers: a constant of any size is compared without a sum that wraps.
-use crate::ends::end_of;
+use ends::end_of;
 use lookups::bounds_at;
 use machine::value_at;
 use rules::Environment;

@@ -1,9 +1,7 @@
-// What is looked at before a run begins: causes 10 to 12; and declared bounds laid out for the run's loop.
+// What is looked at before a run begins: causes 10 to 12.
 mod entry_bounds; // entry_bounds.rt: whether declared bounds are true at entry
-mod ends; // ends.rt: declared bounds laid out for the loop
 mod entry; // entry.rt: causes 10 to 12
 
-pub use ends::lay_ends;
 pub use entry::enter;
 use refusals::Refusal;
 

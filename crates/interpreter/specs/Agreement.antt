@@ -16,7 +16,7 @@ use Rattle.machine.specs.Machine.{high, Status, going, stopped, stuck, Point, s
 use Rattle.stops.specs.Checks.{checkOf}
 use Rattle.steps.specs.Bare.{Move, move}
 use Rattle.runs.specs.BareRun.{Result, result}
-use Rattle.entry.specs.Ends.{endsOf}
+use Rattle.ends.specs.Ends.{endsOf}
 use Rattle.steps.specs.declared.Step.{Step}
 use Rattle.steps.specs.declared.Step.the-variants.{Go, Stop}
 use Rattle.stops.specs.declared.Outcome.{Outcome}

@@ -31,7 +31,7 @@ use Rattle.steps.specs.Bare.{valuesAfter, cellsAfter, stepUnless, changedUnless
 use Rattle.runs.specs.BareRun.{Result, result, pickResult, follow, bareRun, IfTrue, Onward, SafeRun}
 use Rattle.stops.specs.Checks.{checkOf}
 use Rattle.interpreter.specs.Agreement.{stepShown, moveShown, pickOutcome, outcomeShown, resultShown, Runnable}
-use Rattle.entry.specs.Ends.{endsOf}
+use Rattle.ends.specs.Ends.{endsOf}
 use Rattle.interpreter.specs.EndsLaws.{failing-same}
 use Rattle.steps.specs.declared.Step.{Step}
 use Rattle.steps.specs.declared.Step.the-variants.{Go}

@@ -37,7 +37,7 @@ use Rattle.interpreter.specs.StepLaws.{StepFacts, point-step, stop-same,
 use Rattle.interpreter.specs.NumberLaws.{number-of, statement-of, check-of, stopped-number}
 use Rattle.entry.specs.Entry.{entryRefusals}
 use Rattle.interpreter.specs.BegunLaws.{entry-begun}
-use Rattle.entry.specs.Ends.{endsOf}
+use Rattle.ends.specs.Ends.{endsOf}
 use Rattle.steps.specs.Bare.{Prepared}
 use Rattle.runs.specs.BareRun.{Result, Ends, SafeRun, bareRun}
 use Rattle.interpreter.specs.StartLaws.{admitted, start-prepared, start-safe, start-agrees}

@@ -29,7 +29,7 @@ use Rattle.rules.specs.declared.KnownEnd.the-variants.{Unknown}
 use Rattle.rules.specs.declared.Bounds.{Bounds}
 use Rattle.rules.specs.declared.Environment.{Environment}
 use Rattle.machine.specs.Machine.{value, endValue, endOf, lowerEnd, upperEnd, address, none, firstOf, accessFailing, failing}
-use Rattle.entry.specs.Ends.{endNumber, boundsNumber, endsOf}
+use Rattle.ends.specs.Ends.{endNumber, boundsNumber, endsOf}
 use Rattle.steps.specs.Bare.{boundsIn, declaredIn}
 
 pub ends-long : (E : Environment) → length (endsOf E) ≡ 96

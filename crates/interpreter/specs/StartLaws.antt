@@ -28,7 +28,7 @@ use Rattle.machine.specs.Machine.{value, high, boundsTrue, stuck, start, pointA
 use Rattle.entry.specs.Entry.{memoryRight, endBefore, pairRight, lengthsRight, entryRight, consUnless, failures, entryRefusals}
 use Rattle.steps.specs.Bare.{Prepared}
 use Rattle.runs.specs.BareRun.{bareRun, SafeRun}
-use Rattle.entry.specs.Ends.{endsOf}
+use Rattle.ends.specs.Ends.{endsOf}
 use Rattle.interpreter.specs.EndsLaws.{ends-long, ends-small}
 use Rattle.interpreter.specs.Agreement.{resultShown, Runnable}
 use Rattle.interpreter.specs.AgreementLaws.{safe-run, run-agrees}

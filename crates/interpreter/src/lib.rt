@@ -1,8 +1,8 @@
 // The interpreter: the run of an accepted routine.
 use checker::check;
+use ends::lay_ends;
 use entry::EntryVerdict;
 use entry::enter;
-use entry::lay_ends;
 use flow::write_successors;
 use rules::Verdict;
 use rules::read_environment;

@@ -26,7 +26,7 @@ fn read_routine(name: &[u8], table: &mut [i32]) -> usize
     let mut bytes = io::large_buffer();
     let size = io::read_full(file, &mut bytes);
     libc::close(file);
-    console::write_text(verdicts::verdict_line(files::check_file(&bytes[..size])));
+    console::write_text(lines::verdict_line(files::check_file(&bytes[..size])));
     encoding::read_words(&bytes[..size], table)
 }
 

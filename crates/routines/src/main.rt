@@ -1,4 +1,4 @@
-// Prints the verdicts on the paper's routines (a) to (l), which stand in data/ as files.
+// Prints the lines on the paper's routines (a) to (l), which stand in data/ as files.
 use libc::STDOUT_FILENO;
 
 // The letter, and the verdict on the file that it names.
@@ -12,7 +12,7 @@ fn show(letter: u8) {
     let mut bytes = io::large_buffer();
     let size = io::read_full(file, &mut bytes);
     libc::close(file);
-    let line = verdicts::verdict_line(files::check_file(&bytes[..size]));
+    let line = lines::verdict_line(files::check_file(&bytes[..size]));
     let head = [b'(', letter, b')', b' '];
     io::write_all(STDOUT_FILENO, &head);
     console::write_text(line);

@@ -20,6 +20,6 @@ fn main() {
     let mut bytes = io::large_buffer();
     let size = io::read_full(STDIN_FILENO, &mut bytes);
     skip_rest();
-    let line = verdicts::verdict_line(files::check_file(&bytes[..size]));
+    let line = lines::verdict_line(files::check_file(&bytes[..size]));
     console::write_text(line);
 }

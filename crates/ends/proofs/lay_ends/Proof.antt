@@ -1,4 +1,4 @@
--- `entry::ends::lay_ends` meets its contract.
+-- `ends::lay_ends` meets its contract.
 use Prim.Native.Nat.{_-_, _/_, _%_}
 use mathlib.Core.Path.{_≡_, ap, _∙_}
 use native.Mathlib.Omega.{arith}
@@ -7,9 +7,9 @@ use lib.ListN.{length, getD}
 use Rattle.facts.specs.Tabulate.{any-default, Filled, filled-none, filled-more, filled-whole, length-under}
 use Rattle.rules.specs.BoundsRules.{nothingKnown}
 use Rattle.rules.specs.declared.Bounds.{Bounds}
-use Rattle.entry.specs.Ends.{boundsNumber, endsOf}
-use Rattle.entry.proofs.ends.lay_ends.Statement.{statement}
-use Rattle.entry.proofs.ends.lay_ends.Tie as tie
+use Rattle.ends.specs.Ends.{boundsNumber, endsOf}
+use Rattle.ends.proofs.lay_ends.Statement.{statement}
+use Rattle.ends.proofs.lay_ends.Tie as tie
 
 abbrev Inv-loop : tie.InvT-loop
 Inv-loop declared ends₀ i₀ ends i = Filled ends ends₀ 96 (λ n. boundsNumber (getD declared (n / 6) nothingKnown) (n % 6)) i

@@ -1,12 +1,12 @@
--- `verdicts::verdict_line` meets its contract.
+-- `lines::verdict_line` meets its contract.
 use mathlib.Core.Path.{sym, ap, _∙_}
 use native.Mathlib.Omega.{arith}
 use borrow.Author.Needs.{needs}
 use Rattle.text.specs.Text.{bytesOf}
 use Rattle.text.specs.TextLaws.{grown-both}
-use Rattle.verdicts.specs.Lines.{acceptedWord, lineOf}
-use Rattle.verdicts.proofs.verdict_line.Statement.{statement}
-use Rattle.verdicts.proofs.verdict_line.Tie as tie
+use Rattle.lines.specs.Lines.{acceptedWord, lineOf}
+use Rattle.lines.proofs.verdict_line.Statement.{statement}
+use Rattle.lines.proofs.verdict_line.Tie as tie
 
 pub verdict-line-spec : {M : Type 1} → statement M
 unfolding bytesOf acceptedWord lineOf

@@ -5,10 +5,10 @@ use rules::KnownEnd;
 use variables::End;
 ghost use mathlib.Core.Path.{_≡_};
 ghost use Rattle.machine.specs.Machine.{endOf};
-ghost use Rattle.entry.specs.Ends.{endNumber, boundsNumber, endsOf};
+ghost use Rattle.ends.specs.Ends.{endNumber, boundsNumber, endsOf};
 
 // The end of a declared bound; an integer has none.
-pub(crate) fn end_of(e: KnownEnd) -> End
+pub fn end_of(e: KnownEnd) -> End
     ensures { λ r. ⌜ r ≡ endOf e ⌝ }
 {
     match e {

@@ -1,7 +1,7 @@
--- `entry::ends::end_of` meets its contract.
+-- `ends::end_of` meets its contract.
 use borrow.Author.Needs.{needs}
-use Rattle.entry.proofs.ends.end_of.Statement.{statement}
-use Rattle.entry.proofs.ends.end_of.Tie as tie
+use Rattle.ends.proofs.end_of.Statement.{statement}
+use Rattle.ends.proofs.end_of.Tie as tie
 
 pub end-of-spec : {M : Type 1} → statement M
 end-of-spec =

@@ -7,7 +7,7 @@ use Rattle.refusals.specs.Refusals.{number, place, pointer}
 use Rattle.refusals.specs.declared.Refusal.{Refusal}
 use Rattle.text.specs.Text.{bytesOf, textOf, decimal, Grown}
 use Rattle.text.specs.declared.Text.{Text}
-use Rattle.verdicts.specs.Lines.{space, lineFeed, refusedWord, spaced, refusedLine}
+use Rattle.lines.specs.Lines.{space, lineFeed, refusedWord, spaced, refusedLine}
 
 -- "refused ", the number, a space, the place.
 abbrev pub started : ℕ → ℕ → List ℕ

@@ -3,7 +3,7 @@ use refusals::Refusal;
 use rules::Verdict;
 use text::Text;
 ghost use Rattle.text.specs.Text.{Line};
-ghost use Rattle.verdicts.specs.Lines.{lineOf, refusedLine};
+ghost use Rattle.lines.specs.Lines.{lineOf, refusedLine};
 
 // "refused", number and place; for refusal 8 number, statement and pointer.
 fn refused_line(r: Refusal) -> Text

@@ -1,9 +1,9 @@
--- `entry::ends::bounds_number` meets its contract.
+-- `ends::bounds_number` meets its contract.
 use borrow.Author.Needs.{needs}
 use borrow.Author.Tests.{lt-ltb, le-ltb}
-use Rattle.entry.specs.Ends.{boundsNumber}
-use Rattle.entry.proofs.ends.bounds_number.Statement.{statement}
-use Rattle.entry.proofs.ends.bounds_number.Tie as tie
+use Rattle.ends.specs.Ends.{boundsNumber}
+use Rattle.ends.proofs.bounds_number.Statement.{statement}
+use Rattle.ends.proofs.bounds_number.Tie as tie
 
 pub bounds-number-spec : {M : Type 1} → statement M
 unfolding boundsNumber
