@@ -1,9 +1,9 @@
 // The walk over a bundle.
+use asked::asked_sum;
 use bounds::KnownBounds;
 use bounds::bounds_after;
 use declared::access_shown;
 use declared::check_known;
-use effects::asked_sum;
 use effects::plan_statement;
 use facts::FactSet;
 use reader::read_due;

@@ -1,9 +1,9 @@
 // The walk over the statements.
+use asked::asked_sum;
 use bundles::Walked;
 use bundles::walk_bundle;
 use conditions::negated;
 use declared::check_effect;
-use effects::asked_sum;
 use effects::assume;
 use effects::plan_statement;
 use facts::FactSet;

@@ -26,8 +26,9 @@ use Rattle.rules.specs.FactRules.{pickFacts, equated, positive, differs, relati
 use Rattle.rules.specs.BoundsRules.{effect}
 use Rattle.rules.specs.Ranges.{InRange}
 use Rattle.effects.specs.declared.Plan.{Plan}
-use Rattle.effects.specs.declared.Sum.{Sum}
-use Rattle.effects.specs.Applied.{Applied, withLengths, applied, sourceAsked, constantAsked, Plans}
+use Rattle.asked.specs.declared.Sum.{Sum}
+use Rattle.asked.specs.Asked.{sourceAsked, constantAsked}
+use Rattle.effects.specs.Applied.{Applied, withLengths, applied, Plans}
 use Rattle.rules.specs.declared.Effect.{Effect}
 use Rattle.rules.specs.declared.Effect.the-variants.{Forget, Shift, Copy}
 use Rattle.rules.specs.declared.Environment.{Environment}

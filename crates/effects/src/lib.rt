@@ -25,18 +25,12 @@ ghost use Rattle.rules.specs.FactRules.{pickFacts, positive};
 ghost use Rattle.rules.specs.BoundsRules.{pickEffect};
 ghost use Rattle.rules.specs.Ranges.{InRange};
 ghost use Rattle.facts.specs.Store.{added, dropped, ranged};
-ghost use Rattle.effects.specs.Applied.{Makes, Adds, Assumes, Plans, sourceAsked, constantAsked};
+ghost use Rattle.effects.specs.Applied.{Makes, Adds, Assumes, Plans};
 
 // What a statement does to the facts and to known bounds.
 pub struct Plan {
     pub change: Change,
     pub effect: Effect,
-}
-
-// A sum, source + constant.
-pub struct Sum {
-    pub source: usize,
-    pub constant: u64,
 }
 
 // The changes below say in their contracts what they make of any facts.
@@ -100,23 +94,6 @@ pub fn assume(condition: Condition) -> Change
             }
             one(ZERO, x, BIAS - 1)
         }
-    }
-}
-
-// The sum of which a plan has to know whether it is in range; of a kind that need not know, a plain copy, which always counts as in range.
-pub fn asked_sum(simple: Simple) -> Sum
-    ensures { λ r. ⌜ (r .source ≡ sourceAsked simple) × (r .constant ≡ constantAsked simple) ⌝ }
-{
-    match simple {
-        Simple::AddConstant {
-            target: _,
-            source,
-            constant,
-        } => Sum { source, constant },
-        _ => Sum {
-            source: 0,
-            constant: BIAS,
-        },
     }
 }
 

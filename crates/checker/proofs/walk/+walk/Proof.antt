@@ -13,7 +13,7 @@ use Rattle.checker.specs.WalkLaws.{Kept, Turn, arm, placed, falls as lef
 use Rattle.checker.proofs.walk.walk.Reads as walk
 use Rattle.checker.proofs.walk.walk.Kinds as walk-kinds
 use Rattle.checker.proofs.walk.+walk.Lts-walk as walk-lts
-use Rattle.effects.proofs.asked_sum.Reads as asked-sum-reads
+use Rattle.asked.proofs.asked_sum.Reads as asked-sum-reads
 use Rattle.effects.proofs.plan_statement.Reads as plan-statement-reads
 use Rattle.shown.proofs.in_range.Reads as in-range-reads
 use Rattle.facts.proofs.FactSet.after.Reads as after-reads

@@ -9,7 +9,7 @@ use Rattle.sums.specs.Numbers.{bias}
 use Rattle.statements.proofs.Simple as simple-enum
 use Rattle.statements.specs.declared.Simple.{Simple}
 use Rattle.statements.specs.declared.Simple.the-variants.{Literal, AddConstant, Arithmetic, Null, Address, PointerOffset, PointerIndex, Load, Store, Check}
-use Rattle.effects.specs.Applied.{sourceAsked, constantAsked}
+use Rattle.asked.specs.Asked.{sourceAsked, constantAsked}
 
 -- Only kind 2 asks for a sum.
 pub no-sum : (s : Simple) → OneOf (0 ∷ 2 ∷ 3 ∷ 4 ∷ 5 ∷ 6 ∷ 7 ∷ 8 ∷ 9 ∷ []) (tagOf simple-enum.the-type s) → (0 ≡ sourceAsked s) × (bias ≡ constantAsked s)

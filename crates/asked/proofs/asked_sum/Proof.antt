@@ -1,8 +1,8 @@
--- `effects::asked_sum` meets its contract.
+-- `asked::asked_sum` meets its contract.
 use borrow.Author.Needs.{needs}
-use Rattle.effects.proofs.Variants.{no-sum}
-use Rattle.effects.proofs.asked_sum.Statement.{statement}
-use Rattle.effects.proofs.asked_sum.Tie as tie
+use Rattle.asked.proofs.Variants.{no-sum}
+use Rattle.asked.proofs.asked_sum.Statement.{statement}
+use Rattle.asked.proofs.asked_sum.Tie as tie
 
 pub asked-sum-spec : {M : Type 1} → statement M
 asked-sum-spec =
