@@ -1,4 +1,4 @@
--- The ends of declared bounds as the run's loop has them: six numbers a pointer (`boundsIn` of steps/specs/Bare reads them).
+-- The ends of declared bounds as the run's loop has them: six numbers a pointer (`boundsIn` of checks/specs/Checked reads them).
 use Prim.Native.Nat.{ℕ, zero, suc, _-_, _/_, _%_}
 use mathlib.Core.List.{List}
 use lib.Dec.{ltb}

@@ -17,8 +17,8 @@ use Rattle.stops.specs.Checks.{checkOf}
 use Rattle.steps.specs.Bare.{Move, move}
 use Rattle.runs.specs.BareRun.{Result, result}
 use Rattle.ends.specs.Ends.{endsOf}
-use Rattle.steps.specs.declared.Step.{Step}
-use Rattle.steps.specs.declared.Step.the-variants.{Go, Stop}
+use Rattle.checks.specs.declared.Step.{Step}
+use Rattle.checks.specs.declared.Step.the-variants.{Go, Stop}
 use Rattle.stops.specs.declared.Outcome.{Outcome}
 use Rattle.stops.specs.declared.Outcome.the-variants.{Done, Spent, Stopped}
 

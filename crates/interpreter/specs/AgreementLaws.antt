@@ -27,14 +27,15 @@ use Rattle.flow.specs.Flow.{Successors}
 use Rattle.flow.specs.Shape.{entriesAt}
 use Rattle.rules.specs.declared.Environment.{Environment}
 use Rattle.machine.specs.Machine.{low, high, address, inOrigin, conditionHolds, Failing, none, fails, failing, Status, going, stopped, stuck, Point, Memory, Performed, done, no-step, stepIf, performed, memoryOf, afterChecks, branched, statementStep, stepIfDue, nextPoint, pointAfter}
-use Rattle.steps.specs.Bare.{valuesAfter, cellsAfter, stepUnless, changedUnless, Move, move, simpleMove, statementMove, bareMove, InCells, InsideSimple, Inside, Ready}
+use Rattle.checks.specs.Checked.{stepUnless}
+use Rattle.steps.specs.Bare.{valuesAfter, cellsAfter, changedUnless, Move, move, simpleMove, statementMove, bareMove, InCells, InsideSimple, Inside, Ready}
 use Rattle.runs.specs.BareRun.{Result, result, pickResult, follow, bareRun, IfTrue, Onward, SafeRun}
 use Rattle.stops.specs.Checks.{checkOf}
 use Rattle.interpreter.specs.Agreement.{stepShown, moveShown, pickOutcome, outcomeShown, resultShown, Runnable}
 use Rattle.ends.specs.Ends.{endsOf}
 use Rattle.interpreter.specs.EndsLaws.{failing-same}
-use Rattle.steps.specs.declared.Step.{Step}
-use Rattle.steps.specs.declared.Step.the-variants.{Go}
+use Rattle.checks.specs.declared.Step.{Step}
+use Rattle.checks.specs.declared.Step.the-variants.{Go}
 use Rattle.stops.specs.declared.Outcome.the-variants.{Done, Spent, Stopped}
 
 -- ---- what a statement of kinds 1 to 10 leaves

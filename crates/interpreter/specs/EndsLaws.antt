@@ -30,7 +30,7 @@ use Rattle.rules.specs.declared.Bounds.{Bounds}
 use Rattle.rules.specs.declared.Environment.{Environment}
 use Rattle.machine.specs.Machine.{value, endValue, endOf, lowerEnd, upperEnd, address, none, firstOf, accessFailing, failing}
 use Rattle.ends.specs.Ends.{endNumber, boundsNumber, endsOf}
-use Rattle.steps.specs.Bare.{boundsIn, declaredIn}
+use Rattle.checks.specs.Checked.{boundsIn, declaredIn}
 
 pub ends-long : (E : Environment) → length (endsOf E) ≡ 96
 unfolding endsOf

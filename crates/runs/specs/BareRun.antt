@@ -7,8 +7,8 @@ use lib.Dec.{ltb}
 use lib.IntN.{ℤ}
 use Rattle.sections.specs.declared.Sections.{Sections}
 use Rattle.steps.specs.Bare.{bareMove, Ready}
-use Rattle.steps.specs.declared.Step.{Step}
-use Rattle.steps.specs.declared.Step.the-variants.{Go, Stop}
+use Rattle.checks.specs.declared.Step.{Step}
+use Rattle.checks.specs.declared.Step.the-variants.{Go, Stop}
 use Rattle.stops.specs.declared.Outcome.{Outcome}
 use Rattle.stops.specs.declared.Outcome.the-variants.{Done, Spent, Stopped}
 

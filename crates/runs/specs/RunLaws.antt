@@ -11,8 +11,8 @@ use Rattle.sections.specs.declared.Sections.{Sections}
 use Rattle.steps.specs.Bare.{bareMove, Ready, Prepared, Moves}
 use Rattle.runs.specs.BareRun.{Result, follow, bareRun, Onward, SafeRun, Ends}
 use Rattle.stops.specs.declared.Check.{Check}
-use Rattle.steps.specs.declared.Step.{Step}
-use Rattle.steps.specs.declared.Step.the-variants.{Go, Stop}
+use Rattle.checks.specs.declared.Step.{Step}
+use Rattle.checks.specs.declared.Step.the-variants.{Go, Stop}
 use Rattle.stops.specs.declared.Outcome.{Outcome}
 use Rattle.stops.specs.declared.Outcome.the-variants.{Done, Spent, Stopped}
 

@@ -1,6 +1,6 @@
 // The run: steps from a statement on, up to a limit.
+use checks::Step;
 use sections::Sections;
-use steps::Step;
 use steps::advance;
 use stops::Outcome;
 ghost use Rattle.steps.specs.Bare.{Prepared};

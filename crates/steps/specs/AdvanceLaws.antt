@@ -12,10 +12,11 @@ use Rattle.conditions.specs.declared.Condition.{Condition}
 use Rattle.statements.specs.declared.Simple.{Simple}
 use Rattle.statements.specs.declared.Simple.the-variants.{Literal, AddConstant, Arithmetic, Null, Address, PointerOffset, PointerIndex, Load, Store, Check as Test}
 use Rattle.machine.specs.Machine.{value, address, conditionHolds, Failing, none, fails, firstOf, failing, accessFailing, arithmeticFailing, combined}
-use Rattle.steps.specs.Bare.{declaredIn, offsetFailing, indexFailing, stepUnless, changedUnless, valuesAfter, cellsAfter, simpleMove, Moves, Assigns}
+use Rattle.checks.specs.Checked.{declaredIn, stepUnless}
+use Rattle.steps.specs.Bare.{offsetFailing, indexFailing, changedUnless, valuesAfter, cellsAfter, simpleMove, Moves, Assigns}
 use Rattle.stops.specs.declared.Check.{Check}
-use Rattle.steps.specs.declared.Step.{Step}
-use Rattle.steps.specs.declared.Step.the-variants.{Go, Stop}
+use Rattle.checks.specs.declared.Step.{Step}
+use Rattle.checks.specs.declared.Step.the-variants.{Go, Stop}
 
 -- ---- a step with checks
 

@@ -1,13 +1,11 @@
 -- A step of the plain machine without origins, which is what the code does.
 use Prim.Native.Nat.{ℕ, _+_, _-_, _*_, _%_, _^_, _<_, _≤_}
 use mathlib.Core.Path.{_≡_}
-use mathlib.Core.Bool.{Bool, true, false}
-use mathlib.Core.List.{List, []}
+use mathlib.Core.List.{List}
 use lib.Dec.{eqb}
 use lib.IntN.{ℤ}
 use lib.ListN.{length, getD, set}
 use Rattle.sums.specs.Numbers.{bias}
-use Rattle.facts.specs.Tabulate.{tabulate}
 use Rattle.fields.specs.Fields.{pickNumber}
 use Rattle.sections.specs.declared.Sections.{Sections}
 use Rattle.statements.specs.Statements.{statementAt}
@@ -17,28 +15,12 @@ use Rattle.statements.specs.declared.Statement.{Statement}
 use Rattle.statements.specs.declared.Statement.the-variants.{Plain, If, While, Bundle}
 use Rattle.statements.specs.declared.StatementRead.the-variants.{Read}
 use Rattle.decode.specs.Decode.{decodedAt}
-use Rattle.variables.specs.declared.End.{End}
 use Rattle.flow.specs.Flow.{Successors}
 use Rattle.flow.specs.Shape.{entriesAt}
-use Rattle.rules.specs.declared.KnownEnd.the-variants.{Known}
-use Rattle.rules.specs.declared.Bounds.{Bounds}
-use Rattle.rules.specs.declared.Environment.{Environment}
 use Rattle.machine.specs.Machine.{value, low, conditionHolds, Failing, none, fails, firstUnless, failing, accessFailing, arithmeticFailing, address, combined}
-use Rattle.stops.specs.Checks.{checkOf}
-use Rattle.steps.specs.declared.Step.{Step}
-use Rattle.steps.specs.declared.Step.the-variants.{Go, Stop}
-
--- ---- declared bounds in a slice of 96 numbers, six a pointer: pointer, integer and constant of the lower end, then of the upper end
-
-abbrev pub endIn : List ℕ → ℕ → End
-endIn W i = record { pointer = getD W i 0; integer = getD W (i + 1) 0; constant = getD W (i + 2) 0 }
-
-abbrev pub boundsIn : List ℕ → ℕ → Bounds
-boundsIn W p = record { lower = Known (endIn W (6 * p)); upper = Known (endIn W (6 * p + 3)) }
-
--- What such a slice declares.
-unfoldable pub declaredIn : List ℕ → Environment
-declaredIn W = record { pointers = []; declared = tabulate 16 (boundsIn W); lengths = [] }
+use Rattle.checks.specs.Checked.{declaredIn, stepUnless}
+use Rattle.checks.specs.declared.Step.{Step}
+use Rattle.checks.specs.declared.Step.the-variants.{Go}
 
 -- ---- what a statement of kinds 1 to 10 leaves where no check fails: the values and cells of `performed`
 
@@ -84,15 +66,6 @@ pub record Move : Type 0 where
 
 abbrev pub move : Step → List ℕ → List ℕ → Move
 move s vs cs = record { said = s; values = vs; cells = cs }
-
-abbrev pub pickStep : Bool → Step → Step → Step
-pickStep true s t = s
-pickStep false s t = t
-
--- The step to the statement `next`, unless a check fails at the statement a.
-unfoldable pub stepUnless : Failing → ℕ → ℕ → Step
-stepUnless none a next = Go next
-stepUnless (fails n) a next = Stop (checkOf n a)
 
 -- "The stopping statement changes nothing": a buffer before and after.
 unfoldable pub changedUnless : Failing → List ℕ → List ℕ → List ℕ

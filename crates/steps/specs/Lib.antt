@@ -1,4 +1,4 @@
 pub mod Bare
-pub mod CheckLaws
+pub mod NumberLaws
 pub mod AdvanceLaws
 pub mod ReadyLaws

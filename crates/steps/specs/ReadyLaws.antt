@@ -21,9 +21,10 @@ use Rattle.statements.specs.declared.StatementRead.the-variants.{Read}
 use Rattle.decode.specs.Decode.{decodeStart, decodedAt}
 use Rattle.decode.specs.DecodeLaws.{read-decoded}
 use Rattle.machine.specs.Machine.{address, conditionHolds, none, failing, accessFailing}
-use Rattle.steps.specs.Bare.{declaredIn, InCells, InsideSimple, Inside, Accessible, Operable, Ready, Prepared, simpleMove, statementMove, bareMove, Moves}
-use Rattle.steps.specs.declared.Step.{Step}
-use Rattle.steps.specs.declared.Step.the-variants.{Go}
+use Rattle.checks.specs.Checked.{declaredIn}
+use Rattle.steps.specs.Bare.{InCells, InsideSimple, Inside, Accessible, Operable, Ready, Prepared, simpleMove, statementMove, bareMove, Moves}
+use Rattle.checks.specs.declared.Step.{Step}
+use Rattle.checks.specs.declared.Step.the-variants.{Go}
 
 module _ (T : List ℤ) (h : Sections) (W D S vs cs : List ℕ) (few : Limits h) (P : Prepared T h W D S vs) where
   accessible : (x p i k : ℕ) → AccessTyped T h x p i k → (accessFailing (declaredIn W) vs p (address vs p i k) ≡ none → InCells (address vs p i k) cs) → Accessible W x p i k vs cs

@@ -1,28 +1,21 @@
-// One step of a run: its checks, what it leaves, and the statement due after it.
-mod checks; // checks.rt: the five checks
-mod numbers; // numbers.rt: sums and conditions
+// One step of a run: what it leaves, and the statement due after it.
+mod numbers; // numbers.rt: sums and products
 mod simple; // simple.rt: the step of kinds 1 to 10
 
+use checks::Step;
+use checks::condition_holds;
 use conditions::Condition;
 use decode::decode_statement;
 use machine::wide;
-use numbers::condition_holds;
 use sections::Sections;
 use simple::advance_simple;
 use statements::Statement;
-use stops::Check;
 ghost use mathlib.Core.Path.{_≡_};
 ghost use Prim.Native.Nat.{_^_, _<_};
 ghost use lib.ListN.{length, getD};
 ghost use Rattle.fields.specs.Fields.{pickNumber};
 ghost use Rattle.machine.specs.Machine.{conditionHolds};
 ghost use Rattle.steps.specs.Bare.{Prepared, Ready, bareMove, Moves};
-
-// What a step says: the statement due after it, or the check that fails.
-pub enum Step {
-    Go(usize),
-    Stop(Check),
-}
 
 // An entry of the slice of successors.
 fn successor(successors: &[u32], i: usize) -> usize

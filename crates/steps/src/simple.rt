@@ -1,10 +1,10 @@
 // The step of a statement of kinds 1 to 10.
-use crate::Step;
-use crate::checks::check_access;
-use crate::checks::check_arithmetic;
-use crate::checks::check_condition;
 use crate::numbers::add_constant;
 use crate::numbers::combine;
+use checks::Step;
+use checks::check_access;
+use checks::check_arithmetic;
+use checks::check_condition;
 use machine::value_at;
 use machine::wide;
 use statements::Simple;
@@ -13,7 +13,8 @@ ghost use Prim.Native.Nat.{_+_, _-_, _^_, _<_};
 ghost use lib.ListN.{length, getD};
 ghost use Rattle.sums.specs.Numbers.{bias};
 ghost use Rattle.machine.specs.Machine.{value, address, arithmeticFailing, accessFailing};
-ghost use Rattle.steps.specs.Bare.{declaredIn, offsetFailing, indexFailing, Accessible, Operable, simpleMove, Assigns, Moves};
+ghost use Rattle.checks.specs.Checked.{declaredIn};
+ghost use Rattle.steps.specs.Bare.{offsetFailing, indexFailing, Accessible, Operable, simpleMove, Assigns, Moves};
 
 // Kinds 6 and 7: the target takes the sum, which has the bias, unless check 4 or 5 fails.
 fn assign_pointer(

@@ -2,7 +2,7 @@
 use native.Mathlib.Omega.{arith}
 use borrow.Author.Needs.{needs}
 use Rattle.machine.specs.Machine.{combined}
-use Rattle.steps.specs.CheckLaws.{product-small, combined-else}
+use Rattle.steps.specs.NumberLaws.{product-small, combined-else}
 use Rattle.steps.proofs.numbers.combine.Statement.{statement}
 use Rattle.steps.proofs.numbers.combine.Tie as tie
 

@@ -1,6 +1,4 @@
 // The five checks. Each gives the step to the statement `next`, or stops at the statement `at` with the first check that fails.
-use crate::Step;
-use crate::numbers::condition_holds;
 use conditions::Condition;
 use machine::value_at;
 use stops::Check;
@@ -9,9 +7,41 @@ ghost use mathlib.Core.Path.{_≡_};
 ghost use mathlib.Core.Bool.{not};
 ghost use Prim.Native.Nat.{ℕ, _+_, _^_, _<_};
 ghost use lib.ListN.{length, getD};
-ghost use Rattle.machine.specs.Machine.{endValue, conditionHolds, none, firstOf, accessFailing, arithmeticFailing};
-ghost use Rattle.steps.specs.Bare.{endIn, declaredIn, pickStep, stepUnless};
-ghost use Rattle.steps.specs.declared.Step.the-variants.{Go, Stop};
+ghost use Rattle.machine.specs.Machine.{endValue, relates, conditionHolds, none, firstOf, accessFailing, arithmeticFailing};
+ghost use Rattle.checks.specs.Checked.{endIn, declaredIn, pickStep, stepUnless};
+ghost use Rattle.checks.specs.declared.Step.the-variants.{Go, Stop};
+
+// What a step says: the statement due after it, or the check that fails.
+pub enum Step {
+    Go(usize),
+    Stop(Check),
+}
+
+// Relations in the order of the table.
+fn relates(relation: usize, a: u64, b: u64) -> bool
+    ensures { λ r. ⌜ r ≡ relates relation a b ⌝ }
+{
+    match relation {
+        0 => a < b,
+        1 => a >= b,
+        2 => a > b,
+        3 => a <= b,
+        4 => a == b,
+        _ => a != b,
+    }
+}
+
+// Whether the condition holds for these values.
+pub fn condition_holds(values: &[u32], c: Condition) -> bool
+    requires { ⌜ c .offset < 2 ^ 32 ⌝ }
+    ensures { λ r. ⌜ r ≡ conditionHolds (now (values .entry)) c ⌝ }
+{
+    relates(
+        c.relation,
+        value_at(values, c.left),
+        value_at(values, c.right) + c.offset,
+    )
+}
 
 // The whole number of the end whose three numbers start at `first`, with the bias.
 fn end_value(ends: &[u64], values: &[u32], first: usize) -> u64
@@ -37,7 +67,7 @@ fn step_unless(first: bool, one: Check, second: bool, other: Check, next: usize)
 }
 
 // Check 2, then 3: an access through `pointer` to an address that has the bias.
-pub(crate) fn check_access(
+pub fn check_access(
     ends: &[u64],
     values: &[u32],
     at: usize,
@@ -62,7 +92,7 @@ pub(crate) fn check_access(
 }
 
 // Check 4, then 5: arithmetic on the address `base`, with its result, which has the bias.
-pub(crate) fn check_arithmetic(at: usize, next: usize, base: u64, sum: u64) -> Step
+pub fn check_arithmetic(at: usize, next: usize, base: u64, sum: u64) -> Step
     ensures { λ r. ⌜ r ≡ stepUnless (arithmeticFailing base sum) at next ⌝ }
 {
     let from_null = base == 0;
@@ -77,7 +107,7 @@ pub(crate) fn check_arithmetic(at: usize, next: usize, base: u64, sum: u64) -> S
 }
 
 // Check 1.
-pub(crate) fn check_condition(values: &[u32], at: usize, next: usize, c: Condition) -> Step
+pub fn check_condition(values: &[u32], at: usize, next: usize, c: Condition) -> Step
     requires { ⌜ c .offset < 2 ^ 32 ⌝ }
     ensures { λ r. ⌜ r ≡ stepUnless (firstOf (not (conditionHolds (now (values .entry)) c)) 1 none) at next ⌝ }
 {

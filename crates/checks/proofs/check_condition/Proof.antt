@@ -1,9 +1,9 @@
--- `steps::checks::check_condition` meets its contract.
+-- `checks::check_condition` meets its contract.
 use mathlib.Core.Path.{sym, _∙_}
 use borrow.Author.Needs.{needs}
-use Rattle.steps.specs.Bare.{stepUnless}
-use Rattle.steps.proofs.checks.check_condition.Statement.{statement}
-use Rattle.steps.proofs.checks.check_condition.Tie as tie
+use Rattle.checks.specs.Checked.{stepUnless}
+use Rattle.checks.proofs.check_condition.Statement.{statement}
+use Rattle.checks.proofs.check_condition.Tie as tie
 
 pub check-condition-spec : {M : Type 1} → statement M
 unfolding stepUnless

@@ -1,8 +1,8 @@
--- `steps::numbers::relates` meets its contract.
+-- `checks::relates` meets its contract.
 use Rattle.machine.specs.Machine.{relates}
-use Rattle.steps.specs.CheckLaws.{relates-else}
-use Rattle.steps.proofs.numbers.relates.Statement.{statement}
-use Rattle.steps.proofs.numbers.relates.Tie as tie
+use Rattle.checks.specs.CheckLaws.{relates-else}
+use Rattle.checks.proofs.relates.Statement.{statement}
+use Rattle.checks.proofs.relates.Tie as tie
 
 pub relates-spec : {M : Type 1} → statement M
 unfolding relates

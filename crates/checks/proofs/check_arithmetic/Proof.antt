@@ -1,9 +1,9 @@
--- `steps::checks::check_arithmetic` meets its contract.
+-- `checks::check_arithmetic` meets its contract.
 use mathlib.Core.Path.{_∙_}
 use borrow.Author.Needs.{needs}
-use Rattle.steps.specs.CheckLaws.{arithmetic-step}
-use Rattle.steps.proofs.checks.check_arithmetic.Statement.{statement}
-use Rattle.steps.proofs.checks.check_arithmetic.Tie as tie
+use Rattle.checks.specs.CheckLaws.{arithmetic-step}
+use Rattle.checks.proofs.check_arithmetic.Statement.{statement}
+use Rattle.checks.proofs.check_arithmetic.Tie as tie
 
 pub check-arithmetic-spec : {M : Type 1} → statement M
 check-arithmetic-spec =

@@ -1,10 +1,10 @@
--- `steps::checks::check_access` meets its contract.
+-- `checks::check_access` meets its contract.
 use mathlib.Core.Path.{_∙_}
 use native.Mathlib.Omega.{arith}
 use borrow.Author.Needs.{needs}
-use Rattle.steps.specs.CheckLaws.{access-step}
-use Rattle.steps.proofs.checks.check_access.Statement.{statement}
-use Rattle.steps.proofs.checks.check_access.Tie as tie
+use Rattle.checks.specs.CheckLaws.{access-step}
+use Rattle.checks.proofs.check_access.Statement.{statement}
+use Rattle.checks.proofs.check_access.Tie as tie
 
 pub check-access-spec : {M : Type 1} → statement M
 check-access-spec =

@@ -1,28 +1,16 @@
--- Laws of the checks, of sums and of conditions, in the words of the code.
-use Prim.Native.Nat.{ℕ, zero, suc, _+_, _*_, _%_, _^_, _<_, _≤_}
+-- Laws of the checks and of conditions, in the words of the code.
+use Prim.Native.Nat.{ℕ, zero, suc, _+_, _*_, _<_}
 use mathlib.Core.Path.{_≡_, refl}
 use mathlib.Core.Bool.{Bool, true, false, not, _||_}
 use mathlib.Core.List.{List}
-use native.Mathlib.Nat.{mul-le-mul}
-use native.Mathlib.Omega.{arith}
 use lib.Dec.{leb, ltb, eqb}
 use Rattle.sums.specs.Numbers.{bias, maxValue}
 use Rattle.facts.specs.Tabulate.{getD-tabulate}
 use Rattle.rules.specs.BoundsRules.{nothingKnown}
-use Rattle.machine.specs.Machine.{value, endValue, relates, none, firstOf, accessFailing, arithmeticFailing, combined}
-use Rattle.steps.specs.Bare.{endIn, boundsIn, declaredIn, pickStep, stepUnless}
+use Rattle.machine.specs.Machine.{value, endValue, relates, none, firstOf, accessFailing, arithmeticFailing}
+use Rattle.checks.specs.Checked.{endIn, boundsIn, declaredIn, pickStep, stepUnless}
 use Rattle.stops.specs.declared.Check.the-variants.{NullAccess, OutOfBounds, NullArithmetic, AddressRange}
-use Rattle.steps.specs.declared.Step.the-variants.{Go, Stop}
-
--- A product of two values fits 64 bits.
-pub product-small : (a b : ℕ) → a < 2 ^ 32 → b < 2 ^ 32 → a * b < 2 ^ 64
-product-small a b p q = let h : a * b ≤ 4294967295 * 4294967295 = mul-le-mul {n₂ = 4294967295} {m₂ = 4294967295} (omega arith) (omega arith) in omega arith
-
-pub combined-else : (op a b : ℕ) → (op ≡ 0 → ⊥) → (op ≡ 1 → ⊥) → a * b % 2 ^ 32 ≡ combined op a b
-unfolding combined
-combined-else zero a b p q = absurd (p refl)
-combined-else (suc zero) a b p q = absurd (q refl)
-combined-else (suc (suc n)) a b p q = refl
+use Rattle.checks.specs.declared.Step.the-variants.{Go, Stop}
 
 pub relates-else : (r a b : ℕ) → (r ≡ 0 → ⊥) → (r ≡ 1 → ⊥) → (r ≡ 2 → ⊥) → (r ≡ 3 → ⊥) → (r ≡ 4 → ⊥) → not (eqb a b) ≡ relates r a b
 unfolding relates

@@ -1,9 +1,9 @@
--- `steps::numbers::condition_holds` meets its contract.
+-- `checks::condition_holds` meets its contract.
 use native.Mathlib.Omega.{arith}
 use borrow.Author.Needs.{needs}
 use Rattle.machine.specs.Machine.{conditionHolds}
-use Rattle.steps.proofs.numbers.condition_holds.Statement.{statement}
-use Rattle.steps.proofs.numbers.condition_holds.Tie as tie
+use Rattle.checks.proofs.condition_holds.Statement.{statement}
+use Rattle.checks.proofs.condition_holds.Tie as tie
 
 pub condition-holds-spec : {M : Type 1} → statement M
 unfolding conditionHolds

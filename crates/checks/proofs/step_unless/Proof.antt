@@ -1,6 +1,6 @@
--- `steps::checks::step_unless` meets its contract.
-use Rattle.steps.proofs.checks.step_unless.Statement.{statement}
-use Rattle.steps.proofs.checks.step_unless.Tie as tie
+-- `checks::step_unless` meets its contract.
+use Rattle.checks.proofs.step_unless.Statement.{statement}
+use Rattle.checks.proofs.step_unless.Tie as tie
 
 pub step-unless-spec : {M : Type 1} → statement M
 step-unless-spec =

@@ -1,0 +1,37 @@
+-- What the checks of a run read, and what they say of a step.
+use Prim.Native.Nat.{ℕ, _+_, _*_}
+use mathlib.Core.Bool.{Bool, true, false}
+use mathlib.Core.List.{List, []}
+use lib.ListN.{getD}
+use Rattle.facts.specs.Tabulate.{tabulate}
+use Rattle.variables.specs.declared.End.{End}
+use Rattle.rules.specs.declared.KnownEnd.the-variants.{Known}
+use Rattle.rules.specs.declared.Bounds.{Bounds}
+use Rattle.rules.specs.declared.Environment.{Environment}
+use Rattle.machine.specs.Machine.{Failing, none, fails}
+use Rattle.stops.specs.Checks.{checkOf}
+use Rattle.checks.specs.declared.Step.{Step}
+use Rattle.checks.specs.declared.Step.the-variants.{Go, Stop}
+
+-- ---- declared bounds in a slice of 96 numbers, six a pointer: pointer, integer and constant of the lower end, then of the upper end
+
+abbrev pub endIn : List ℕ → ℕ → End
+endIn W i = record { pointer = getD W i 0; integer = getD W (i + 1) 0; constant = getD W (i + 2) 0 }
+
+abbrev pub boundsIn : List ℕ → ℕ → Bounds
+boundsIn W p = record { lower = Known (endIn W (6 * p)); upper = Known (endIn W (6 * p + 3)) }
+
+-- What such a slice declares.
+unfoldable pub declaredIn : List ℕ → Environment
+declaredIn W = record { pointers = []; declared = tabulate 16 (boundsIn W); lengths = [] }
+
+-- ---- steps
+
+abbrev pub pickStep : Bool → Step → Step → Step
+pickStep true s t = s
+pickStep false s t = t
+
+-- The step to the statement `next`, unless a check fails at the statement a.
+unfoldable pub stepUnless : Failing → ℕ → ℕ → Step
+stepUnless none a next = Go next
+stepUnless (fails n) a next = Stop (checkOf n a)
