@@ -9,7 +9,7 @@ use lib.Dec.{eqb}
 use lib.ListN.{length, set}
 use lib.Seq.{ext-getD}
 use Rattle.facts.specs.Store.{inRange}
-use Rattle.facts.specs.Tabulate.{tabulate, length-tabulate, getD-tabulate, Filled, filled-more, filled-next, filled-kept}
+use Rattle.arrays.specs.Tabulate.{tabulate, length-tabulate, getD-tabulate, Filled, filled-more, filled-next, filled-kept}
 use Rattle.facts.specs.declared.FactSet.{FactSet}
 use Rattle.sections.specs.SectionsLaws.{both}
 use Rattle.statements.specs.declared.Simple.{Simple}

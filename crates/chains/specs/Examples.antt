@@ -4,7 +4,7 @@ use mathlib.Core.Path.{_≡_, refl}
 use mathlib.Core.Bool.{Bool, true, false}
 use lib.Dec.{ltb}
 use Rattle.sums.specs.Numbers.{bias, zeroVar}
-use Rattle.facts.specs.Tabulate.{tabulate}
+use Rattle.arrays.specs.Tabulate.{tabulate}
 use Rattle.sums.specs.Sums.{concatenated}
 use Rattle.facts.specs.Store.{leastSum, shown, newRow, newSet, loweredRow, lowered, marked, added, ownRow, reroutedRow, reassigned, dropped, shifted, joinedSum, joinedRow, joined}
 use Rattle.facts.specs.declared.FactSet.{FactSet}

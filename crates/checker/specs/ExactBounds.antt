@@ -10,7 +10,7 @@ use lib.Dec.{eqb, ltb}
 use lib.IntN.{ℤ}
 use lib.ListN.{length, getD, List·getD-eq-default}
 use Rattle.sums.specs.Numbers.{bias, zeroVar}
-use Rattle.facts.specs.Tabulate.{tabulate, length-tabulate, getD-tabulate}
+use Rattle.arrays.specs.Tabulate.{tabulate, length-tabulate, getD-tabulate}
 use Rattle.facts.specs.Store.{shown, inRange}
 use Rattle.chains.specs.Facts.{Variables, Node, Known as Facts, Shown, EndShown}
 use Rattle.chains.specs.History.{known as known-facts}

@@ -8,7 +8,7 @@ use borrow.Author.Tests.{ltb-true, ltb-false}
 use lib.IntN.{ℤ}
 use lib.Dec.{ltb}
 use lib.ListN.{length, getD, List·getD-eq-default}
-use Rattle.facts.specs.Tabulate.{tabulate, length-tabulate, getD-tabulate}
+use Rattle.arrays.specs.Tabulate.{tabulate, length-tabulate, getD-tabulate}
 use Rattle.facts.specs.Store.{newSet}
 use Rattle.facts.specs.declared.FactSet.{FactSet}
 use Rattle.refusals.specs.declared.Refusal.{Refusal}

@@ -5,7 +5,7 @@ use mathlib.Core.Bool.{Bool, true, false, not, _||_}
 use mathlib.Core.List.{List}
 use lib.Dec.{leb, ltb, eqb}
 use Rattle.sums.specs.Numbers.{bias, maxValue}
-use Rattle.facts.specs.Tabulate.{getD-tabulate}
+use Rattle.arrays.specs.Tabulate.{getD-tabulate}
 use Rattle.rules.specs.BoundsRules.{nothingKnown}
 use Rattle.machine.specs.Machine.{value, endValue, relates, none, firstOf, accessFailing, arithmeticFailing}
 use Rattle.checks.specs.Checked.{endIn, boundsIn, declaredIn, pickStep, stepUnless}

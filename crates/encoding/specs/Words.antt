@@ -6,7 +6,7 @@ use mathlib.Core.List.{List}
 use lib.Dec.{ltb}
 use lib.IntN.{ℤ, pos, negsuc}
 use lib.ListN.{length, getD}
-use Rattle.facts.specs.Tabulate.{Filled}
+use Rattle.arrays.specs.Tabulate.{Filled}
 
 abbrev pub pickWord : Bool → ℤ → ℤ → ℤ
 pickWord true a b = a

@@ -2,7 +2,7 @@
 use Prim.Native.Nat.{ℕ, zero, suc, _-_, _/_, _%_}
 use mathlib.Core.List.{List}
 use lib.Dec.{ltb}
-use Rattle.facts.specs.Tabulate.{tabulate}
+use Rattle.arrays.specs.Tabulate.{tabulate}
 use Rattle.fields.specs.Fields.{pickNumber}
 use Rattle.variables.specs.declared.End.{End}
 use Rattle.rules.specs.BoundsRules.{declared}

@@ -1,4 +1,3 @@
-pub mod Tabulate
 pub mod Store
 pub mod StoreLaws
 pub mod Rows

@@ -12,7 +12,7 @@ use lib.ListN.{length}
 use lib.Seq.{getD-set-same, getD-set-other}
 use native.Mathlib.Nat.{div-add-mod', mod-lt, mod-eq-of-lt}
 use native.Mathlib.Omega.{arith}
-use Rattle.facts.specs.Tabulate.{length-tabulate, getD-tabulate, tabulate-alike}
+use Rattle.arrays.specs.Tabulate.{length-tabulate, getD-tabulate, tabulate-alike}
 use Rattle.sums.specs.Sums.{pick, unbounded}
 use Rattle.facts.specs.Store.{inRow, reroutedRow}
 use Rattle.facts.specs.Rows.{IsMask, Masks, noMasks, maskRow, mergedRow}

@@ -7,7 +7,7 @@ use mathlib.Core.Bool.{Bool, true}
 use lib.ListN.{set}
 use lib.Dec.{eqb}
 use Rattle.sums.specs.Numbers.{zeroVar}
-use Rattle.facts.specs.Tabulate.{tabulate}
+use Rattle.arrays.specs.Tabulate.{tabulate}
 use Rattle.sums.specs.Sums.{pick, unbounded, concatenated}
 use Rattle.facts.specs.Store.{pickBool, inRow, rowOf, same}
 use Rattle.facts.specs.declared.rows.Row.{Row}

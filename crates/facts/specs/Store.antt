@@ -6,7 +6,7 @@ use lib.ListN.{getD, set}
 use lib.Dec.{ltb, leb, eqb}
 use Rattle.sums.specs.Numbers.{bias, maxValue, zeroVar}
 use Rattle.sums.specs.Sums.{pick, unbounded, concatenated, negated, roomAbove}
-use Rattle.facts.specs.Tabulate.{tabulate}
+use Rattle.arrays.specs.Tabulate.{tabulate}
 use Rattle.facts.specs.declared.rows.Row.{Row}
 use Rattle.changes.specs.declared.Fact.{Fact}
 use Rattle.changes.specs.declared.Change.{Change}

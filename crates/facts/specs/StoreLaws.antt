@@ -9,7 +9,7 @@ use lib.Seq.{getD-set-same, getD-set-other}
 use native.Mathlib.Omega.{arith}
 use Rattle.sums.specs.Numbers.{bias, maxValue, zeroVar}
 use Rattle.changes.specs.Changes.{noFact, adding, ranging, shifting, equating}
-use Rattle.facts.specs.Tabulate.{tabulate, length-tabulate, getD-tabulate}
+use Rattle.arrays.specs.Tabulate.{tabulate, length-tabulate, getD-tabulate}
 use Rattle.sums.specs.Sums.{pick, concatenated, negated, roomAbove}
 use Rattle.facts.specs.Store.{pickBool, pickRow, pickSet, noRow, rowAt, inRow, sumAt, rowOf, setOf, leastSum, shown, endShown, inRange, newSum, newRow, newSet, loweredRow, lowered, marked, added, ownRow, reroutedRow, rerouted, reassigned, anew, addedFact, addedFirst, changed, dropped, ranged, shifted, related, joinedSum, joinedRow, joined}
 use Rattle.facts.specs.declared.rows.Row.{Row}

@@ -9,7 +9,7 @@ use lib.Dec.{ltb, leb, eqb}
 use native.Mathlib.Numerals.{add-one}
 use native.Mathlib.Omega.{arith}
 use Rattle.sums.specs.Numbers.{bias, zeroVar}
-use Rattle.facts.specs.Tabulate.{tabulate, length-tabulate, getD-tabulate, tabulate-alike, Filled, filled-none, filled-more, filled-next, filled-each, filled-kept, filled-whole}
+use Rattle.arrays.specs.Tabulate.{tabulate, length-tabulate, getD-tabulate, tabulate-alike, Filled, filled-none, filled-more, filled-next, filled-each, filled-kept, filled-whole}
 use Rattle.sums.specs.Sums.{pick, concatenated}
 use Rattle.facts.specs.Store.{pickBool, pickSet, noRow, rowAt, inRow, sumAt, setOf, leastSum, shown, loweredRow, lowered, marked, added, ownRow, rerouted, reassigned, anew, factAt, addedFact, addedFirst, same, joinedSum, joinedRow}
 use Rattle.facts.specs.Rows.{shortenedRow, greatestRow, throughZero}

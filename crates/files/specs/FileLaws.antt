@@ -8,7 +8,7 @@ use borrow.Author.Tests.{eq-eqb, ne-eqb, lt-leb}
 use lib.Dec.{leb}
 use lib.IntN.{ℤ}
 use lib.ListN.{length, take}
-use Rattle.facts.specs.Tabulate.{tabulate, length-tabulate}
+use Rattle.arrays.specs.Tabulate.{tabulate, length-tabulate}
 use Rattle.refusals.specs.declared.Refusal.the-variants.{Length}
 use Rattle.table.specs.Form.{lengthRight, formOf}
 use Rattle.rules.specs.Rules.{refusal}

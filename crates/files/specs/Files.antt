@@ -5,7 +5,7 @@ use mathlib.Core.List.{List, [], _∷_}
 use lib.Dec.{eqb}
 use lib.IntN.{ℤ}
 use lib.ListN.{length}
-use Rattle.facts.specs.Tabulate.{tabulate}
+use Rattle.arrays.specs.Tabulate.{tabulate}
 use Rattle.refusals.specs.declared.Refusal.the-variants.{Length}
 use Rattle.rules.specs.Rules.{Fault, refusal}
 use Rattle.rules.specs.Verdict.{faults}

@@ -8,7 +8,7 @@ use borrow.Author.Tests.{ltb-true, ltb-false}
 use lib.Dec.{leb, ltb, eqb}
 use lib.IntN.{ℤ}
 use lib.ListN.{length, getD, List·getD-eq-default}
-use Rattle.facts.specs.Tabulate.{length-tabulate, getD-tabulate}
+use Rattle.arrays.specs.Tabulate.{length-tabulate, getD-tabulate}
 use Rattle.fields.specs.Fields.{pickNumber}
 use Rattle.sections.specs.Typed.{IsIndex, missing, given}
 use Rattle.sections.specs.SectionsLaws.{Limits}

@@ -9,7 +9,7 @@ use native.Mathlib.Nat.{eq-or-lt-of-le}
 use borrow.Author.Tests.{leb-true, ltb-true, eqb-true, eqb-false, not-false}
 use lib.Dec.{leb, ltb, eqb}
 use Rattle.sums.specs.Numbers.{bias, zeroVar}
-use Rattle.facts.specs.Tabulate.{getD-tabulate}
+use Rattle.arrays.specs.Tabulate.{getD-tabulate}
 use Rattle.sums.specs.Sums.{unbounded}
 use Rattle.facts.specs.Store.{shown, endShown}
 use Rattle.chains.specs.Sound.{InRange, Holds, Except, end-true}

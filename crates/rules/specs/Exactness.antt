@@ -9,7 +9,7 @@ use borrow.Author.Tests.{eqb-true, ne-eqb}
 use lib.Dec.{eqb}
 use lib.IntN.{ℤ}
 use Rattle.sums.specs.Numbers.{bias, maxValue, zeroVar}
-use Rattle.facts.specs.Tabulate.{getD-tabulate}
+use Rattle.arrays.specs.Tabulate.{getD-tabulate}
 use Rattle.facts.specs.Store.{inRange, contradictory, newSet, added, dropped, ranged, shifted, joined}
 use Rattle.facts.specs.StoreLaws.{mark-dropped}
 use Rattle.chains.specs.Facts.{Variables, Comparable, same-kind, from-zero, to-zero, Contradiction}

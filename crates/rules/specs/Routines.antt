@@ -4,7 +4,7 @@ use mathlib.Core.List.{List, [], _∷_, map}
 use lib.IntN.{ℤ, pos, negsuc}
 use Rattle.sums.specs.Sums.{concatenated}
 use Rattle.facts.specs.Store.{leastSum, shown, endShown, inRange, newRow, newSet, loweredRow, lowered, marked, added, ownRow, reroutedRow, reassigned, ranged, dropped, shifted, joinedSum, joinedRow, joined}
-use Rattle.facts.specs.Tabulate.{tabulate}
+use Rattle.arrays.specs.Tabulate.{tabulate}
 use Rattle.words.specs.Words.{fieldsAt, biased, word}
 use Rattle.fields.specs.Fields.{indexOf, isBelow, isLiteral, literalValue, isConstant}
 use Rattle.sections.specs.Sections.{inLimits, isVariable, kindAt, integerAt, pointerAt, namesInteger, namesPointer, namesIndex}

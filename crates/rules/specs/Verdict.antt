@@ -3,7 +3,7 @@ use Prim.Native.Nat.{ℕ}
 use mathlib.Core.Path.{_≡_}
 use mathlib.Core.List.{List, [], _∷_, List·Memᴰ}
 use lib.IntN.{ℤ}
-use Rattle.facts.specs.Tabulate.{tabulate}
+use Rattle.arrays.specs.Tabulate.{tabulate}
 use Rattle.facts.specs.Store.{newSet}
 use Rattle.refusals.specs.declared.Refusal.{Refusal}
 use Rattle.refusals.specs.declared.Refusal.the-variants.{BoundsNotShown}

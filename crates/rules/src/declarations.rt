@@ -6,7 +6,7 @@ use sections::Sections;
 use variables::Variable;
 use variables::VariableRead;
 ghost use mathlib.Core.Path.{_≡_};
-ghost use Rattle.facts.specs.Tabulate.{tabulate};
+ghost use Rattle.arrays.specs.Tabulate.{tabulate};
 ghost use Rattle.sections.specs.Sections.{pointerAt};
 ghost use Rattle.variables.specs.Variables.{variableAt, objectAt};
 ghost use Rattle.rules.specs.Verdict.{boundsOf, environmentOf};

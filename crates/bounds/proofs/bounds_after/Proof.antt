@@ -5,7 +5,7 @@ use Prim.Native.Nat.{_-_}
 use native.Mathlib.Omega.{arith}
 use mathlib.Core.Path.{sym, _∙_}
 use mathlib.Core.Logic.{⊎-elim}
-use Rattle.facts.specs.Tabulate.{Filled, filled-none, filled-whole, length-under}
+use Rattle.arrays.specs.Tabulate.{Filled, filled-none, filled-whole, length-under}
 use Rattle.rules.specs.BoundsRules.{effectOn, boundsAfter}
 use Rattle.stays.specs.StaysLaws.{stays-read}
 use Rattle.transfer.specs.TransferLaws.{source-below}

@@ -1,7 +1,7 @@
 -- `facts::rows::mask_row` meets its contract.
 use mathlib.Core.Path.{refl}
 use borrow.Author.Needs.{needs}
-use Rattle.facts.specs.Tabulate.{tabulate}
+use Rattle.arrays.specs.Tabulate.{tabulate}
 use Rattle.facts.specs.Rows.{maskRow}
 use Rattle.facts.proofs.rows.mask_row.Statement.{statement}
 use Rattle.facts.proofs.rows.mask_row.Tie as tie

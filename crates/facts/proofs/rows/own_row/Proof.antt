@@ -5,7 +5,7 @@ use mathlib.Core.List.{List}
 use borrow.Author.Needs.{needs}
 use lib.Dec.{eqb}
 use Rattle.sums.specs.Numbers.{bias}
-use Rattle.facts.specs.Tabulate.{Filled, filled-none, filled-more, filled-whole}
+use Rattle.arrays.specs.Tabulate.{Filled, filled-none, filled-more, filled-whole}
 use Rattle.sums.specs.Sums.{pick, concatenated}
 use Rattle.facts.specs.Store.{inRow, ownRow}
 use Rattle.facts.proofs.rows.own_row.Statement.{statement}

@@ -4,7 +4,7 @@ use mathlib.Core.Path.{ap}
 use mathlib.Core.List.{List}
 use borrow.Author.Needs.{needs}
 use lib.Dec.{eqb}
-use Rattle.facts.specs.Tabulate.{Filled, filled-none, filled-more, filled-whole}
+use Rattle.arrays.specs.Tabulate.{Filled, filled-none, filled-more, filled-whole}
 use Rattle.sums.specs.Sums.{pick}
 use Rattle.facts.specs.Store.{inRow}
 use Rattle.facts.specs.Rows.{mergedRow}

@@ -1,0 +1,1 @@
+// What loops that fill an array make: definitions and laws alone.
