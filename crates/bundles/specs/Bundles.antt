@@ -16,6 +16,7 @@ pub record Passes (faults : List Fault) (facts : FactSet) (r : Walked) : Type 0 
   pub said : r .verdict ≡ lowestVerdict faults
   pub kept : faults ≡ [] → r .facts ≡ facts
 
+-- The walk over a bundle with its head at `head` and its statements ss: their faults, then the question about all declared bounds.
 abbrev pub WalksBundle : Environment → ℕ → List Simple → FactSet → List Bounds → Walked → Type 0
 WalksBundle E head ss f K r =
     Passes (also (bundleFaults E (head + 1) ss f K) (boundsAt head (unshown E (bundleFacts ss f) (bundleBounds E ss f K)))) (bundleFacts ss f) r

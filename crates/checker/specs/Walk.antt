@@ -9,5 +9,6 @@ use Rattle.rules.specs.declared.Environment.{Environment}
 use Rattle.bundles.specs.Bundles.{Passes}
 use Rattle.bundles.specs.declared.Walked.{Walked}
 
+-- The walk over a block b from the facts f.
 abbrev pub Walks : List ℤ → Sections → Environment → Block → FactSet → Walked → Type 0
 Walks T h E b f r = Passes (blockFaults T h E b f) (blockFacts T h E b f) r

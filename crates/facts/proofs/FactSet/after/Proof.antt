@@ -4,11 +4,12 @@ use Prim.Native.Nat.{ℕ, _+_, _-_, _*_, _<_}
 use mathlib.Core.Path.{_≡_, refl, ap, ap₂, _∙_}
 use mathlib.Core.Logic.{⊎-elim}
 use borrow.Author.Count.{falls}
-use borrow.Author.Needs.{needs}
+use borrow.Author.Needs.{needs, scaled-fits}
 use mir.Syntax.{w64}
 use mir.Val.{Fits}
 use native.Mathlib.Omega.{arith}
 use lib.ListN.{length}
+use lib.Dec.{lit<}
 use Rattle.facts.specs.declared.rows.Row.{Row}
 use Rattle.facts.specs.declared.FactSet.{FactSet}
 use Rattle.arrays.specs.Tabulate.{Filled, filled-none, filled-more, filled-next, filled-whole, length-under}
@@ -48,22 +49,20 @@ remade c =
     (⊎-elim (λ w. anew-nowhere _ _ _ _ _ (w .0 .taken) (w .1 .left) (w .2))
     (λ w. anew-none _ _ _ _ _ (w .0 .left) (w .1))) (c .if1 .came)
 
--- An index below 17, or below 3, times an element's size, and one more than it.
+-- An index of a row, of a sum and of a fact, times an element's size, and one more than an index.
 row-fits : {i : ℕ} → i < 17 → Fits w64 (i * 136)
-row-fits h = record { fits = omega arith }
+row-fits h = scaled-fits _ _ _ h (lit< tt)
 
 sum-fits : {i : ℕ} → i < 17 → Fits w64 (i * 8)
-sum-fits h = record { fits = omega arith }
+sum-fits h = scaled-fits _ _ _ h (lit< tt)
 
 fact-fits : {n : ℕ} → n < 3 → Fits w64 (n * 24)
-fact-fits h = record { fits = omega arith }
+fact-fits h = scaled-fits _ _ _ h (lit< tt)
 
-next-fits : {i : ℕ} → i < 17 → Fits w64 (i + 1)
-next-fits h = record { fits = omega arith }
+next-fits : {i n : ℕ} → i < n → n < 18 → Fits w64 (i + 1)
+next-fits h d = record { fits = omega arith }
 
-next3-fits : {n : ℕ} → n < 3 → Fits w64 (n + 1)
-next3-fits h = record { fits = omega arith }
-
+-- A variable has a row.
 a-row : {x : ℕ} → x < 16 → x < 17
 a-row h = omega arith
 
@@ -76,7 +75,7 @@ after-spec =
     (λ c. (filled-none _ _ _ (search (length-under, needs)), refl))
     (λ c. row-fits (c .loop-test .taken)) (λ c. c .loop-test .taken) (λ c. sum-fits (c .before .before .before .before .before .before .if2 .taken)) (λ c. c .before .before .before .before .before .before .if2 .taken) (λ c κs. tt)
     (λ c κs. masks _ (a-row (c .before .before .before .before .before .before .before .before .before .if1 .taken)) (c .before .before .before .before .before .mask-row .ensures))
-    (λ c. row-fits (c .before .before .before .before .loop-test .taken)) (λ c. c .before .before .before .before .loop-test .taken) (λ c. next-fits (c .before .before .before .before .loop-test .taken)) (λ c. falls 17 _ (c .before .before .before .before .loop-test .taken))
+    (λ c. row-fits (c .before .before .before .before .loop-test .taken)) (λ c. c .before .before .before .before .loop-test .taken) (λ c. next-fits (c .before .before .before .before .loop-test .taken) (lit< tt)) (λ c. falls 17 _ (c .before .before .before .before .loop-test .taken))
     (λ c. let at = c .before .before .before .before .before .loop in
     let made = c .before .before .before .before .before .before in
     let from = made .before .before .before .before .before .args in
@@ -93,12 +92,12 @@ after-spec =
     (λ c. sum-fits (c .before .before .before .before .before .before .if3 .taken)) (λ c. c .before .before .before .before .before .before .if3 .taken) (λ c κs. tt)
     (λ c. lowering-none (c .before .before .before .before .before .before .before .before .before .before .before .before .loop2 .inv .long))
     (λ c. row-fits (c .loop3-test .taken)) (λ c. c .loop3-test .taken) (λ c. sum-fits (c .before .before .before .before .before .before .before .before .before .before .before .before .if3 .taken)) (λ c. c .before .before .before .before .before .before .before .before .before .before .before .before .if3 .taken) (λ c κs. tt)
-    (λ c. sum-fits (c .before .before .before .before .before .before .before .before .before .before .before .before .before .if4 .taken)) (λ c. c .before .before .before .before .before .before .before .before .before .before .before .before .before .if4 .taken) (λ c κs. tt) (λ c. row-fits (c .before .before .before .before .before .before .loop3-test .taken)) (λ c. c .before .before .before .before .before .before .loop3-test .taken) (λ c. next-fits (c .before .before .before .before .before .loop3-test .taken)) (λ c. falls 17 _ (c .before .before .before .before .before .loop3-test .taken))
+    (λ c. sum-fits (c .before .before .before .before .before .before .before .before .before .before .before .before .before .if4 .taken)) (λ c. c .before .before .before .before .before .before .before .before .before .before .before .before .before .if4 .taken) (λ c κs. tt) (λ c. row-fits (c .before .before .before .before .before .before .loop3-test .taken)) (λ c. c .before .before .before .before .before .before .loop3-test .taken) (λ c. next-fits (c .before .before .before .before .before .loop3-test .taken) (lit< tt)) (λ c. falls 17 _ (c .before .before .before .before .before .loop3-test .taken))
     (λ c. let at = c .before .before .before .before .before .before .loop3 in
     ⊎-elim (λ w. lowering-falls (at .inv) (c .before .before .before .before .before .loop3-test .taken) (c .before .before .concat3 .ensures) (w .0 .taken) (w .1 .ensures) (w .2))
     (λ w. lowering-stays (at .inv) (c .before .before .before .before .before .loop3-test .taken) (c .before .before .concat3 .ensures) (w .0 .left) (w .1))
     (c .if8 .came))
-    (λ c. next3-fits (c .before .before .loop2-test .taken)) (λ c. falls 3 _ (c .before .before .loop2-test .taken))
+    (λ c. next-fits (c .before .before .loop2-test .taken) (lit< tt)) (λ c. falls 3 _ (c .before .before .loop2-test .taken))
     (λ c. told-more (c .before .before .before .loop2 .inv) (c .before .before .loop2-test .taken)
     (⊎-elim (λ w. way-closed _ _ _ _ (w .0 .taken) (w .1 .taken) (w .2 .taken) (w .5 .taken) (w .8 .ensures) (w .9 .taken) (w .10))
     (⊎-elim (λ w. way-lowered _ _ _ _ (w .0 .taken) (w .1 .taken) (w .2 .taken) (w .5 .taken) (w .8 .ensures) (w .9 .left) (w .12 ∙ lowering-done (w .10 .inv) (w .11 .left)))
