@@ -1,7 +1,7 @@
 -- What a statement of a block leads to, as the code goes through a block.
 use Prim.Native.Nat.{ℕ, _+_, _-_, _<_, _≤_}
 use mathlib.Core.Path.{_≡_}
-use mathlib.Core.Bool.{Bool, true, false}
+use mathlib.Core.Bool.{Bool, true, false, cond}
 use mathlib.Core.List.{List}
 use lib.IntN.{ℤ}
 use lib.Dec.{ltb}
@@ -12,13 +12,9 @@ use Rattle.blocks.specs.declared.Parts.the-variants.{Refused, Next, Bloc
 use Rattle.blocks.specs.declared.Layout.the-variants as layout
 use Rattle.blocks.specs.Layout.{maxDepth, also, blockLayout, verdict}
 
-abbrev pub pickParts : Bool → Parts → Parts → Parts
-pickParts true p q = p
-pickParts false p q = q
-
 -- Blocks of n and m statements behind the head a, in a block that ends at b.
 abbrev pub blocksOf : ℕ → ℕ → ℕ → ℕ → Parts
-blocksOf a n m b = pickParts (ltb b (a + 1 + n + m)) (Refused (BlockLayout a)) (Blocks (a + 1 + n) (a + 1 + n + m))
+blocksOf a n m b = cond (ltb b (a + 1 + n + m)) (Refused (BlockLayout a)) (Blocks (a + 1 + n) (a + 1 + n + m))
 
 -- The layout of the block from the statement a on, with l statements allowed, by what a leads to.
 abbrev pub Leads : Parts → List ℤ → Sections → ℕ → ℕ → ℕ → ℕ → Type 0

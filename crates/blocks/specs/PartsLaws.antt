@@ -1,7 +1,7 @@
 -- What each kind of statement leads to.
 use Prim.Native.Nat.{ℕ, _+_, _-_, _<_, _≤_}
 use mathlib.Core.Path.{_≡_, refl, sym, _∙_, ap}
-use mathlib.Core.Bool.{Bool, true, false}
+use mathlib.Core.Bool.{Bool, true, false, cond}
 use mathlib.Core.List.{List}
 use native.Mathlib.Omega.{arith}
 use borrow.Author.Tests.{lt-ltb, le-ltb}
@@ -21,7 +21,7 @@ use Rattle.blocks.specs.declared.Layout.the-variants as layout
 use Rattle.blocks.specs.declared.Parts.the-variants.{Refused, Next, Blocks}
 use Rattle.blocks.specs.Layout.{maxDepth, bundleLayout, kindLayout, blockLayout, verdict}
 use Rattle.blocks.specs.LayoutLaws.{none-refused, skip, pass, refuse, refuse-part, block-end, block-some}
-use Rattle.blocks.specs.Parts.{pickParts, blocksOf, Leads, Parted}
+use Rattle.blocks.specs.Parts.{blocksOf, Leads, Parted}
 
 pub blocks-past : (a n m b : ℕ) → b < a + 1 + n + m → Refused (BlockLayout a) ≡ blocksOf a n m b
 blocks-past a n m b p = rw (lt-ltb _ _ p)
@@ -46,7 +46,7 @@ module _ (T : List ℤ) (h : Sections) (d a b : ℕ) (within : a < b) where
     part-plain e = record { leads = λ l some. kind _ l some e }
 
     if-leads : {c : Condition} {n m : ℕ} (t : Bool) → ltb b (a + 1 + n + m) ≡ t → statementAt T h a ≡ Read (If c n m) → (l : ℕ) → 0 < l
-        → Leads (pickParts t (Refused (BlockLayout a)) (Blocks (a + 1 + n) (a + 1 + n + m))) T h d a b l
+        → Leads (cond t (Refused (BlockLayout a)) (Blocks (a + 1 + n) (a + 1 + n + m))) T h d a b l
     if-leads true z e l some = refuse _ _ _ z ∙ ap verdict (sym (kind _ l some e))
     if-leads false z e l some = (shallow, kind _ l some e ∙ skip _ _ _ z)
 
@@ -54,7 +54,7 @@ module _ (T : List ℤ) (h : Sections) (d a b : ℕ) (within : a < b) where
     part-if e = record { leads = if-leads _ refl e }
 
     while-leads : {c : Condition} {n : ℕ} (t : Bool) → ltb b (a + 1 + n) ≡ t → statementAt T h a ≡ Read (While c n) → (l : ℕ) → 0 < l
-        → Leads (pickParts t (Refused (BlockLayout a)) (Blocks (a + 1 + n) (a + 1 + n))) T h d a b l
+        → Leads (cond t (Refused (BlockLayout a)) (Blocks (a + 1 + n) (a + 1 + n))) T h d a b l
     while-leads true z e l some = refuse _ _ _ z ∙ ap verdict (sym (kind _ l some e))
     while-leads {c} {n} false z e l some =
         (shallow, (kind _ l some e ∙ skip _ _ _ z) ∙ rw (pass _ (blockLayout (l - 1) T h d (a + 1 + n) b) (block-end (l - 1) T h (d + 1) (a + 1 + n) (a + 1 + n) (omega arith))))

@@ -1,7 +1,7 @@
 -- Laws of known bounds after an effect, as the code meets them.
 use Prim.Native.Nat.{ℕ, _+_, _<_}
 use mathlib.Core.Path.{_≡_, refl, sym, ap, _∙_}
-use mathlib.Core.Bool.{Bool, true, false, not, _&&_, false≢true}
+use mathlib.Core.Bool.{Bool, true, false, not, _&&_, false≢true, cond}
 use mathlib.Core.List.{List}
 use native.Mathlib.Omega.{arith}
 use borrow.Author.Tests.{not-true}
@@ -9,12 +9,15 @@ use lib.Dec.{eqb}
 use lib.ListN.{length, set}
 use lib.Seq.{ext-getD}
 use Rattle.facts.specs.Store.{inRange}
-use Rattle.arrays.specs.Tabulate.{tabulate, length-tabulate, getD-tabulate, Filled, filled-more, filled-next, filled-kept}
+use Rattle.arrays.specs.Choice.{cond-either}
+use Rattle.arrays.specs.Tabulate.{tabulate}
+use Rattle.arrays.specs.TabulateLaws.{length-tabulate, getD-tabulate, Filled, filled-more, filled-next, filled-kept}
 use Rattle.facts.specs.declared.FactSet.{FactSet}
 use Rattle.sections.specs.SectionsLaws.{both}
 use Rattle.statements.specs.declared.Simple.{Simple}
 use Rattle.statements.specs.declared.Simple.the-variants.{Literal, AddConstant, Arithmetic, Null, Address, PointerOffset, PointerIndex, Load, Store, Check}
-use Rattle.rules.specs.BoundsRules.{nothingKnown, pickEnd, pickBounds, pickEffect, known, names, forgetEnd, shiftConstant, shiftEnd, forgetBounds, shiftBounds, objectBounds, effectOn, boundsAfter, effect}
+use Rattle.rules.specs.BoundsRules.{nothingKnown, known, names, forgetEnd, forgetBounds, objectBounds}
+use Rattle.rules.specs.Stored.{effect, shiftConstant, shiftEnd, shiftBounds, effectOn, boundsAfter}
 use Rattle.rules.specs.Ranges.{InRange, Measured, Short}
 use Rattle.rules.specs.declared.KnownEnd.{KnownEnd}
 use Rattle.rules.specs.declared.KnownEnd.the-variants.{Known, Unknown}
@@ -27,12 +30,13 @@ use Rattle.stays.specs.StaysLaws.{stored, stored-known}
 use Rattle.transfer.specs.Transfer.{sourceOf, effectOnOne}
 use Rattle.transfer.specs.TransferLaws.{effect-on-one, effect-on-read, source-within}
 use Rattle.bounds.specs.Kept.{keepsAll}
+use Rattle.rules.specs.BoundsRules as boundsRules
 
 -- ---- effects
 
 -- An effect that keeps all bounds makes the same list again.
 pub all-kept : (e : Effect) (K : List Bounds) {b : Bool} → length K ≡ 16 → b ≡ keepsAll e → b ≡ true → K ≡ boundsAfter e K
-unfolding boundsAfter effectOn
+unfolding boundsRules.boundsAfter boundsRules.effectOn
 all-kept Keep K l s t =
     ext-getD nothingKnown K (tabulate 16 (known K)) (l ∙ sym (length-tabulate 16 (known K))) (λ i h. sym (getD-tabulate 16 (known K) i nothingKnown (omega arith)))
 all-kept (Forget v) K l s t = absurd (false≢true (sym s ∙ t))
@@ -40,19 +44,15 @@ all-kept (Shift v k) K l s t = absurd (false≢true (sym s ∙ t))
 all-kept (Copy v q) K l s t = absurd (false≢true (sym s ∙ t))
 all-kept (Object v n) K l s t = absurd (false≢true (sym s ∙ t))
 
-short-picked : (b : Bool) (e g : Effect) → Short e → Short g → Short (pickEffect b e g)
-short-picked true e g p q = p
-short-picked false e g p q = q
-
 pub effect-short : (E : Environment) (f : FactSet) (s : Simple) → Measured E → InRange s → Short (effect E f s)
-unfolding effect
+unfolding boundsRules.effect
 effect-short E f (Literal x k) m r = tt
-effect-short E f (AddConstant x y k) m r = short-picked (inRange f y k && eqb x y) (Shift x k) (Forget x) tt tt
+effect-short E f (AddConstant x y k) m r = cond-either Short (inRange f y k && eqb x y) (Shift x k) (Forget x) tt tt
 effect-short E f (Arithmetic x y z op) m r = tt
 effect-short E f (Null p) m r = tt
 effect-short E f (Address p o) m r = m o
-effect-short E f (PointerOffset p q k) m r = short-picked (eqb p q) (Shift p k) (Copy p q) tt (r .1)
-effect-short E f (PointerIndex p q i) m r = short-picked (eqb p q) (Forget p) (Copy p q) tt r
+effect-short E f (PointerOffset p q k) m r = cond-either Short (eqb p q) (Shift p k) (Copy p q) tt (r .1)
+effect-short E f (PointerIndex p q i) m r = cond-either Short (eqb p q) (Forget p) (Copy p q) tt r
 effect-short E f (Load x p i k) m r = tt
 effect-short E f (Store p i k x) m r = tt
 effect-short E f (Check c) m r = tt
@@ -65,13 +65,13 @@ record Stays (v : ℕ) (e : KnownEnd) : Type 0 where
   moved : (k : ℕ) → shiftEnd v k e ≡ e
 
 end-stays : (v : ℕ) (e : KnownEnd) → endStays v e ≡ true → Stays v e
-unfolding endStays forgetEnd shiftEnd
+unfolding endStays forgetEnd boundsRules.shiftEnd
 end-stays v Unknown h = absurd (false≢true h)
 end-stays v (Known e) h =
     let n : names e v ≡ false = not-true (names e v) h in
     record {
-      forgotten = ap (λ (b : Bool). pickEnd b Unknown (Known e)) n;
-      moved = λ k. ap (λ (b : Bool). pickEnd b (shiftConstant k e) (Known e)) n;
+      forgotten = ap (λ (b : Bool). cond b Unknown (Known e)) n;
+      moved = λ k. ap (λ (b : Bool). cond b (shiftConstant k e) (Known e)) n;
     }
 
 module _ (v : ℕ) (b : Bounds) (h : boundsStay v b ≡ true) where
@@ -88,7 +88,7 @@ module _ (v : ℕ) (b : Bounds) (h : boundsStay v b ≡ true) where
   stay-forgotten = let e₁ = lower-stays .forgotten in let e₂ = upper-stays .forgotten in rw (e₁, e₂)
 
   stay-moved : (k : ℕ) → shiftBounds v k b ≡ b
-  unfolding shiftBounds
+  unfolding boundsRules.shiftBounds
   stay-moved k = let e₁ = lower-stays .moved k in let e₂ = upper-stays .moved k in rw (e₁, e₂)
 
 -- Bounds that stay are what the effect makes of them.
@@ -99,10 +99,10 @@ stays-same (Forget v) p own source h = stay-forgotten v own h
 stays-same (Shift v k) p own source h = stay-moved v own h k
 stays-same (Copy v q) p own source h =
     let t = both (not (eqb p v)) (boundsStay v own) h in
-    ap (λ (b : Bool). forgetBounds v (pickBounds b source own)) (not-true (eqb p v) (t .0)) ∙ stay-forgotten v own (t .1)
+    ap (λ (b : Bool). forgetBounds v (cond b source own)) (not-true (eqb p v) (t .0)) ∙ stay-forgotten v own (t .1)
 stays-same (Object v n) p own source h =
     let t = both (not (eqb p v)) (boundsStay v own) h in
-    ap (λ (b : Bool). pickBounds b (objectBounds v n) (forgetBounds v own)) (not-true (eqb p v) (t .0)) ∙ stay-forgotten v own (t .1)
+    ap (λ (b : Bool). cond b (objectBounds v n) (forgetBounds v own)) (not-true (eqb p v) (t .0)) ∙ stay-forgotten v own (t .1)
 
 pub stays-known : (e : Effect) (K : List Bounds) (p : ℕ) → stays e p (known K p) ≡ true → effectOn e K p ≡ known K p
 stays-known e K p h = effect-on-one e K p ∙ stays-same e p (known K p) (known K (sourceOf e)) h

@@ -7,7 +7,7 @@ use stays::replaced_by;
 use transfer::effect_on;
 use transfer::source_of;
 ghost use mathlib.Core.Path.{_≡_};
-ghost use Rattle.rules.specs.BoundsRules.{boundsAfter};
+ghost use Rattle.rules.specs.Stored.{boundsAfter};
 ghost use Rattle.rules.specs.Ranges.{Short};
 ghost use Rattle.bounds.specs.Kept.{keepsAll};
 

@@ -17,9 +17,8 @@ use Rattle.statements.specs.declared.StatementRead.the-variants.{Read, Unread}
 use Rattle.statements.specs.Statements.{statementAt}
 use Rattle.blocks.specs.Tree.{simples, simplesFrom}
 use Rattle.flow.specs.FlowLaws.{simples-some}
-use Rattle.rules.specs.FactRules.{factsAfter}
-use Rattle.rules.specs.BoundsRules.{effect, boundsAfter, unshown, accessShown}
-use Rattle.rules.specs.Rules.{Fault, refusal, notShown, also, faultIf, accessAt, boundsAt, bundleFacts, bundleBounds, bundleFaults}
+use Rattle.rules.specs.Stored.{factsAfter, effect, unshown, accessShown, bundleFacts, bundleBounds, bundleFaults, boundsAfter}
+use Rattle.rules.specs.Rules.{Fault, refusal, notShown, also, faultIf, accessAt, boundsAt}
 use Rattle.rules.specs.Verdict.{lowestVerdict}
 use Rattle.rules.specs.Ranges.{InRange, Measured, Short}
 use Rattle.effects.specs.Applied.{Applied, applied}
@@ -32,6 +31,7 @@ use Rattle.rules.specs.declared.Effect.{Effect}
 use Rattle.rules.specs.declared.Verdict.{Verdict}
 use Rattle.rules.specs.declared.Verdict.the-variants.{Accepted, Refused}
 use Rattle.bundles.specs.declared.Walked.{Walked}
+use Rattle.rules.specs.Rules as walkRules
 
 -- ---- faults in order
 
@@ -123,15 +123,15 @@ unfolding also
 also-none xs = refl
 
 line-none : (E : Environment) (head a : ℕ) (f : FactSet) (K : List Bounds) → lineFaults E head a [] f K ≡ boundsAt head (unshown E f K)
-unfolding bundleFaults bundleFacts bundleBounds
+unfolding walkRules.bundleFaults walkRules.bundleFacts walkRules.bundleBounds
 line-none E head a f K = also-none (boundsAt head (unshown E f K))
 
 facts-more : (s : Simple) (ss : List Simple) (f : FactSet) → bundleFacts (s ∷ ss) f ≡ bundleFacts ss (factsAfter s f)
-unfolding bundleFacts
+unfolding walkRules.bundleFacts
 facts-more s ss f = refl
 
 facts-none : (f : FactSet) → bundleFacts [] f ≡ f
-unfolding bundleFacts
+unfolding walkRules.bundleFacts
 facts-none f = refl
 
 pub also-assoc : (xs ys zs : List Fault) → also (also xs ys) zs ≡ also xs (also ys zs)
@@ -142,7 +142,7 @@ also-assoc (x ∷ xs) ys zs = ap (λ (l : List Fault). x ∷ l) (also-assoc xs y
 line-some : (E : Environment) (head a : ℕ) (s : Simple) (ss : List Simple) (f : FactSet) (K : List Bounds)
     → lineFaults E head a (s ∷ ss) f K ≡ also (faultIf (contradictory f) (Contradiction a)) (also (accessAt (accessShown E f K s) a)
     (lineFaults E head (a + 1) ss (factsAfter s f) (boundsAfter (effect E f s) K)))
-unfolding bundleFaults bundleFacts bundleBounds
+unfolding walkRules.bundleFaults walkRules.bundleFacts walkRules.bundleBounds
 line-some E head a s ss f K = also-assoc _ _ _ ∙ ap (also (faultIf (contradictory f) (Contradiction a))) (also-assoc _ _ _)
 
 module _ {T : List ℤ} {h : Sections} {E : Environment} {head count : ℕ} {f₀ : FactSet} {K₀ : List Bounds} {at left : ℕ} {f : FactSet} {K : List Bounds}

@@ -4,8 +4,8 @@ use mathlib.Core.Path.{_≡_}
 use mathlib.Core.List.{List, []}
 use Rattle.facts.specs.declared.FactSet.{FactSet}
 use Rattle.statements.specs.declared.Simple.{Simple}
-use Rattle.rules.specs.BoundsRules.{unshown}
-use Rattle.rules.specs.Rules.{Fault, also, boundsAt, bundleFacts, bundleBounds, bundleFaults}
+use Rattle.rules.specs.Stored.{unshown, bundleFacts, bundleBounds, bundleFaults}
+use Rattle.rules.specs.Rules.{Fault, also, boundsAt}
 use Rattle.rules.specs.Verdict.{lowestVerdict}
 use Rattle.rules.specs.declared.Bounds.{Bounds}
 use Rattle.rules.specs.declared.Environment.{Environment}

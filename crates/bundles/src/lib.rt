@@ -16,7 +16,7 @@ use statements::Statement;
 use statements::StatementRead;
 ghost use Prim.Native.Nat.{_+_, _^_, _<_};
 ghost use Rattle.blocks.specs.Tree.{simples};
-ghost use Rattle.rules.specs.BoundsRules.{unshown};
+ghost use Rattle.rules.specs.Stored.{unshown};
 ghost use Rattle.rules.specs.Rules.{boundsAt};
 ghost use Rattle.rules.specs.Ranges.{Measured};
 ghost use Rattle.bundles.specs.Bundles.{Passes, WalksBundle};

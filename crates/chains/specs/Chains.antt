@@ -5,7 +5,8 @@ use mathlib.Core.Logic.{_≢_, _⊎_, inl, inr, ⊎-elim}
 use mathlib.Core.Bool.{Bool, true, false}
 use native.Mathlib.Omega.{arith}
 use Rattle.sums.specs.Numbers.{bias, maxValue, zeroVar}
-use Rattle.chains.specs.Facts.{Variables, Node, Comparable, same-kind, from-zero, to-zero, Known, Always, lower, upper, Chain, empty, link, ChainWithin, Shown, Contradiction, LeastSums}
+use Rattle.chains.specs.Facts.{Variables, Node, Comparable, same-kind, from-zero, to-zero, Known, Always, lower, upper, Chain, empty, link, ChainWithin, Shown, Contradiction}
+use Rattle.chains.specs.LeastSums.{LeastSums}
 
 abbrev pub Includes : Known → Known → Type 0
 Includes K L = (a b c : ℕ) → K a b c → L a b c

@@ -2,16 +2,17 @@
 use Prim.Native.Nat.{ℕ, _+_, _-_, _^_, _≤_, _<_}
 use mathlib.Core.Path.{_≡_, refl}
 use mathlib.Core.Logic.{inl, inr, ⊎-elim, _↔_}
-use mathlib.Core.Bool.{Bool, true, false}
+use mathlib.Core.Bool.{Bool, true, false, cond}
 use native.Mathlib.Omega.{arith}
 use borrow.Author.Tests.{leb-true, le-leb}
 use lib.Dec.{leb}
 use Rattle.sums.specs.Numbers.{bias, maxValue, zeroVar}
 use Rattle.sums.specs.Sums.{concatenated}
-use Rattle.facts.specs.Store.{pickBool, sumAt, leastSum, shown, endShown}
+use Rattle.facts.specs.Store.{sumAt, leastSum, shown, endShown}
 use Rattle.sums.specs.SumsLaws.{concat-plain}
 use Rattle.facts.specs.StoreLaws.{least-node}
-use Rattle.chains.specs.Facts.{Variables, Node, Known, lower, upper, ChainWithin, Shown, Contradiction, EndShown, LeastSums}
+use Rattle.chains.specs.Facts.{Variables, Node, Known, lower, upper, ChainWithin, Shown, Contradiction, EndShown}
+use Rattle.chains.specs.LeastSums.{LeastSums}
 use Rattle.chains.specs.Chains.{weaken, one, zero-node, Sane, sinks, shows-every, at-most, closed, no-contradiction}
 use Rattle.facts.specs.declared.FactSet.{FactSet}
 
@@ -34,7 +35,7 @@ module _ (vars : Variables) (f : FactSet) (K : Known) (h : Exact vars f K) where
   unfolding shown
   shown-exact x y k hx hy = go (f .contradiction) refl
     where
-      go : (b : Bool) → f .contradiction ≡ b → (pickBool b true (leb (leastSum f x y) k) ≡ true) ↔ Shown K x y k
+      go : (b : Bool) → f .contradiction ≡ b → (cond b true (leb (leastSum f x y) k) ≡ true) ↔ Shown K x y k
       go true e = ((λ s. shows-every vars K (h .sane) (h .clash e) x y k hx hy), (λ s. refl))
       go false e =
           let l : LeastSums vars (sumAt f) K = h .least e in
@@ -80,7 +81,7 @@ module _ (vars : Variables) (f : FactSet) (K : Known) (h : Exact vars f K) where
       two : {p₁ m₁ p₂ m₂ : ℕ} → ChainWithin K q r p₁ m₁ → ChainWithin K n m p₂ m₂ → p₁ + p₂ + k ≤ j + (m₁ + m₂) → EndShown K q n k r m j
       two a b l = record { up₁ = a .up; down₁ = a .down; first = a .chain; up₂ = b .up; down₂ = b .down; second = b .chain; within = omega arith }
 
-      go : (b : Bool) → f .contradiction ≡ b → (pickBool b true (leb (concatenated (concatenated (leastSum f q r) (leastSum f n m)) k) j) ≡ true) ↔ EndShown K q n k r m j
+      go : (b : Bool) → f .contradiction ≡ b → (cond b true (leb (concatenated (concatenated (leastSum f q r) (leastSum f n m)) k) j) ≡ true) ↔ EndShown K q n k r m j
       go true e = ((λ s. two (sinks vars K (h .sane) (h .clash e) q r k hq hr) (sinks vars K (h .sane) (h .clash e) n m 0 hn hm) (omega arith)), (λ s. refl))
       go false e =
           let l : LeastSums vars (sumAt f) K = h .least e in

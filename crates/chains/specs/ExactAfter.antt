@@ -2,17 +2,19 @@
 use Prim.Native.Nat.{ℕ, _+_, _-_, _^_, _≤_, _<_, min, max}
 use mathlib.Core.Path.{_≡_, refl, sym, ap, _∙_}
 use mathlib.Core.Logic.{_≢_, inl, inr}
-use mathlib.Core.Bool.{Bool, true, false, false≢true}
+use mathlib.Core.Bool.{Bool, true, false, false≢true, cond}
 use native.Mathlib.Omega.{arith}
 use native.Mathlib.Decide.{ℕ-discrete}
 use borrow.Author.Tests.{leb-true, leb-false, ltb-true, ltb-false, eqb-true, ne-eqb}
 use lib.Dec.{leb, ltb, eqb}
 use Rattle.sums.specs.Numbers.{bias, maxValue, zeroVar}
-use Rattle.sums.specs.Sums.{pick, concatenated, negated}
+use Rattle.sums.specs.Sums.{concatenated, negated}
 use Rattle.facts.specs.Store.{sumAt, leastSum, shown, newSet, lowered, marked, added, reassigned, dropped, ranged, shifted, related, joinedSum, joined}
 use Rattle.sums.specs.SumsLaws.{concat-plain}
 use Rattle.facts.specs.StoreLaws.{least-node, shown-clear, not-shown, added-shown, added-closed, added-lowered, dropped-variable, ranged-variable, shifted-variable, joined-first, joined-second, joined-both, sum-new, sum-lowered, sum-reassigned, sum-joined, anewAt}
-use Rattle.chains.specs.Facts.{Variables, Node, Comparable, same-kind, from-zero, to-zero, Known, Always, lower, upper, Shown, Contradiction, With, before, fact, Without, kept, always, raise, Moved, moved, Shifted, Both, both, LeastSums}
+use Rattle.chains.specs.Facts.{Variables, Node, Comparable, same-kind, from-zero, to-zero, Known, Always, lower, upper, Shown, Contradiction, With, before, fact, Without, kept, always, raise, Moved, moved, Shifted, Both, both}
+use Rattle.chains.specs.LeastSums.{LeastSums}
+use Rattle.chains.specs.History.{Another, Slight}
 use Rattle.chains.specs.Chains.{one, more-contradiction, contradiction-of, zero-node, left-node, right-node, always-comparable, Sane, shows-every, closed, least-same, least-known}
 use Rattle.chains.specs.Operations.{with-comparable, without-comparable, moved-comparable, both-comparable, new-least, add-shown, add-contradiction, add-least, anewSums, anew-least, shift-least, closure-least}
 use Rattle.chains.specs.Join.{joinAt, join-least}
@@ -48,10 +50,10 @@ tight {vars} {f} {K} h = record {
 
 -- The sums after a fact that was neither shown nor contradictory: a row that is left as it is has no sum to lower.
 lowered-plain : (here row start through : ℕ) → here + bias ≤ row + through → start < 2 ^ 40 → through < 2 ^ 40
-    → pick (leb row start) here (min here (concatenated start through)) ≡ min here (start + through - bias)
+    → cond (leb row start) here (min here (concatenated start through)) ≡ min here (start + through - bias)
 lowered-plain here row start through t hs ht = go (leb row start) refl
   where
-    go : (b : Bool) → leb row start ≡ b → pick b here (min here (concatenated start through)) ≡ min here (start + through - bias)
+    go : (b : Bool) → leb row start ≡ b → cond b here (min here (concatenated start through)) ≡ min here (start + through - bias)
     go true e = omega (arith, leb-true row start e)
     go false e = rw (concat-plain start through hs ht)
 
@@ -135,12 +137,6 @@ added-exact vars f K h x y k r =
 
 -- ---- drop and a range
 
--- Where the facts contradict, dropping x keeps the contradiction only if another variable is left to tell it.
-pub record Another (vars : Variables) (x : ℕ) : Type 0 where
-  pub other : ℕ
-  pub variable : other < vars .count
-  pub apart : other ≢ x
-
 without-sane : (vars : Variables) (x : ℕ) (K : Known) → Sane vars (Without vars x K)
 without-sane vars x K = record { related = without-comparable vars K x; ranged = λ a b c w. always w }
 
@@ -210,11 +206,6 @@ module _ (vars : Variables) (f : FactSet) (K : Known) (h : Exact vars f K) (x : 
       within a b c fact = always (lower hx)
 
 -- ---- shift
-
--- A shift is by at most 2^32 + 1 either way.
-pub record Slight (k : ℕ) : Type 0 where
-  pub floor : maxValue ≤ k
-  pub ceiling : k + maxValue ≤ bias + bias
 
 module _ (vars : Variables) (f : FactSet) (K : Known) (h : Exact vars f K) (x k : ℕ) (hx : x < vars .count) (hk : Slight k) where
   room : (a b : Bool) (s : ℕ) → s ≤ bias + maxValue → bias ≤ s + maxValue → (raise b k ≤ s + raise a k) × (s + raise a k ≤ bias + bias + raise b k)

@@ -1,6 +1,6 @@
 -- The paper's section "Facts", sentence by sentence: facts, chains, what is shown, what contradicts, and what is known after each operation.
 -- These definitions say what is right; that the fact store does it is proved in Exact.
-use Prim.Native.Nat.{ℕ, _+_, _-_, _≤_, _<_}
+use Prim.Native.Nat.{ℕ, _+_, _≤_, _<_}
 use mathlib.Core.Path.{_≡_}
 use mathlib.Core.Logic.{_≢_, _⊎_}
 use mathlib.Core.Bool.{Bool, true, false}
@@ -95,10 +95,3 @@ Shifted vars x k K = With (With (Moved vars (λ a. raise (eqb a x) k) K) zeroVar
 -- "afterwards what both sides show."
 pub data Both (vars : Variables) (K L : Known) : ℕ → ℕ → ℕ → Type 0 where
   both : {a b c : ℕ} → Comparable vars a b → Shown K a b c → Shown L a b c → Both vars K L a b c
-
--- ---- What a fact set promises
-
--- "The store keeps the least sums": each is the sum of a chain, and no chain has a lesser one.
-pub record LeastSums (vars : Variables) (sum : ℕ → ℕ → ℕ) (K : Known) : Type 0 where
-  pub attained : (x y : ℕ) → Node vars x → Node vars y → Shown K x y (sum x y)
-  pub lowest : {x y up down : ℕ} → Node vars x → Node vars y → Chain K x y up down → sum x y + down ≤ up + bias

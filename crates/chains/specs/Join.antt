@@ -2,13 +2,14 @@
 use Prim.Native.Nat.{ℕ, _+_, _-_, _≤_, _<_, max}
 use mathlib.Core.Path.{_≡_, refl, sym, _∙_}
 use mathlib.Core.Logic.{_≢_, _⊎_, inl, inr}
-use mathlib.Core.Bool.{Bool, true, false}
+use mathlib.Core.Bool.{Bool, true, false, cond}
 use native.Mathlib.Omega.{arith}
 use borrow.Author.Tests.{ne-eqb}
 use lib.Dec.{eqb}
 use Rattle.sums.specs.Numbers.{bias, zeroVar}
-use Rattle.facts.specs.Store.{pickBool, same, related}
-use Rattle.chains.specs.Facts.{Variables, Node, Comparable, same-kind, from-zero, to-zero, Known, Shown, Both, both, LeastSums}
+use Rattle.facts.specs.Store.{same, related}
+use Rattle.chains.specs.Facts.{Variables, Node, Comparable, same-kind, from-zero, to-zero, Known, Shown, Both, both}
+use Rattle.chains.specs.LeastSums.{LeastSums}
 use Rattle.chains.specs.Chains.{weaken, one, Pair, comparable, zeros, mixed, pair, same-or-not, zero-node, left-node, right-node, Closed, at-most, closed}
 use Rattle.chains.specs.Operations.{both-comparable, least-of-facts}
 
@@ -36,7 +37,7 @@ module _ (vars : Variables) where
   related-to-zero : (i : ℕ) → related (vars .pointer) i zeroVar ≡ true
   related-to-zero i = go (eqb i zeroVar)
     where
-      go : (b : Bool) → pickBool b true true ≡ true
+      go : (b : Bool) → cond b true true ≡ true
       go true = refl
       go false = refl
 

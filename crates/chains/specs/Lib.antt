@@ -1,9 +1,11 @@
 pub mod Facts
+pub mod History
+pub mod LeastSums
 pub mod Chains
 pub mod Operations
 pub mod Join
 pub mod Exact
 pub mod ExactAfter
-pub mod History
+pub mod HistoryLaws
 pub mod Sound
 pub mod Examples

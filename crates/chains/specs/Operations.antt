@@ -2,16 +2,16 @@
 use Prim.Native.Nat.{ℕ, _+_, _-_, _≤_, _<_, min}
 use mathlib.Core.Path.{_≡_, refl, sym, ap, _∙_}
 use mathlib.Core.Logic.{_≢_, _⊎_, inl, inr}
-use mathlib.Core.Bool.{Bool, true, false}
+use mathlib.Core.Bool.{Bool, true, false, cond}
 use native.Mathlib.Omega.{arith}
 use native.Mathlib.Decide.{ℕ-discrete}
 use borrow.Author.Tests.{leb-true, leb-false, eqb-true, eqb-false, eq-eqb, ne-eqb}
 use lib.Dec.{leb, eqb}
 use Rattle.sums.specs.Numbers.{bias, maxValue, zeroVar}
-use Rattle.sums.specs.Sums.{pick}
 use Rattle.facts.specs.Store.{newSum}
 use Rattle.facts.specs.StoreLaws.{anewAt}
-use Rattle.chains.specs.Facts.{Variables, Node, Comparable, from-zero, to-zero, Known, Always, lower, upper, ChainWithin, Shown, Contradiction, With, before, fact, Without, kept, always, Both, both, Moved, moved, LeastSums}
+use Rattle.chains.specs.Facts.{Variables, Node, Comparable, from-zero, to-zero, Known, Always, lower, upper, ChainWithin, Shown, Contradiction, With, before, fact, Without, kept, always, Both, both, Moved, moved}
+use Rattle.chains.specs.LeastSums.{LeastSums}
 use Rattle.chains.specs.Chains.{append, weaken, one, none, more-shown, contradiction-of, Pair, comparable, zeros, mixed, pair, zero-node, left-node, right-node, always-comparable, Closed, lowest-of, at-most, closed, through-zero}
 
 -- ---- each operation keeps to comparable pairs
@@ -46,12 +46,12 @@ module _ (vars : Variables) (D : ℕ → ℕ → ℕ) (K : Known) (related : (x 
 -- ---- new
 
 module _ (vars : Variables) where
-  new-low : (a b : Bool) → bias ≤ pick a bias (pick b bias (bias + maxValue))
+  new-low : (a b : Bool) → bias ≤ cond a bias (cond b bias (bias + maxValue))
   new-low true b = omega arith
   new-low false true = omega arith
   new-low false false = omega arith
 
-  new-high : (a b : Bool) → pick a bias (pick b bias (bias + maxValue)) ≤ bias + maxValue
+  new-high : (a b : Bool) → cond a bias (cond b bias (bias + maxValue)) ≤ bias + maxValue
   new-high true b = omega arith
   new-high false true = omega arith
   new-high false false = omega arith
@@ -59,7 +59,7 @@ module _ (vars : Variables) where
   new-from-zero : (y : ℕ) → newSum zeroVar y ≡ bias
   new-from-zero y = go (eqb zeroVar y)
     where
-      go : (b : Bool) → pick b bias bias ≡ bias
+      go : (b : Bool) → cond b bias bias ≡ bias
       go true = refl
       go false = refl
 

@@ -2,13 +2,13 @@
 use Prim.Native.Nat.{ℕ, _+_, _-_, _^_, _≤_, _<_, min, max}
 use mathlib.Core.Path.{_≡_, refl, sym, ap, _∙_}
 use mathlib.Core.Logic.{_≢_}
-use mathlib.Core.Bool.{Bool, true, false, false≢true}
+use mathlib.Core.Bool.{Bool, true, false, false≢true, cond}
 use native.Mathlib.Omega.{arith}
 use borrow.Author.Tests.{leb-true, leb-false, le-leb, ltb-true, ltb-false, eqb-true, eqb-false}
 use lib.Dec.{leb, ltb, eqb}
 use Rattle.sums.specs.Numbers.{bias, maxValue, zeroVar}
-use Rattle.sums.specs.Sums.{pick, unbounded, concatenated, negated}
-use Rattle.facts.specs.Store.{pickBool, sumAt, leastSum, shown, endShown, newSet, lowered, added, reassigned, dropped, ranged, shifted, related, joinedSum, joined}
+use Rattle.sums.specs.Sums.{unbounded, concatenated, negated}
+use Rattle.facts.specs.Store.{sumAt, leastSum, shown, endShown, newSet, lowered, added, reassigned, dropped, ranged, shifted, related, joinedSum, joined}
 use Rattle.facts.specs.StoreLaws.{anewAt, least-node, shown-clear, added-left, added-right, added-shown, added-lowered, dropped-variable, ranged-variable, shifted-variable, joined-first, joined-second, joined-both, sum-new, sum-lowered, sum-reassigned, sum-joined}
 use Rattle.facts.specs.declared.FactSet.{FactSet}
 
@@ -52,7 +52,7 @@ concat-true : (u v w a b : ℕ) → u ≤ maxValue → u + bias ≤ v + a → v 
 unfolding concatenated
 concat-true u v w a b hu p q = go (leb (2 ^ 40) a) (leb (2 ^ 40) b)
   where
-    go : (s t : Bool) → u + bias ≤ w + pick s unbounded (pick t unbounded (a + b - bias))
+    go : (s t : Bool) → u + bias ≤ w + cond s unbounded (cond t unbounded (a + b - bias))
     go true t = omega arith
     go false true = omega arith
     go false false = omega arith
@@ -62,7 +62,7 @@ concat-bounded : (a b : ℕ) → concatenated a b < unbounded → a + b ≤ conc
 unfolding concatenated
 concat-bounded a b h = go (leb (2 ^ 40) a) (leb (2 ^ 40) b) h
   where
-    go : (s t : Bool) → pick s unbounded (pick t unbounded (a + b - bias)) < unbounded → a + b ≤ pick s unbounded (pick t unbounded (a + b - bias)) + bias
+    go : (s t : Bool) → cond s unbounded (cond t unbounded (a + b - bias)) < unbounded → a + b ≤ cond s unbounded (cond t unbounded (a + b - bias)) + bias
     go true t h = absurd (omega arith)
     go false true h = absurd (omega arith)
     go false false h = omega arith
@@ -71,7 +71,7 @@ concat-inner : (a b : ℕ) → concatenated a b < unbounded → a < 2 ^ 40
 unfolding concatenated
 concat-inner a b h = go (leb (2 ^ 40) a) refl h
   where
-    go : (s : Bool) → leb (2 ^ 40) a ≡ s → pick s unbounded (pick (leb (2 ^ 40) b) unbounded (a + b - bias)) < unbounded → a < 2 ^ 40
+    go : (s : Bool) → leb (2 ^ 40) a ≡ s → cond s unbounded (cond (leb (2 ^ 40) b) unbounded (a + b - bias)) < unbounded → a < 2 ^ 40
     go true e h = absurd (omega arith)
     go false e h = leb-false (2 ^ 40) a e
 
@@ -80,7 +80,7 @@ pub end-true : (f : FactSet) (v : ℕ → ℕ) → Holds f v → (q n k r m j : 
 unfolding endShown
 end-true f v h q n k r m j hq hn hr hm hj s = go (f .contradiction) (holds-clear f v h) s
   where
-    go : (b : Bool) → b ≡ false → pickBool b true (leb (concatenated (concatenated (leastSum f q r) (leastSum f n m)) k) j) ≡ true → v q + v n + k ≤ v r + v m + j
+    go : (b : Bool) → b ≡ false → cond b true (leb (concatenated (concatenated (leastSum f q r) (leastSum f n m)) k) j) ≡ true → v q + v n + k ≤ v r + v m + j
     go true e t = absurd (false≢true (sym e))
     go false e t =
         let i : ℕ = concatenated (leastSum f q r) (leastSum f n m) in
@@ -90,7 +90,7 @@ end-true f v h q n k r m j hq hn hr hm hj s = go (f .contradiction) (holds-clear
         let u₃ : leastSum f q r + leastSum f n m ≤ i + bias = concat-bounded (leastSum f q r) (leastSum f n m) (omega arith) in
         omega (arith, holds-sum f v h q r hq hr, holds-sum f v h n m hn hm, least-node f q r hq hr, least-node f n m hn hm)
 
-either : (b : Bool) (u w old new : ℕ) → u + bias ≤ w + old → u + bias ≤ w + new → u + bias ≤ w + pick b old (min old new)
+either : (b : Bool) (u w old new : ℕ) → u + bias ≤ w + old → u + bias ≤ w + new → u + bias ≤ w + cond b old (min old new)
 either true u w old new p q = p
 either false u w old new p q = omega arith
 
@@ -100,7 +100,7 @@ pub new-holds : (v : ℕ → ℕ) → InRange v → Holds newSet v
 unfolding newSet
 new-holds v g = holds-of-sums newSet v refl (λ x y hx hy. rw (sum-new newSet x y hx hy) (go x y (eqb x y) (eqb x zeroVar) refl refl))
   where
-    go : (x y : ℕ) (a b : Bool) → eqb x y ≡ a → eqb x zeroVar ≡ b → v x + bias ≤ v y + pick a bias (pick b bias (bias + maxValue))
+    go : (x y : ℕ) (a b : Bool) → eqb x y ≡ a → eqb x zeroVar ≡ b → v x + bias ≤ v y + cond a bias (cond b bias (bias + maxValue))
     go x y true b p q = omega (arith, ap v (eqb-true x y p))
     go x y false true p q = omega (arith, ap v (eqb-true x zeroVar q), g .zero-is)
     go x y false false p q = omega (arith, g .below x)

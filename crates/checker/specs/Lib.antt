@@ -1,5 +1,3 @@
 pub mod Walk
 pub mod WalkLaws
 pub mod VerdictLaws
-pub mod ExactWalk
-pub mod ExactBounds

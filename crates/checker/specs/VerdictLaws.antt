@@ -1,19 +1,20 @@
 -- Laws of the verdict on a table.
 use Prim.Native.Nat.{ℕ, _^_, _<_, _≤_}
 use mathlib.Core.Path.{_≡_, refl, sym, ap, ap₂, _∙_}
-use mathlib.Core.Bool.{Bool, true, false, _&&_}
+use mathlib.Core.Bool.{Bool, true, false, _&&_, cond}
 use mathlib.Core.List.{List, [], _∷_, List·Memᴰ·head}
 use native.Mathlib.Omega.{arith}
 use borrow.Author.Tests.{ltb-true, ltb-false}
 use lib.IntN.{ℤ}
 use lib.Dec.{ltb}
 use lib.ListN.{length, getD, List·getD-eq-default}
-use Rattle.arrays.specs.Tabulate.{tabulate, length-tabulate, getD-tabulate}
+use Rattle.arrays.specs.Tabulate.{tabulate}
+use Rattle.arrays.specs.TabulateLaws.{length-tabulate, getD-tabulate}
 use Rattle.facts.specs.Store.{newSet}
 use Rattle.facts.specs.declared.FactSet.{FactSet}
 use Rattle.refusals.specs.declared.Refusal.{Refusal}
 use Rattle.words.specs.Words.{word}
-use Rattle.fields.specs.Fields.{plain, pickNumber}
+use Rattle.fields.specs.Fields.{plain}
 use Rattle.sections.specs.Sections.{inLimits, objectStart}
 use Rattle.sections.specs.SectionsLaws.{object-limits}
 use Rattle.sections.specs.declared.Sections.{Sections}
@@ -26,14 +27,18 @@ use Rattle.blocks.specs.Tree.{parse, tree}
 use Rattle.blocks.specs.Layout.{layout, verdict}
 use Rattle.blocks.specs.declared.Layout.{Layout}
 use Rattle.blocks.specs.declared.Layout.the-variants as layout-variant
-use Rattle.rules.specs.Rules.{Fault, refusal, notShown, also, blockFaults}
-use Rattle.rules.specs.Verdict.{environmentOf, refusals, sectionFaults, formFaults, faults, Answers, lowestVerdict}
+use Rattle.rules.specs.Rules.{Fault, refusal, notShown, also}
+use Rattle.rules.specs.Stored.{blockFaults, sectionFaults, formFaults, faults}
+use Rattle.rules.specs.Verdict.{environmentOf, refusals, Answers, lowestVerdict}
 use Rattle.rules.specs.Ranges.{Measured}
+use Rattle.rules.specs.ByChains.{Judged}
+use Rattle.rules.specs.Decidable.{judged}
 use Rattle.checker.specs.Walk.{Walks}
 use Rattle.rules.specs.declared.Environment.{Environment}
 use Rattle.rules.specs.declared.Verdict.{Verdict}
 use Rattle.rules.specs.declared.Verdict.the-variants.{Refused}
 use Rattle.bundles.specs.declared.Walked.{Walked}
+use Rattle.rules.specs.Verdict as verdictRules
 
 -- The lengths that a well-formed table declares are in range.
 module _ (T : List ℤ) (h : Sections) (w : Formed T h) where
@@ -41,8 +46,8 @@ module _ (T : List ℤ) (h : Sections) (w : Formed T h) where
   unfolding objectAt
   object-short o = go (inLimits h && ltb o (h .objects)) refl
     where
-      go : (b : Bool) → (inLimits h && ltb o (h .objects)) ≡ b → pickNumber b (plain (word T (objectStart o))) 0 < 2 ^ 40
-      go true e = let q : objectAt T h o ≡ plain (word T (objectStart o)) = ap (λ (b : Bool). pickNumber b (plain (word T (objectStart o))) 0) e in
+      go : (b : Bool) → (inLimits h && ltb o (h .objects)) ≡ b → cond b (plain (word T (objectStart o))) 0 < 2 ^ 40
+      go true e = let q : objectAt T h o ≡ plain (word T (objectStart o)) = ap (λ (b : Bool). cond b (plain (word T (objectStart o))) 0) e in
           omega (arith, w .objects o (object-limits h o e .1))
       go false e = omega arith
 
@@ -72,12 +77,12 @@ none-laid (x ∷ xs) ys e = cc
 
 module _ (T : List ℤ) (h : Sections) {l : Layout} (e : l ≡ verdict (layout T h)) where
   pub section-refused : {r : Refusal} → l ≡ layout-variant.Refused r → Refused r ≡ lowestVerdict (sectionFaults T h)
-  unfolding sectionFaults
+  unfolding verdictRules.sectionFaults
   section-refused p = first-refused (layout T h) _ (sym e ∙ p)
 
   pub section-walked : {E : Environment} {f : FactSet} {w : Walked} → l ≡ layout-variant.LaidOut → E ≡ environmentOf T h → f ≡ newSet
       → Walks T h E (parse (h .statements) T h 0 (h .statements)) f w → w .verdict ≡ lowestVerdict (sectionFaults T h)
-  unfolding sectionFaults tree
+  unfolding verdictRules.sectionFaults tree
   section-walked p q n w =
       w .said ∙ ap lowestVerdict (ap₂ (λ (F : Environment) (g : FactSet). blockFaults T h F (parse (h .statements) T h 0 (h .statements)) g) q n
       ∙ sym (none-laid (layout T h) _ (sym e ∙ p)))
@@ -90,13 +95,13 @@ lowest-answers (refusal r ∷ xs) e = e
 lowest-answers (notShown a p ps ∷ xs) e = (p, List·Memᴰ·head refl, e)
 
 module _ (T : List ℤ) {f : Form} (e : f ≡ formOf T) where
-  pub form-refused : {r : Refusal} → f ≡ form.Refused r → Answers (faults T) (Refused r)
-  unfolding faults lowestVerdict
-  form-refused p = lowest-answers (faults T) (ap (λ (g : Form). lowestVerdict (formFaults T g)) (sym p ∙ e))
+  pub form-refused : {r : Refusal} → f ≡ form.Refused r → Judged T (Refused r)
+  unfolding verdictRules.faults lowestVerdict
+  form-refused {r} p = judged T (Refused r) (lowest-answers (faults T) (ap (λ (g : Form). lowestVerdict (formFaults T g)) (sym p ∙ e)))
 
-  pub form-checked : {h : Sections} {v : Verdict} → f ≡ form.WellFormed h → v ≡ lowestVerdict (sectionFaults T h) → Answers (faults T) v
-  unfolding faults
-  form-checked p q = lowest-answers (faults T) (q ∙ ap (λ (g : Form). lowestVerdict (formFaults T g)) (sym p ∙ e))
+  pub form-checked : {h : Sections} {v : Verdict} → f ≡ form.WellFormed h → v ≡ lowestVerdict (sectionFaults T h) → Judged T v
+  unfolding verdictRules.faults
+  form-checked {v = v} p q = judged T v (lowest-answers (faults T) (q ∙ ap (λ (g : Form). lowestVerdict (formFaults T g)) (sym p ∙ e)))
 
   pub form-formed : {h : Sections} → f ≡ form.WellFormed h → Formed T h
   form-formed p = well-formed T _ (sym e ∙ p)

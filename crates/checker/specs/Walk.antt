@@ -4,7 +4,7 @@ use lib.IntN.{ℤ}
 use Rattle.facts.specs.declared.FactSet.{FactSet}
 use Rattle.sections.specs.declared.Sections.{Sections}
 use Rattle.blocks.specs.Tree.{Block}
-use Rattle.rules.specs.Rules.{blockFacts, blockFaults}
+use Rattle.rules.specs.Stored.{blockFacts, blockFaults}
 use Rattle.rules.specs.declared.Environment.{Environment}
 use Rattle.bundles.specs.Bundles.{Passes}
 use Rattle.bundles.specs.declared.Walked.{Walked}

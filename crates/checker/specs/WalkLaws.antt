@@ -21,10 +21,10 @@ use Rattle.statements.specs.Statements.{statementAt}
 use Rattle.statements.specs.StatementLaws.{read-typed, read-limits, read-counts-if, read-counts-while, read-counts-bundle}
 use Rattle.blocks.specs.Tree.{Block, nil, unread, simples, node, parse}
 use Rattle.blocks.specs.TreeLaws.{parse-none, parse-end, parse-some}
-use Rattle.flow.specs.Shape.{targetsFrom}
-use Rattle.rules.specs.FactRules.{factsAfter, conditionFacts, loopFacts}
-use Rattle.rules.specs.BoundsRules.{isPointer, effect, boundsAfter, unshown}
-use Rattle.rules.specs.Rules.{Fault, also, faultIf, boundsAt, bundleFacts, bundleBounds, bundleFaults, blockFacts, blockFaults}
+use Rattle.flow.specs.Targets.{targetsFrom}
+use Rattle.rules.specs.Stored.{factsAfter, conditionFacts, loopFacts, effect, unshown, bundleFacts, bundleBounds, bundleFaults, blockFacts, blockFaults, boundsAfter}
+use Rattle.rules.specs.BoundsRules.{isPointer}
+use Rattle.rules.specs.Rules.{Fault, also, faultIf, boundsAt}
 use Rattle.rules.specs.Verdict.{lowestVerdict}
 use Rattle.rules.specs.Ranges.{InRange}
 use Rattle.effects.specs.Applied.{Applied, applied}
@@ -39,6 +39,7 @@ use Rattle.rules.specs.declared.Verdict.{Verdict}
 use Rattle.rules.specs.declared.Verdict.the-variants.{Accepted, Refused}
 use Rattle.bundles.specs.declared.Walked.{Walked}
 use Rattle.bundles.specs.BundleLaws.{pass, skip, stops, fault-verdict, ends, carry, also-assoc, none-refused, applied-facts, applied-effect, lineFaults}
+use Rattle.rules.specs.Rules as walkRules
 
 -- A walk of the one block is a walk of the other.
 pub record Same (T : List ℤ) (h : Sections) (E : Environment) (b : Block) (f : FactSet) (c : Block) (g : FactSet) : Type 0 where
@@ -54,11 +55,11 @@ pub kept-none : (T : List ℤ) (h : Sections) (E : Environment) (first end allow
 kept-none T h E first end allowed f₀ = record { same = record { blamed = refl; left = refl }; less = omega arith }
 
 nil-passes : (T : List ℤ) (h : Sections) (E : Environment) (b : Block) (f : FactSet) {w : Walked} → b ≡ nil → w .verdict ≡ Accepted → w .facts ≡ f → Walks T h E b f w
-unfolding blockFaults blockFacts
+unfolding walkRules.blockFaults walkRules.blockFacts
 nil-passes T h E b f e p q = rw e (ends refl p q)
 
 unread-stops : (T : List ℤ) (h : Sections) (E : Environment) (b : Block) (f : FactSet) (a : ℕ) {w : Walked} → b ≡ unread a → w .verdict ≡ Refused (StatementRecord a) → Walks T h E b f w
-unfolding blockFaults lowestVerdict
+unfolding walkRules.blockFaults lowestVerdict
 unread-stops T h E b f a e p = rw e (record { said = p; kept = λ q. let o : _≡_ {A = ℕ} 0 1 = cc in absurd (omega arith) })
 
 module _ {T : List ℤ} {h : Sections} {E : Environment} {end allowed : ℕ} {b : Block} {f₀ : FactSet} {at left : ℕ} {f : FactSet} (k : Kept T h E end allowed b f₀ at left f) where
@@ -113,14 +114,14 @@ module _ (T : List ℤ) (h : Sections) (E : Environment) (at left end : ℕ) (f 
   kindFacts (Bundle n) = blockFacts T h E (rest T h left (at + 1 + n) end) (bundleFacts (simples n T h (at + 1)) f)
 
   faults-here : (s : Statement) → blockFaults T h E (at-statement s) f ≡ also (faultIf (contradictory f) (Contradiction at)) (kindFaults s)
-  unfolding blockFaults
+  unfolding walkRules.blockFaults
   faults-here (Plain s) = refl
   faults-here (If c n m) = refl
   faults-here (While c n) = refl
   faults-here (Bundle n) = refl
 
   facts-here : (s : Statement) → blockFacts T h E (at-statement s) f ≡ kindFacts s
-  unfolding blockFacts
+  unfolding walkRules.blockFacts
   facts-here (Plain s) = refl
   facts-here (If c n m) = refl
   facts-here (While c n) = refl

@@ -12,7 +12,9 @@ use table::read_form;
 use touched::named_in;
 ghost use mathlib.Core.Path.{_≡_};
 ghost use Rattle.table.specs.FormLaws.{Formed};
-ghost use Rattle.rules.specs.Verdict.{sectionFaults, faults, Answers, lowestVerdict};
+ghost use Rattle.rules.specs.Verdict.{lowestVerdict};
+ghost use Rattle.rules.specs.ByChains.{Judged};
+ghost use Rattle.rules.specs.Stored.{sectionFaults};
 
 // Cause 6, then the walk over the statements, begun with what is always known.
 fn check_sections(table: &[i32], sections: Sections) -> Verdict
@@ -43,7 +45,7 @@ fn check_sections(table: &[i32], sections: Sections) -> Verdict
 
 // The verdict on a routine table. Of several pointers whose declared bounds are not shown, refusal 8 names one.
 pub fn check(table: &[i32]) -> Verdict
-    ensures { λ r. ⌜ Answers (faults (now (table .entry))) r ⌝ }
+    ensures { λ r. ⌜ Judged (now (table .entry)) r ⌝ }
 {
     let form = read_form(table);
     match form {

@@ -1,14 +1,14 @@
 -- Laws of the checks and of conditions, in the words of the code.
 use Prim.Native.Nat.{ℕ, zero, suc, _+_, _*_, _<_}
 use mathlib.Core.Path.{_≡_, refl}
-use mathlib.Core.Bool.{Bool, true, false, not, _||_}
+use mathlib.Core.Bool.{Bool, true, false, not, _||_, cond}
 use mathlib.Core.List.{List}
 use lib.Dec.{leb, ltb, eqb}
 use Rattle.sums.specs.Numbers.{bias, maxValue}
-use Rattle.arrays.specs.Tabulate.{getD-tabulate}
+use Rattle.arrays.specs.TabulateLaws.{getD-tabulate}
 use Rattle.rules.specs.BoundsRules.{nothingKnown}
 use Rattle.machine.specs.Machine.{value, endValue, relates, none, firstOf, accessFailing, arithmeticFailing}
-use Rattle.checks.specs.Checked.{endIn, boundsIn, declaredIn, pickStep, stepUnless}
+use Rattle.checks.specs.Checked.{endIn, boundsIn, declaredIn, stepUnless}
 use Rattle.stops.specs.declared.Check.the-variants.{NullAccess, OutOfBounds, NullArithmetic, AddressRange}
 use Rattle.checks.specs.declared.Step.the-variants.{Go, Stop}
 
@@ -23,13 +23,13 @@ relates-else (suc (suc (suc (suc (suc r))))) x y a b c d e = refl
 
 -- The first of two checks that fails.
 module _ (at next : ℕ) where
-  access-picked : (x y : Bool) → pickStep x (Stop (NullAccess at)) (pickStep y (Stop (OutOfBounds at)) (Go next)) ≡ stepUnless (firstOf x 2 (firstOf y 3 none)) at next
+  access-picked : (x y : Bool) → cond x (Stop (NullAccess at)) (cond y (Stop (OutOfBounds at)) (Go next)) ≡ stepUnless (firstOf x 2 (firstOf y 3 none)) at next
   unfolding stepUnless
   access-picked true y = refl
   access-picked false true = refl
   access-picked false false = refl
 
-  arithmetic-picked : (x y : Bool) → pickStep x (Stop (NullArithmetic at)) (pickStep y (Stop (AddressRange at)) (Go next)) ≡ stepUnless (firstOf x 4 (firstOf y 5 none)) at next
+  arithmetic-picked : (x y : Bool) → cond x (Stop (NullArithmetic at)) (cond y (Stop (AddressRange at)) (Go next)) ≡ stepUnless (firstOf x 4 (firstOf y 5 none)) at next
   unfolding stepUnless
   arithmetic-picked true y = refl
   arithmetic-picked false true = refl
@@ -37,13 +37,13 @@ module _ (at next : ℕ) where
 
   -- Checks 4 and 5.
   pub arithmetic-step : (q a : ℕ) →
-      pickStep (eqb q 0) (Stop (NullArithmetic at)) (pickStep (leb a bias || ltb (bias + maxValue) a) (Stop (AddressRange at)) (Go next)) ≡ stepUnless (arithmeticFailing q a) at next
+      cond (eqb q 0) (Stop (NullArithmetic at)) (cond (leb a bias || ltb (bias + maxValue) a) (Stop (AddressRange at)) (Go next)) ≡ stepUnless (arithmeticFailing q a) at next
   unfolding arithmeticFailing
   arithmetic-step q a = arithmetic-picked (eqb q 0) (leb a bias || ltb (bias + maxValue) a)
 
   -- Checks 2 and 3, by the ends in the slice W.
   pub access-step : (W vs : List ℕ) (p a : ℕ) → p < 16 →
-      pickStep (eqb (value vs p) 0) (Stop (NullAccess at)) (pickStep (ltb a (endValue vs (endIn W (6 * p))) || leb (endValue vs (endIn W (6 * p + 3))) a) (Stop (OutOfBounds at)) (Go next))
+      cond (eqb (value vs p) 0) (Stop (NullAccess at)) (cond (ltb a (endValue vs (endIn W (6 * p))) || leb (endValue vs (endIn W (6 * p + 3))) a) (Stop (OutOfBounds at)) (Go next))
       ≡ stepUnless (accessFailing (declaredIn W) vs p a) at next
   unfolding accessFailing declaredIn
   access-step W vs p a few =

@@ -27,10 +27,6 @@ declaredIn W = record { pointers = []; declared = tabulate 16 (boundsIn W); leng
 
 -- ---- steps
 
-abbrev pub pickStep : Bool → Step → Step → Step
-pickStep true s t = s
-pickStep false s t = t
-
 -- The step to the statement `next`, unless a check fails at the statement a.
 unfoldable pub stepUnless : Failing → ℕ → ℕ → Step
 stepUnless none a next = Go next

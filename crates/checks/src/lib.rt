@@ -4,11 +4,11 @@ use machine::value_at;
 use stops::Check;
 use sums::BIAS;
 ghost use mathlib.Core.Path.{_≡_};
-ghost use mathlib.Core.Bool.{not};
+ghost use mathlib.Core.Bool.{not, cond};
 ghost use Prim.Native.Nat.{ℕ, _+_, _^_, _<_};
 ghost use lib.ListN.{length, getD};
 ghost use Rattle.machine.specs.Machine.{endValue, relates, conditionHolds, none, firstOf, accessFailing, arithmeticFailing};
-ghost use Rattle.checks.specs.Checked.{endIn, declaredIn, pickStep, stepUnless};
+ghost use Rattle.checks.specs.Checked.{endIn, declaredIn, stepUnless};
 ghost use Rattle.checks.specs.declared.Step.the-variants.{Go, Stop};
 
 // What a step says: the statement due after it, or the check that fails.
@@ -55,7 +55,7 @@ fn end_value(ends: &[u64], values: &[u32], first: usize) -> u64
 
 // The first of two checks that fails, or the step to the statement `next`.
 fn step_unless(first: bool, one: Check, second: bool, other: Check, next: usize) -> Step
-    ensures { λ r. ⌜ r ≡ pickStep first (Stop one) (pickStep second (Stop other) (Go next)) ⌝ }
+    ensures { λ r. ⌜ r ≡ cond first (Stop one) (cond second (Stop other) (Go next)) ⌝ }
 {
     if first {
         return Step::Stop(one);

@@ -1,7 +1,7 @@
 -- What the tests of a condition say.
 use Prim.Native.Nat.{ℕ, _+_, _^_, _<_}
 use mathlib.Core.Path.{_≡_, refl}
-use mathlib.Core.Bool.{Bool, true, false, _&&_, _||_}
+use mathlib.Core.Bool.{Bool, true, false, _&&_, _||_, cond}
 use mathlib.Core.List.{List}
 use mathlib.Core.Logic.{⊎-elim}
 use lib.IntN.{ℤ}
@@ -10,7 +10,7 @@ use borrow.Author.Tests.{eqb-true}
 use native.Mathlib.Omega.{arith}
 use Rattle.sums.specs.Numbers.{bias, zeroVar}
 use Rattle.words.specs.declared.Fields.{Fields}
-use Rattle.fields.specs.Fields.{plain, pickNumber, literalValue, isZero, isBelow, isLiteral}
+use Rattle.fields.specs.Fields.{plain, literalValue, isZero, isBelow, isLiteral}
 use Rattle.sections.specs.Sections.{namesInteger, namesPointer}
 use Rattle.sections.specs.SectionsLaws.{both}
 use Rattle.sections.specs.NameLaws.{either, below-holds, literal-small, integer-named, pointer-named}
@@ -49,7 +49,7 @@ module _ (table : List ℤ) (h : Sections) where
     where
       go : (b : Bool) → eqb (f .third) bias ≡ b →
           (b && sameKind table h (f .first) (f .fourth) || eqb (f .third) (bias + 1) && besideLiteral table h (f .first) (f .fourth)) ≡ true →
-          Sides table h (plain (f .first)) (pickNumber b (plain (f .fourth)) zeroVar) (pickNumber b 0 (literalValue (f .fourth)))
+          Sides table h (plain (f .first)) (cond b (plain (f .fourth)) zeroVar) (cond b 0 (literalValue (f .fourth)))
       go true q g =
           ⊎-elim (λ (s : sameKind table h (f .first) (f .fourth) ≡ true). same-sides (f .first) (f .fourth) s)
           (λ (s : (eqb (f .third) (bias + 1) && besideLiteral table h (f .first) (f .fourth)) ≡ true).

@@ -1,12 +1,12 @@
 -- The condition of a record: "A condition is left variable, relation, form, right".
 use Prim.Native.Nat.{ℕ, _+_}
-use mathlib.Core.Bool.{Bool, _&&_, _||_}
+use mathlib.Core.Bool.{Bool, _&&_, _||_, cond}
 use mathlib.Core.List.{List}
 use lib.IntN.{ℤ}
 use lib.Dec.{eqb}
 use Rattle.sums.specs.Numbers.{bias, zeroVar}
 use Rattle.words.specs.declared.Fields.{Fields}
-use Rattle.fields.specs.Fields.{plain, pickNumber, literalValue, isZero, isBelow, isLiteral}
+use Rattle.fields.specs.Fields.{plain, literalValue, isZero, isBelow, isLiteral}
 use Rattle.sections.specs.Sections.{namesInteger, namesPointer}
 use Rattle.sections.specs.declared.Sections.{Sections}
 use Rattle.conditions.specs.declared.Condition.{Condition}
@@ -27,10 +27,10 @@ module _ (table : List ℤ) (h : Sections) where
 
 -- The right side of a condition is a variable and an offset: the variable and 0, or zero and the literal.
 unfoldable pub rightOf : ℕ → ℕ → ℕ
-rightOf form w = pickNumber (isZero form) (plain w) zeroVar
+rightOf form w = cond (isZero form) (plain w) zeroVar
 
 unfoldable pub offsetOf : ℕ → ℕ → ℕ
-offsetOf form w = pickNumber (isZero form) 0 (literalValue w)
+offsetOf form w = cond (isZero form) 0 (literalValue w)
 
 unfoldable pub conditionOf : Fields → Condition
 conditionOf f =

@@ -2,7 +2,7 @@
 use mathlib.Core.Bool.{Bool, false, _&&_}
 use Rattle.statements.specs.declared.Simple.{Simple}
 use Rattle.statements.specs.declared.Simple.the-variants.{Literal, AddConstant, Arithmetic, Null, Address, PointerOffset, PointerIndex, Load, Store, Check}
-use Rattle.rules.specs.BoundsRules.{sameEnd}
+use Rattle.rules.specs.Stored.{sameEnd}
 use Rattle.rules.specs.declared.KnownEnd.{KnownEnd}
 use Rattle.rules.specs.declared.KnownEnd.the-variants.{Known, Unknown}
 use Rattle.rules.specs.declared.Bounds.{Bounds}

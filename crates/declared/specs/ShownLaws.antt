@@ -14,7 +14,8 @@ use Rattle.refusals.specs.declared.Refusal.the-variants.{BoundsNotShown}
 use Rattle.sections.specs.SectionsLaws.{both}
 use Rattle.statements.specs.declared.Simple.{Simple}
 use Rattle.statements.specs.declared.Simple.the-variants.{Literal, AddConstant, Arithmetic, Null, Address, PointerOffset, PointerIndex, Load, Store, Check}
-use Rattle.rules.specs.BoundsRules.{isPointer, declared, known, endAtMost, knownAtMost, boundsShown, consIf, unshownFrom, unshown, accessShown}
+use Rattle.rules.specs.BoundsRules.{isPointer, declared, known, consIf}
+use Rattle.rules.specs.Stored.{endAtMost, knownAtMost, boundsShown, unshownFrom, unshown, accessShown}
 use Rattle.rules.specs.Rules.{boundsAt}
 use Rattle.rules.specs.Verdict.{lowestVerdict}
 use Rattle.rules.specs.declared.KnownEnd.{KnownEnd}
@@ -26,13 +27,14 @@ use Rattle.stays.specs.StaysLaws.{stored, stored-known}
 use Rattle.declared.specs.Shown.{sameKnown, sameBounds, accessOf}
 use Rattle.declared.specs.declared.Access.{Access}
 use Rattle.declared.specs.declared.Access.the-variants.{Through, Nothing}
+use Rattle.rules.specs.BoundsRules as boundsRules
 
 -- ---- when declared bounds are shown
 
 -- Declared bounds are shown by both ends, or by a null pointer.
 module _ (f : FactSet) (p : ℕ) (k d : Bounds) where
   pub ends-shown : knownAtMost f (k .lower) (d .lower) ≡ true → knownAtMost f (d .upper) (k .upper) ≡ true → boundsShown f p k d ≡ true
-  unfolding boundsShown
+  unfolding boundsRules.boundsShown
   ends-shown s t = go (shown f p zeroVar bias) s t
     where
       go : (a : Bool) {c d : Bool} → c ≡ true → d ≡ true → (a || c && d) ≡ true
@@ -40,7 +42,7 @@ module _ (f : FactSet) (p : ℕ) (k d : Bounds) where
       go false s t = rw (s, t)
 
   pub null-shown : {r : Bool} → (knownAtMost f (k .lower) (d .lower) ≡ false) ⊎ (knownAtMost f (d .upper) (k .upper) ≡ false) → r ≡ shown f p zeroVar bias → r ≡ boundsShown f p k d
-  unfolding boundsShown
+  unfolding boundsRules.boundsShown
   null-shown h e = e ∙ go (shown f p zeroVar bias) (knownAtMost f (k .lower) (d .lower)) (knownAtMost f (d .upper) (k .upper)) h
     where
       go : (a b c : Bool) → (b ≡ false) ⊎ (c ≡ false) → a ≡ (a || b && c)
@@ -51,7 +53,7 @@ module _ (f : FactSet) (p : ℕ) (k d : Bounds) where
 
 -- Bounds that are the same are shown, whatever the facts.
 same-at-most : (f : FactSet) (a b : KnownEnd) → sameKnown a b ≡ true → knownAtMost f a b ≡ true
-unfolding sameKnown knownAtMost endAtMost
+unfolding sameKnown boundsRules.knownAtMost boundsRules.endAtMost
 same-at-most f Unknown b h = absurd (false≢true h)
 same-at-most f (Known e) Unknown h = absurd (false≢true h)
 same-at-most f (Known e) (Known g) h = ap (λ (b : Bool). b || endShown f (e .pointer) (e .integer) (e .constant) (g .pointer) (g .integer) (g .constant)) h
@@ -69,7 +71,7 @@ unfoldable pub missed : Environment → FactSet → List Bounds → ℕ → Bool
 missed E f K p = isPointer E p && not (boundsShown f p (known K p) (declared E p))
 
 unshown-some : (E : Environment) (f : FactSet) (K : List Bounds) (n p : ℕ) → 0 < n → unshownFrom E f K n p ≡ consIf (missed E f K p) p (unshownFrom E f K (n - 1) (p + 1))
-unfolding unshownFrom missed
+unfolding boundsRules.unshownFrom missed
 unshown-some E f K zero p h = absurd (omega arith)
 unshown-some E f K (suc n) p h = rw sub-one
 
@@ -79,7 +81,7 @@ pub record Passed (E : Environment) (f : FactSet) (K : List Bounds) (p : ℕ) : 
   pub same : unshown E f K ≡ unshownFrom E f K (16 - p) p
 
 pub passed-none : (E : Environment) (f : FactSet) (K : List Bounds) → Passed E f K 0
-unfolding unshown
+unfolding boundsRules.unshown
 passed-none E f K = record { within = omega arith; same = refl }
 
 module _ {E : Environment} {f : FactSet} {K : List Bounds} {p : ℕ} (q : Passed E f K p) where
@@ -97,7 +99,7 @@ module _ {E : Environment} {f : FactSet} {K : List Bounds} {p : ℕ} (q : Passed
   passed-missed a h e = sym (ap (λ (ps : List ℕ). lowestVerdict (boundsAt a ps)) (q .same ∙ (unshown-some E f K (16 - p) p (omega arith) ∙ ap (λ (b : Bool). consIf b p (unshownFrom E f K (16 - p - 1) (p + 1))) e)))
 
   pub passed-all : (a : ℕ) → 16 ≤ p → Accepted ≡ lowestVerdict (boundsAt a (unshown E f K))
-  unfolding lowestVerdict boundsAt unshownFrom
+  unfolding lowestVerdict boundsAt boundsRules.unshownFrom
   passed-all a h =
       let n : 16 - p ≡ 0 = omega arith in
       sym (ap (λ (ps : List ℕ). lowestVerdict (boundsAt a ps)) (q .same ∙ ap (λ (m : ℕ). unshownFrom E f K m p) n))
@@ -143,7 +145,7 @@ needed E f K (Through p) = boundsShown f p (known K p) (declared E p)
 needed E f K Nothing = true
 
 access-needs : (E : Environment) (f : FactSet) (K : List Bounds) (s : Simple) → needed E f K (accessOf s) ≡ accessShown E f K s
-unfolding accessShown
+unfolding boundsRules.accessShown
 access-needs E f K (Literal x k) = refl
 access-needs E f K (AddConstant x y k) = refl
 access-needs E f K (Arithmetic x y z op) = refl

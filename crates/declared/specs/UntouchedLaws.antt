@@ -8,11 +8,13 @@ use native.Mathlib.Omega.{arith}
 use borrow.Author.Tests.{eq-eqb, ne-eqb, ltb-true, ltb-false}
 use lib.Dec.{ltb}
 use lib.ListN.{getD, List·getD-eq-default}
-use Rattle.arrays.specs.Tabulate.{tabulate, length-tabulate, getD-tabulate}
+use Rattle.arrays.specs.Tabulate.{tabulate}
+use Rattle.arrays.specs.TabulateLaws.{length-tabulate, getD-tabulate}
 use Rattle.facts.specs.declared.FactSet.{FactSet}
 use Rattle.sections.specs.SectionsLaws.{both}
 use Rattle.variables.specs.declared.End.{End}
-use Rattle.rules.specs.BoundsRules.{isPointer, declared, known, boundsAfter, sameEnd, boundsShown, consIf, unshownFrom, unshown}
+use Rattle.rules.specs.BoundsRules.{isPointer, declared, known, consIf}
+use Rattle.rules.specs.Stored.{sameEnd, boundsShown, unshownFrom, unshown, boundsAfter}
 use Rattle.rules.specs.BoundsTrue.{known-after}
 use Rattle.rules.specs.FactsTrue.{neither}
 use Rattle.rules.specs.declared.KnownEnd.{KnownEnd}
@@ -27,6 +29,7 @@ use Rattle.touched.specs.Touched.{touchedAt, touchedFrom, touched, namedIn, tou
 use Rattle.bounds.specs.BoundsRulesLaws.{stays-known}
 use Rattle.declared.specs.Shown.{sameKnown, sameBounds}
 use Rattle.declared.specs.ShownLaws.{same-shown, missed}
+use Rattle.rules.specs.BoundsRules as boundsRules
 
 -- Bounds that stay are known, and so the same as themselves.
 same-refl : (e : End) → sameEnd e e ≡ true
@@ -62,7 +65,7 @@ module _ (E : Environment) (e : Effect) (other : isPointer E (replacedBy e) ≡ 
       go true i true s = rw (i, kept i s, stay-shown f (changedBy e) p (declared E p) s) refl
 
   spared-from : (f : FactSet) (n p : ℕ) → n + p ≤ 16 → touchedFrom E (Forget (changedBy e)) n p ≡ false → unshownFrom E f (boundsAfter e (E .declared)) n p ≡ []
-  unfolding touchedFrom unshownFrom missed
+  unfolding touchedFrom boundsRules.unshownFrom missed
   spared-from f zero p h t = refl
   spared-from f (suc n) p h t =
       let u = neither (touchedAt E (Forget (changedBy e)) p) (touchedFrom E (Forget (changedBy e)) n (p + 1)) t in
@@ -81,7 +84,7 @@ flag-clear E v c = go (ltb v 18) refl
 -- What the flags tell not to be touched need not be shown again, whatever the facts.
 pub unnamed : (E : Environment) (e : Effect) {named : List Bool} → named ≡ namedIn E → touches named (E .pointers) e ≡ false → (f : FactSet)
     → unshown E f (boundsAfter e (E .declared)) ≡ []
-unfolding touches touched unshown
+unfolding touches touched boundsRules.unshown
 unnamed E e {named} r t f =
     let u = neither (getD named (changedBy e) true) (getD (E .pointers) (replacedBy e) false) t in
     spared-from E e (u .1) f 16 0 (omega arith) (flag-clear E (changedBy e) (rw r at (u .0)))

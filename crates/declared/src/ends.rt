@@ -8,7 +8,7 @@ use sums::BIAS;
 use sums::ZERO;
 use variables::End;
 ghost use mathlib.Core.Path.{_≡_};
-ghost use Rattle.rules.specs.BoundsRules.{sameEnd, endAtMost, knownAtMost, boundsShown};
+ghost use Rattle.rules.specs.Stored.{sameEnd, endAtMost, knownAtMost, boundsShown};
 ghost use Rattle.declared.specs.Shown.{sameKnown, sameBounds};
 
 fn same_end(a: End, b: End) -> bool

@@ -14,7 +14,7 @@ use statements::Simple;
 use transfer::effect_on;
 use transfer::source_of;
 ghost use mathlib.Core.Path.{_≡_};
-ghost use Rattle.rules.specs.BoundsRules.{boundsAfter, unshown, accessShown};
+ghost use Rattle.rules.specs.Stored.{unshown, accessShown, boundsAfter};
 ghost use Rattle.rules.specs.Rules.{boundsAt};
 ghost use Rattle.rules.specs.Verdict.{lowestVerdict};
 ghost use Rattle.rules.specs.Ranges.{Short};

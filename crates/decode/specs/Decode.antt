@@ -1,13 +1,13 @@
 -- What a statement record is decoded as with no test of its fields: the reader of a run, whose table has been checked.
 use Prim.Native.Nat.{ℕ, _+_, _-_, _*_, _%_, _^_}
-use mathlib.Core.Bool.{Bool, true, false}
+use mathlib.Core.Bool.{Bool, true, false, cond}
 use mathlib.Core.List.{List}
 use lib.IntN.{ℤ}
 use lib.Dec.{eqb}
 use Rattle.sums.specs.Numbers.{bias, zeroVar}
 use Rattle.words.specs.Words.{fieldsAt}
 use Rattle.words.specs.declared.Fields.{Fields}
-use Rattle.fields.specs.Fields.{plain, pickNumber, isZero}
+use Rattle.fields.specs.Fields.{plain, isZero}
 use Rattle.sections.specs.declared.Sections.{Sections}
 use Rattle.conditions.specs.declared.Condition.{Condition}
 use Rattle.statements.specs.declared.Simple.the-variants.{Literal, AddConstant, Arithmetic, Null, Address, PointerOffset, PointerIndex, Load, Store, Check}
@@ -20,39 +20,35 @@ unsigned w = w % 2 ^ 32
 
 -- The number of an index variable; a missing one has the number that stands for zero.
 unfoldable pub decodedIndex : ℕ → ℕ
-decodedIndex w = pickNumber (eqb w (bias - 1)) zeroVar (unsigned w)
+decodedIndex w = cond (eqb w (bias - 1)) zeroVar (unsigned w)
 
 -- The right side of a condition: a variable and 0, or zero and the literal.
 unfoldable pub decodedRight : ℕ → ℕ → ℕ
-decodedRight form w = pickNumber (isZero form) (unsigned w) zeroVar
+decodedRight form w = cond (isZero form) (unsigned w) zeroVar
 
 unfoldable pub decodedOffset : ℕ → ℕ → ℕ
-decodedOffset form w = pickNumber (isZero form) 0 (unsigned w)
+decodedOffset form w = cond (isZero form) 0 (unsigned w)
 
 unfoldable pub decodedCondition : Fields → Condition
 decodedCondition f =
     record { left = unsigned (f .first); relation = unsigned (f .second); right = decodedRight (f .third) (f .fourth); offset = decodedOffset (f .third) (f .fourth) }
 
-abbrev pub pickStatement : Bool → Statement → Statement → Statement
-pickStatement true a b = a
-pickStatement false a b = b
-
 -- The kinds by their number, fields in the order that the paper names. A kind that is none of 1 to 12 is taken for a bundle. Counts, which
 -- a run does not look at, are as they are read.
 unfoldable pub decodedAs : ℕ → Fields → Statement
 decodedAs kind f =
-    pickStatement (eqb kind 1) (Plain (Literal (unsigned (f .first)) (unsigned (f .second))))
-    (pickStatement (eqb kind 2) (Plain (AddConstant (unsigned (f .first)) (unsigned (f .second)) (f .third)))
-    (pickStatement (eqb kind 3) (Plain (Arithmetic (unsigned (f .first)) (unsigned (f .second)) (unsigned (f .third)) (unsigned (f .fourth))))
-    (pickStatement (eqb kind 4) (Plain (Null (unsigned (f .first))))
-    (pickStatement (eqb kind 5) (Plain (Address (unsigned (f .first)) (unsigned (f .second))))
-    (pickStatement (eqb kind 6) (Plain (PointerOffset (unsigned (f .first)) (unsigned (f .second)) (f .third)))
-    (pickStatement (eqb kind 7) (Plain (PointerIndex (unsigned (f .first)) (unsigned (f .second)) (unsigned (f .third))))
-    (pickStatement (eqb kind 8) (Plain (Load (unsigned (f .first)) (unsigned (f .second)) (decodedIndex (f .third)) (f .fourth)))
-    (pickStatement (eqb kind 9) (Plain (Store (unsigned (f .first)) (decodedIndex (f .second)) (f .third) (unsigned (f .fourth))))
-    (pickStatement (eqb kind 10) (Plain (Check (decodedCondition f)))
-    (pickStatement (eqb kind 11) (If (decodedCondition f) (plain (f .fifth)) (plain (f .sixth)))
-    (pickStatement (eqb kind 12) (While (decodedCondition f) (plain (f .fifth)))
+    cond (eqb kind 1) (Plain (Literal (unsigned (f .first)) (unsigned (f .second))))
+    (cond (eqb kind 2) (Plain (AddConstant (unsigned (f .first)) (unsigned (f .second)) (f .third)))
+    (cond (eqb kind 3) (Plain (Arithmetic (unsigned (f .first)) (unsigned (f .second)) (unsigned (f .third)) (unsigned (f .fourth))))
+    (cond (eqb kind 4) (Plain (Null (unsigned (f .first))))
+    (cond (eqb kind 5) (Plain (Address (unsigned (f .first)) (unsigned (f .second))))
+    (cond (eqb kind 6) (Plain (PointerOffset (unsigned (f .first)) (unsigned (f .second)) (f .third)))
+    (cond (eqb kind 7) (Plain (PointerIndex (unsigned (f .first)) (unsigned (f .second)) (unsigned (f .third))))
+    (cond (eqb kind 8) (Plain (Load (unsigned (f .first)) (unsigned (f .second)) (decodedIndex (f .third)) (f .fourth)))
+    (cond (eqb kind 9) (Plain (Store (unsigned (f .first)) (decodedIndex (f .second)) (f .third) (unsigned (f .fourth))))
+    (cond (eqb kind 10) (Plain (Check (decodedCondition f)))
+    (cond (eqb kind 11) (If (decodedCondition f) (plain (f .fifth)) (plain (f .sixth)))
+    (cond (eqb kind 12) (While (decodedCondition f) (plain (f .fifth)))
     (Bundle (plain (f .first))))))))))))))
 
 abbrev pub decoded : Fields → Statement

@@ -1,7 +1,7 @@
 -- A record that reads is decoded as the statement that it reads as.
 use Prim.Native.Nat.{ℕ, _+_, _-_, _^_, _≤_, _<_}
 use mathlib.Core.Path.{_≡_, refl, ap, _∙_}
-use mathlib.Core.Bool.{Bool, true, false, _&&_, _||_, false≢true}
+use mathlib.Core.Bool.{Bool, true, false, _&&_, _||_, false≢true, cond}
 use mathlib.Core.List.{List}
 use mathlib.Core.Logic.{_⊎_, inl, inr, ⊎-elim}
 use lib.IntN.{ℤ}
@@ -11,19 +11,19 @@ use native.Mathlib.Omega.{arith}
 use Rattle.sums.specs.Numbers.{bias, zeroVar}
 use Rattle.words.specs.Words.{fieldsAt}
 use Rattle.words.specs.declared.Fields.{Fields}
-use Rattle.fields.specs.Fields.{plain, pickNumber, indexOf, literalLimit, literalValue, isZero, isCount, isBelow, isLiteral, isConstant}
+use Rattle.fields.specs.Fields.{plain, indexOf, literalLimit, literalValue, isZero, isCount, isBelow, isLiteral, isConstant}
 use Rattle.sections.specs.Sections.{inLimits, statementStart, integerAt, pointerAt, namesInteger, namesPointer, namesIndex}
 use Rattle.sections.specs.SectionsLaws.{both}
 use Rattle.sections.specs.NameLaws.{either, integer-limits, pointer-limits}
 use Rattle.sections.specs.declared.Sections.{Sections}
 use Rattle.conditions.specs.Conditions.{sameKind, besideLiteral, conditionRight, rightOf, offsetOf, conditionOf}
 use Rattle.conditions.specs.declared.Condition.{Condition}
-use Rattle.statements.specs.Statements.{pickRead, readIf, unusedFrom, literalRead, addConstantRead, arithmeticRead, nullRead, addressRead, pointerOffsetRead, pointerIndexRead, loadRead, storeRead, checkRead, ifRead, whileRead, bundleRead, kindRead, statementAt}
+use Rattle.statements.specs.Statements.{readIf, unusedFrom, literalRead, addConstantRead, arithmeticRead, nullRead, addressRead, pointerOffsetRead, pointerIndexRead, loadRead, storeRead, checkRead, ifRead, whileRead, bundleRead, kindRead, statementAt}
 use Rattle.statements.specs.StatementLaws.{read-limits}
 use Rattle.statements.specs.declared.Statement.{Statement}
 use Rattle.statements.specs.declared.StatementRead.{StatementRead}
 use Rattle.statements.specs.declared.StatementRead.the-variants.{Read, Unread}
-use Rattle.decode.specs.Decode.{unsigned, decodedIndex, decodedRight, decodedOffset, decodedCondition, pickStatement, decodedAs, decoded, decodeStart, decodedAt}
+use Rattle.decode.specs.Decode.{unsigned, decodedIndex, decodedRight, decodedOffset, decodedCondition, decodedAs, decoded, decodeStart, decodedAt}
 
 -- ---- a field that the readers let pass is its 32 bits
 
@@ -75,7 +75,7 @@ module _ (table : List ℤ) (h : Sections) where
   unfolding namesIndex indexOf decodedIndex
   index-unsigned w e = go (eqb w (bias - 1)) e
     where
-      go : (b : Bool) → (b || namesInteger table h w) ≡ true → pickNumber b zeroVar (unsigned w) ≡ pickNumber b zeroVar (plain w)
+      go : (b : Bool) → (b || namesInteger table h w) ≡ true → cond b zeroVar (unsigned w) ≡ cond b zeroVar (plain w)
       go true g = refl
       go false g = integer-unsigned w g
 
@@ -107,7 +107,7 @@ module _ (table : List ℤ) (h : Sections) where
     where
       go : (z l : Bool) → (z ≡ true → form ≡ bias) → (l ≡ true → form ≡ bias + 1) →
           ((z && sameKind table h v w) ≡ true) ⊎ ((l && besideLiteral table h v w) ≡ true) →
-          (unsigned v ≡ plain v) × (pickNumber z (unsigned w) zeroVar ≡ pickNumber z (plain w) zeroVar) × (pickNumber z 0 (unsigned w) ≡ pickNumber z 0 (literalValue w))
+          (unsigned v ≡ plain v) × (cond z (unsigned w) zeroVar ≡ cond z (plain w) zeroVar) × (cond z 0 (unsigned w) ≡ cond z 0 (literalValue w))
       go true l p q (inl i) = let s = same-unsigned v w i in (s .0, s .1, refl)
       go true true p q (inr i) = let a = p refl in let b = q refl in absurd (omega arith)
       go true false p q (inr i) = absurd (false≢true i)
@@ -137,16 +137,16 @@ unread : (s t : Statement) → Unread ≡ Read t → s ≡ t
 unread s t e = let z : _≡_ {A = ℕ} 0 1 = cc in absurd (omega arith)
 
 -- Which of two records it is makes no difference.
-either-record : (b : Bool) (r q : StatementRead) (s u t : Statement) → (r ≡ Read t → s ≡ t) → (q ≡ Read t → u ≡ t) → pickRead b r q ≡ Read t → pickStatement b s u ≡ t
+either-record : (b : Bool) (r q : StatementRead) (s u t : Statement) → (r ≡ Read t → s ≡ t) → (q ≡ Read t → u ≡ t) → cond b r q ≡ Read t → cond b s u ≡ t
 either-record true r q s u t f g e = f e
 either-record false r q s u t f g e = g e
 
-within : (b : Bool) (r : StatementRead) (t : Statement) → pickRead b r Unread ≡ Read t → r ≡ Read t
+within : (b : Bool) (r : StatementRead) (t : Statement) → cond b r Unread ≡ Read t → r ≡ Read t
 within true r t e = e
 within false r t e = let z : _≡_ {A = ℕ} 0 1 = cc in absurd (omega arith)
 
 -- The last kind is decoded in any case.
-last : (b : Bool) (r : StatementRead) (s t : Statement) → (r ≡ Read t → s ≡ t) → pickRead b r Unread ≡ Read t → s ≡ t
+last : (b : Bool) (r : StatementRead) (s t : Statement) → (r ≡ Read t → s ≡ t) → cond b r Unread ≡ Read t → s ≡ t
 last true r s t f e = f e
 last false r s t f e = unread s t e
 
@@ -161,7 +161,7 @@ both₅ : (a b c d f : Bool) → (a && b && c && d && f) ≡ true → (a ≡ tru
 both₅ a b c d f e = let p = both₄ (a && b) c d f e in let q = both a b (p .0) in (q .0, q .1, p .1, p .2)
 
 -- A kind by which a record reads is its 32 bits.
-known : (b : Bool) (r q : StatementRead) (t : Statement) (A : Type 0) → (b ≡ true → A) → (q ≡ Read t → A) → pickRead b r q ≡ Read t → A
+known : (b : Bool) (r q : StatementRead) (t : Statement) (A : Type 0) → (b ≡ true → A) → (q ≡ Read t → A) → cond b r q ≡ Read t → A
 known true r q t A f g e = f refl
 known false r q t A f g e = g e
 

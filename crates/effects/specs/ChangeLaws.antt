@@ -8,8 +8,9 @@ use Rattle.changes.specs.declared.Change.{Change}
 use Rattle.changes.specs.declared.Fact.{Fact}
 use Rattle.facts.specs.Store.{addedFact, changed, dropped, ranged, shifted}
 use Rattle.facts.specs.StoreLaws.{silent, changed-adding, changed-ranging, changed-forgetting, changed-shifting, changed-equating}
-use Rattle.rules.specs.FactRules.{equated}
+use Rattle.rules.specs.Stored.{equated}
 use Rattle.effects.specs.Applied.{Adds, Makes}
+use Rattle.rules.specs.FactRules as factRules
 
 pub adds-none : {none : Fact} → none ≡ noFact → Adds none (λ f. f)
 adds-none n f = ap (addedFact f) n ∙ silent f
@@ -31,5 +32,5 @@ module _ {r : Change} where
   makes-shift {x} {k} {third} h e f = ap (changed f) e ∙ changed-shifting f x k third (omega arith)
 
   pub makes-equal : {x y k : ℕ} {third : Fact} → r ≡ equating x y k third → Makes r (λ f. addedFact (equated (dropped f x) x y k) third)
-  unfolding equated
+  unfolding factRules.equated
   makes-equal {x} {y} {k} {third} e f = ap (changed f) e ∙ changed-equating f x y k third

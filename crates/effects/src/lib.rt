@@ -16,16 +16,16 @@ use sums::MAX_VALUE;
 use sums::ZERO;
 ghost use mathlib.Core.Path.{_≡_};
 ghost use mathlib.Core.List.{[]};
-ghost use mathlib.Core.Bool.{true};
+ghost use mathlib.Core.Bool.{cond};
 ghost use Prim.Native.Nat.{_^_, _<_};
 ghost use lib.Dec.{eqb};
 ghost use Rattle.sums.specs.Numbers.{bias};
 ghost use Rattle.statements.specs.declared.Simple.the-variants.{AddConstant, PointerOffset};
-ghost use Rattle.rules.specs.FactRules.{pickFacts, positive};
-ghost use Rattle.rules.specs.BoundsRules.{pickEffect};
+ghost use Rattle.rules.specs.Stored.{positive};
 ghost use Rattle.rules.specs.Ranges.{InRange};
 ghost use Rattle.facts.specs.Store.{added, dropped, ranged};
-ghost use Rattle.effects.specs.Applied.{Makes, Adds, Assumes, Plans};
+ghost use Rattle.facts.specs.declared.FactSet.{FactSet};
+ghost use Rattle.effects.specs.Applied.{applied, Makes, Adds, Assumes, Does, Plans};
 
 // What a statement does to the facts and to known bounds.
 pub struct Plan {
@@ -126,7 +126,7 @@ fn add_constant(x: usize, y: usize, k: u64, fits: bool) -> Plan
 
 // p >= 1, which p := q + k gives unless k is 0.
 fn above_zero(p: usize, k: u64) -> Fact
-    ensures { λ r. ⌜ Adds r (λ f. pickFacts (eqb k bias) f (positive f p)) ⌝ }
+    ensures { λ r. ⌜ Adds r (λ f. cond (eqb k bias) f (positive f p)) ⌝ }
 {
     if k == BIAS {
         return no_fact();
@@ -141,7 +141,7 @@ fn above_zero(p: usize, k: u64) -> Fact
 // p := q + k
 fn add_offset(p: usize, q: usize, k: u64) -> Plan
     requires { ⌜ (k < 2 ^ 34) × (q < 16) ⌝ }
-    ensures { λ r. ⌜ Plans [] (PointerOffset p q k) true r ⌝ }
+    ensures { λ r. ⌜ ((f : FactSet) → Does r f (applied [] f (PointerOffset p q k))) ⌝ }
 {
     let third = above_zero(p, k);
     if p == q {
@@ -164,7 +164,7 @@ fn add_offset(p: usize, q: usize, k: u64) -> Plan
 
 // What p := q + i does to known bounds: those of q are copied, unless q is p itself.
 fn index_effect(p: usize, q: usize) -> Effect
-    ensures { λ r. ⌜ r ≡ pickEffect (eqb p q) (Effect.Forget p) (Effect.Copy p q) ⌝ }
+    ensures { λ r. ⌜ r ≡ cond (eqb p q) (Effect.Forget p) (Effect.Copy p q) ⌝ }
 {
     if p == q {
         return Effect::Forget { target: p };

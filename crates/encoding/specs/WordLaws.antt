@@ -5,8 +5,9 @@ use native.Mathlib.Omega.{arith}
 use mathlib.Core.List.{List}
 use lib.IntN.{ℤ}
 use lib.ListN.{length, getD}
-use Rattle.arrays.specs.Tabulate.{Filled}
-use Rattle.encoding.specs.Words.{signedOf, wordAt, WordsRead}
+use Rattle.arrays.specs.TabulateLaws.{Filled}
+use Rattle.encoding.specs.Words.{signedOf, wordAt}
+use Rattle.encoding.specs.Reading.{WordsRead}
 
 pub word-of : (bytes : List ℕ) (i : ℕ) {a b c d : ℕ} → a ≡ getD bytes i 0 → b ≡ getD bytes (i + 1) 0 → c ≡ getD bytes (i + 2) 0 → d ≡ getD bytes (i + 3) 0
     → signedOf (a + 256 * b + 65536 * (c + 256 * d)) ≡ wordAt bytes i

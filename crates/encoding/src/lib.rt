@@ -2,7 +2,8 @@
 ghost use mathlib.Core.Path.{_≡_};
 ghost use Prim.Native.Nat.{_+_, _/_, _<_, _≤_, min};
 ghost use lib.ListN.{length};
-ghost use Rattle.encoding.specs.Words.{signedOf, wordAt, WordsRead};
+ghost use Rattle.encoding.specs.Words.{signedOf, wordAt};
+ghost use Rattle.encoding.specs.Reading.{WordsRead};
 
 fn wide(b: u8) -> u32
     ensures { λ r. ⌜ (r ≡ b) × (r < 256) ⌝ }

@@ -1,10 +1,9 @@
 -- Causes of refusal 10 to 12: "A run checks the routine first, then 10 to 12 in the table's row order."
 use Prim.Native.Nat.{ℕ, zero, suc, _+_, _*_}
-use mathlib.Core.Bool.{Bool, true, false, not, _&&_}
+use mathlib.Core.Bool.{Bool, true, false, not, _&&_, cond}
 use mathlib.Core.List.{List, [], _∷_, _++_}
 use lib.Dec.{leb, eqb}
 use lib.ListN.{length, getD}
-use Rattle.facts.specs.Store.{pickBool}
 use Rattle.refusals.specs.declared.Refusal.{Refusal}
 use Rattle.refusals.specs.declared.Refusal.the-variants.{MemorySize, DirectoryPair, EntryLengths, EntryValue}
 use Rattle.sections.specs.declared.Sections.{Sections}
@@ -30,12 +29,9 @@ pairRight E D cs o =
 unfoldable pub lengthsRight : Sections → List ℕ → List ℕ → Bool
 lengthsRight h vs os = eqb (length vs) (h .variables) && eqb (length os) (h .variables)
 
--- "entry origin or bounds untrue": "0 for integers and null, else object number plus 1".
-unfoldable pub entryRight : Sections → Environment → List ℕ → List ℕ → List ℕ → ℕ → Bool
-entryRight h E D vs os v =
-    pickBool (isPointer E v && not (eqb (value vs v) 0))
-    (leb 1 (getD os v 0) && leb (getD os v 0) (h .objects) && boundsTrue E D vs os v)
-    (eqb (getD os v 0) 0)
+-- "entry origin or bounds untrue": "0 for integers and null, else object number plus 1", which true bounds say of a pointer that is not null.
+unfoldable pub entryRight : Environment → List ℕ → List ℕ → List ℕ → ℕ → Bool
+entryRight E D vs os v = cond (isPointer E v && not (eqb (value vs v) 0)) (boundsTrue E D vs os v) (eqb (getD os v 0) 0)
 
 abbrev pub consUnless : Bool → Refusal → List Refusal → List Refusal
 consUnless true r rs = rs
@@ -52,4 +48,4 @@ entryRefusals h E D cs vs os =
     consUnless (memoryRight h D cs) MemorySize
     (failures (pairRight E D cs) DirectoryPair (h .objects) 0
     ++ consUnless (lengthsRight h vs os) EntryLengths
-    (failures (entryRight h E D vs os) EntryValue (h .variables) 0))
+    (failures (entryRight E D vs os) EntryValue (h .variables) 0))

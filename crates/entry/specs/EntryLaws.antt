@@ -5,7 +5,7 @@ use mathlib.Core.Bool.{Bool, true, false, _&&_}
 use mathlib.Core.List.{List, [], _∷_, _++_}
 use native.Mathlib.Numerals.{add-one, sub-one}
 use native.Mathlib.Omega.{arith}
-use borrow.Author.Tests.{eqb-true, eqb-false, eq-eqb, ne-eqb}
+use borrow.Author.Tests.{eqb-true, eqb-false, eq-eqb, ne-eqb, lt-ltb, le-ltb}
 use lib.Dec.{leb, eqb}
 use lib.ListN.{length, getD}
 use Rattle.sums.specs.Numbers.{bias}
@@ -62,10 +62,16 @@ pub origin-none : (D : List ℕ) (o l u : ℕ) → o ≡ 0 → false ≡ originH
 unfolding originHolds
 origin-none D o l u e = rw e
 
-pub origin-some : (D : List ℕ) (o l u : ℕ) → (o ≡ 0 → ⊥) → (leb (getD D (2 * (o - 1)) 0 + bias) l && leb u (getD D (2 * (o - 1)) 0 + getD D (2 * (o - 1) + 1) 0 + bias)) ≡ originHolds D o l u
+pub origin-past : (D : List ℕ) (o l u : ℕ) → (o ≡ 0 → ⊥) → length D ≤ 2 * (o - 1) + 1 → false ≡ originHolds D o l u
 unfolding originHolds
-origin-some D zero l u p = absurd (p refl)
-origin-some D (suc o) l u p = rw (sub-one (suc o))
+origin-past D zero l u p h = absurd (p refl)
+origin-past D (suc o) l u p h = let e : length D ≤ 2 * o + 1 = rw (sub-one (suc o)) at h in rw (le-ltb (2 * o + 1) (length D) e)
+
+pub origin-some : (D : List ℕ) (o l u : ℕ) → (o ≡ 0 → ⊥) → 2 * (o - 1) + 1 < length D
+    → (leb (getD D (2 * (o - 1)) 0 + bias) l && leb u (getD D (2 * (o - 1)) 0 + getD D (2 * (o - 1) + 1) 0 + bias)) ≡ originHolds D o l u
+unfolding originHolds
+origin-some D zero l u p h = absurd (p refl)
+origin-some D (suc o) l u p h = let e : 2 * o + 1 < length D = rw (sub-one (suc o)) at h in rw (sub-one (suc o), lt-ltb (2 * o + 1) (length D) e)
 
 -- ---- the first that fails
 
@@ -113,6 +119,6 @@ module _ (h : Sections) (E : Environment) (D cs vs os : List ℕ) where
       unfolding entryRefusals entered
       enter-lengths l = rw (m, begun-none pairs p, l)
 
-      pub enter-values : (r : EntryVerdict) → lengthsRight h vs os ≡ true → r ≡ entered (failures (entryRight h E D vs os) EntryValue (h .variables) 0) → r ≡ entered (entryRefusals h E D cs vs os)
+      pub enter-values : (r : EntryVerdict) → lengthsRight h vs os ≡ true → r ≡ entered (failures (entryRight E D vs os) EntryValue (h .variables) 0) → r ≡ entered (entryRefusals h E D cs vs os)
       unfolding entryRefusals
       enter-values r l e = rw (m, begun-none pairs p, l) e

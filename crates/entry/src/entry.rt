@@ -79,23 +79,19 @@ fn lengths_right(sections: Sections, values: &[u32], origins: &[u32]) -> bool
 
 // The value and the origin of one variable.
 fn entry_right(
-    sections: Sections,
     environment: Environment,
     directory: &[u32],
     values: &[u32],
     origins: &[u32],
     v: usize,
 ) -> bool
-    ensures { λ r. ⌜ r ≡ entryRight sections environment (now (directory .entry)) (now (values .entry)) (now (origins .entry)) v ⌝ }
+    ensures { λ r. ⌜ r ≡ entryRight environment (now (directory .entry)) (now (values .entry)) (now (origins .entry)) v ⌝ }
 {
     let pointers = environment.pointers;
-    let origin = value_at(origins, v);
     if is_pointer(pointers, v) & (value_at(values, v) != 0) {
-        return (1 <= origin)
-            & (origin <= sections.objects as u64)
-            & bounds_true(environment, directory, values, origins, v);
+        return bounds_true(environment, directory, values, origins, v);
     }
-    origin == 0
+    value_at(origins, v) == 0
 }
 
 // Cause 12: the lowest variable whose origin or bounds are untrue.
@@ -106,12 +102,12 @@ fn check_values(
     values: &[u32],
     origins: &[u32],
 ) -> EntryVerdict
-    ensures { λ r. ⌜ r ≡ entered (failures (entryRight sections environment (now (directory .entry)) (now (values .entry)) (now (origins .entry))) EntryValue (sections .variables) 0) ⌝ }
+    ensures { λ r. ⌜ r ≡ entered (failures (entryRight environment (now (directory .entry)) (now (values .entry)) (now (origins .entry))) EntryValue (sections .variables) 0) ⌝ }
 {
     let count = sections.variables;
     let mut v = 0;
     while v < count {
-        if !entry_right(sections, environment, directory, values, origins, v) {
+        if !entry_right(environment, directory, values, origins, v) {
             return EntryVerdict::Refused(Refusal::EntryValue(v));
         }
         v += 1;

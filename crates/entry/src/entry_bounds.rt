@@ -37,7 +37,7 @@ fn ends_by(values: &[u32], e: End, high: u64) -> bool
     sum + e.constant <= high
 }
 
-// The pointer is null, or its ends lie in its origin object.
+// The pointer is null, or its origin is an object of the directory and its ends lie there.
 pub(crate) fn bounds_true(
     environment: Environment,
     directory: &[u32],
@@ -55,6 +55,9 @@ pub(crate) fn bounds_true(
         return false;
     }
     let pair = 2 * (origin - 1);
+    if pair + 1 >= directory.len() {
+        return false;
+    }
     let low = value_at(directory, pair);
     let high = low + value_at(directory, pair + 1);
     let declared = environment.declared;

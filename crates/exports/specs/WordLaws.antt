@@ -8,11 +8,11 @@ use lib.IntN.{ℤ}
 use lib.ListN.{length}
 use Rattle.refusals.specs.Refusals.{number, place, pointer}
 use Rattle.refusals.specs.declared.Refusal.{Refusal}
-use Rattle.rules.specs.Verdict.{faults, Answers}
+use Rattle.rules.specs.ByChains.{Judged}
 use Rattle.rules.specs.declared.Verdict.{Verdict}
 use Rattle.rules.specs.declared.Verdict.the-variants as verdict
 use Rattle.stops.specs.Checks.{checkNumber, checkStatement}
-use Rattle.interpreter.specs.Claim.{runFaults, RunAnswer}
+use Rattle.interpreter.specs.Claim.{RunJudged}
 use Rattle.stops.specs.declared.Check.{Check}
 use Rattle.stops.specs.declared.Outcome.{Outcome}
 use Rattle.stops.specs.declared.Outcome.the-variants.{Done, Spent, Stopped, Refused}
@@ -48,12 +48,12 @@ module _ (w : List ℕ) {w′ : List ℕ} where
 pub no-room : {T : List ℤ} {w : List ℕ} → length w < 3 → CheckAnswer T w false w
 no-room {T} {w} h = record { room = sym (lt-leb 3 (length w) h); words = rw (lt-leb 3 (length w) h) refl }
 
-pub checked-words : {T : List ℤ} {w w′ : List ℕ} (v : Verdict) → 3 ≤ length w → Answers (faults T) v → w′ ≡ verdictWords v w → CheckAnswer T w true w′
+pub checked-words : {T : List ℤ} {w w′ : List ℕ} (v : Verdict) → 3 ≤ length w → Judged T v → w′ ≡ verdictWords v w → CheckAnswer T w true w′
 checked-words {T} {w} {w′} v h a e = record { room = sym (le-leb 3 (length w) h); words = rw (le-leb 3 (length w) h) (v, a, e) }
 
 pub no-room-to-run : {T : List ℤ} {D cs vs os w : List ℕ} {limit : ℕ} → length w < 4 → RunWords T D cs vs os limit w false vs cs w
 no-room-to-run {w = w} h = record { room = sym (lt-leb 4 (length w) h); words = rw (lt-leb 4 (length w) h) (refl, refl, refl) }
 
-pub ran-words : {T : List ℤ} {D cs vs os w vs′ cs′ w′ : List ℕ} {limit : ℕ} (o : Outcome) → 4 ≤ length w → RunAnswer (runFaults T D cs vs os) T D cs vs os limit o vs′ cs′ → w′ ≡ outcomeWords o w
+pub ran-words : {T : List ℤ} {D cs vs os w vs′ cs′ w′ : List ℕ} {limit : ℕ} (o : Outcome) → 4 ≤ length w → RunJudged T D cs vs os limit o vs′ cs′ → w′ ≡ outcomeWords o w
     → RunWords T D cs vs os limit w true vs′ cs′ w′
 ran-words {w = w} o h a e = record { room = sym (le-leb 4 (length w) h); words = rw (le-leb 4 (length w) h) (o, a, e) }

@@ -7,11 +7,11 @@ use lib.Dec.{leb}
 use lib.IntN.{ℤ}
 use lib.ListN.{length, set}
 use Rattle.refusals.specs.Refusals.{number, place, pointer}
-use Rattle.rules.specs.Verdict.{faults, Answers}
+use Rattle.rules.specs.ByChains.{Judged}
 use Rattle.rules.specs.declared.Verdict.{Verdict}
 use Rattle.rules.specs.declared.Verdict.the-variants as verdict
 use Rattle.stops.specs.Checks.{checkNumber, checkStatement}
-use Rattle.interpreter.specs.Claim.{runFaults, RunAnswer}
+use Rattle.interpreter.specs.Claim.{RunJudged}
 use Rattle.stops.specs.declared.Outcome.{Outcome}
 use Rattle.stops.specs.declared.Outcome.the-variants.{Done, Spent, Stopped, Refused}
 
@@ -36,9 +36,9 @@ outcomeWords (Spent n a) w = putFour w 1 n (wordOf a) 0
 outcomeWords (Stopped n c) w = putFour w 2 n (wordOf (checkStatement c)) (checkNumber c)
 outcomeWords (Refused r) w = putFour w 3 (number r) (wordOf (place r)) (wordOf (pointer r))
 
--- Where there is room for an answer, the words of a verdict that answers the table's faults; else nothing is written.
+-- Where there is room for an answer, the words of the verdict on the table; else nothing is written.
 abbrev pub checkedIf : Bool → List ℤ → List ℕ → List ℕ → Type 0
-checkedIf true T w w′ = (v : Verdict) × Answers (faults T) v × (w′ ≡ verdictWords v w)
+checkedIf true T w w′ = (v : Verdict) × Judged T v × (w′ ≡ verdictWords v w)
 checkedIf false T w w′ = w′ ≡ w
 
 pub record CheckAnswer (T : List ℤ) (w : List ℕ) (r : Bool) (w′ : List ℕ) : Type 0 where
@@ -47,7 +47,7 @@ pub record CheckAnswer (T : List ℤ) (w : List ℕ) (r : Bool) (w′ : List ℕ
 
 -- Where there is room for an answer, the words of an outcome for which, with the values and cells then, the claim about a run holds; else nothing is written.
 abbrev pub ranIf : Bool → List ℤ → List ℕ → List ℕ → List ℕ → List ℕ → ℕ → List ℕ → List ℕ → List ℕ → List ℕ → Type 0
-ranIf true T D cs vs os limit w vs′ cs′ w′ = (o : Outcome) × RunAnswer (runFaults T D cs vs os) T D cs vs os limit o vs′ cs′ × (w′ ≡ outcomeWords o w)
+ranIf true T D cs vs os limit w vs′ cs′ w′ = (o : Outcome) × RunJudged T D cs vs os limit o vs′ cs′ × (w′ ≡ outcomeWords o w)
 ranIf false T D cs vs os limit w vs′ cs′ w′ = (vs′ ≡ vs) × (cs′ ≡ cs) × (w′ ≡ w)
 
 pub record RunWords (T : List ℤ) (D cs vs os : List ℕ) (limit : ℕ) (w : List ℕ) (r : Bool) (vs′ cs′ w′ : List ℕ) : Type 0 where

@@ -3,13 +3,13 @@ use Prim.Native.Nat.{ℕ, _<_, min, max}
 use mathlib.Core.Path.{_≡_}
 use mathlib.Core.Logic.{_⊎_}
 use mathlib.Core.List.{List}
-use mathlib.Core.Bool.{Bool, true}
+use mathlib.Core.Bool.{Bool, true, cond}
 use lib.ListN.{set}
 use lib.Dec.{eqb}
 use Rattle.sums.specs.Numbers.{zeroVar}
 use Rattle.arrays.specs.Tabulate.{tabulate}
-use Rattle.sums.specs.Sums.{pick, unbounded, concatenated}
-use Rattle.facts.specs.Store.{pickBool, inRow, rowOf, same}
+use Rattle.sums.specs.Sums.{unbounded, concatenated}
+use Rattle.facts.specs.Store.{inRow, rowOf, same}
 use Rattle.facts.specs.declared.rows.Row.{Row}
 
 -- A row that falls: each sum lowered to the chain that begins with `start` and goes on as `through`.
@@ -31,7 +31,7 @@ unfoldable pub maskRow : ℕ → Row
 maskRow x = record { sums = set noMasks x unbounded }
 
 unfoldable pub mergedRow : Row → Row → ℕ → Row
-mergedRow row mask to = rowOf (λ j. pick (eqb (inRow mask j) 0) (inRow row j) to)
+mergedRow row mask to = rowOf (λ j. cond (eqb (inRow mask j) 0) (inRow row j) to)
 
 -- The greater of each two sums.
 unfoldable pub greatestRow : Row → Row → Row
@@ -40,4 +40,4 @@ greatestRow a b = rowOf (λ j. max (inRow a j) (inRow b j))
 -- The row of a pointer, or of an integer, with the sums to the other kind through zero.
 unfoldable pub throughZero : (ℕ → Bool) → Bool → Row → Row → Row
 throughZero pointers pointer row zeros =
-    rowOf (λ j. pick (pickBool (eqb j zeroVar) true (same pointer (pointers j))) (inRow row j) (concatenated (inRow row zeroVar) (inRow zeros j)))
+    rowOf (λ j. cond (cond (eqb j zeroVar) true (same pointer (pointers j))) (inRow row j) (concatenated (inRow row zeroVar) (inRow zeros j)))

@@ -1,28 +1,16 @@
 -- What each operation of the fact store makes of the 17 rows of 17 sums, as the code does. That this is what the paper says is proved in crate chains (Exact).
 use Prim.Native.Nat.{ℕ, zero, suc, _+_, _-_, min, max}
 use mathlib.Core.List.{List, []}
-use mathlib.Core.Bool.{Bool, true, false, not, _&&_, _||_}
+use mathlib.Core.Bool.{Bool, true, false, not, _&&_, _||_, cond}
 use lib.ListN.{getD, set}
 use lib.Dec.{ltb, leb, eqb}
 use Rattle.sums.specs.Numbers.{bias, maxValue, zeroVar}
-use Rattle.sums.specs.Sums.{pick, unbounded, concatenated, negated, roomAbove}
+use Rattle.sums.specs.Sums.{unbounded, concatenated, negated, roomAbove}
 use Rattle.arrays.specs.Tabulate.{tabulate}
 use Rattle.facts.specs.declared.rows.Row.{Row}
 use Rattle.changes.specs.declared.Fact.{Fact}
 use Rattle.changes.specs.declared.Change.{Change}
 use Rattle.facts.specs.declared.FactSet.{FactSet}
-
-abbrev pub pickBool : Bool → Bool → Bool → Bool
-pickBool true a b = a
-pickBool false a b = b
-
-abbrev pub pickRow : Bool → Row → Row → Row
-pickRow true a b = a
-pickRow false a b = b
-
-abbrev pub pickSet : Bool → FactSet → FactSet → FactSet
-pickSet true f g = f
-pickSet false f g = g
 
 -- ---- rows and sets, as lists
 
@@ -51,22 +39,22 @@ abbrev pub contradictory : FactSet → Bool
 contradictory f = f .contradiction
 
 unfoldable pub leastSum : FactSet → ℕ → ℕ → ℕ
-leastSum f x y = pick (ltb zeroVar x) unbounded (pick (ltb zeroVar y) unbounded (sumAt f x y))
+leastSum f x y = cond (ltb zeroVar x) unbounded (cond (ltb zeroVar y) unbounded (sumAt f x y))
 
 unfoldable pub shown : FactSet → ℕ → ℕ → ℕ → Bool
-shown f x y k = pickBool (f .contradiction) true (leb (leastSum f x y) k)
+shown f x y k = cond (f .contradiction) true (leb (leastSum f x y) k)
 
 unfoldable pub endShown : FactSet → ℕ → ℕ → ℕ → ℕ → ℕ → ℕ → Bool
-endShown f q n k r m j = pickBool (f .contradiction) true (leb (concatenated (concatenated (leastSum f q r) (leastSum f n m)) k) j)
+endShown f q n k r m j = cond (f .contradiction) true (leb (concatenated (concatenated (leastSum f q r) (leastSum f n m)) k) j)
 
 -- "when 0 <= y + k <= 4,294,967,295 is shown": 0 <= y + k, and y <= 4,294,967,295 - k; "a plain copy always counts as shown".
-unfoldable pub inRange : FactSet → ℕ → ℕ → Bool
+abbrev pub inRange : FactSet → ℕ → ℕ → Bool
 inRange f y k = eqb k bias || shown f zeroVar y k && shown f y zeroVar (roomAbove k)
 
 -- ---- new
 
 abbrev pub newSum : ℕ → ℕ → ℕ
-newSum i j = pick (eqb i j) bias (pick (eqb i zeroVar) bias (bias + maxValue))
+newSum i j = cond (eqb i j) bias (cond (eqb i zeroVar) bias (bias + maxValue))
 
 unfoldable pub newRow : ℕ → Row
 newRow i = rowOf (newSum i)
@@ -77,7 +65,7 @@ newSet = setOf (tabulate 17 newRow) false
 -- ---- add
 
 unfoldable pub loweredRow : Row → ℕ → ℕ → Row → Row
-loweredRow row start y through = pickRow (leb (inRow row y) start) row (rowOf (λ j. min (inRow row j) (concatenated start (inRow through j))))
+loweredRow row start y through = cond (leb (inRow row y) start) row (rowOf (λ j. min (inRow row j) (concatenated start (inRow through j))))
 
 unfoldable pub lowered : FactSet → ℕ → ℕ → ℕ → FactSet
 lowered f x y k = setOf (tabulate 17 (λ i. loweredRow (rowAt f i) (concatenated (sumAt f i x) k) y (rowAt f y))) (f .contradiction)
@@ -87,19 +75,19 @@ marked f = setOf (f .rows) true
 
 unfoldable pub added : FactSet → ℕ → ℕ → ℕ → FactSet
 added f x y k =
-    pickSet (ltb zeroVar x) f
-    (pickSet (ltb zeroVar y) f
-    (pickSet (shown f x y k) f
-    (pickSet (ltb (concatenated (sumAt f y x) k) bias) (marked f)
+    cond (ltb zeroVar x) f
+    (cond (ltb zeroVar y) f
+    (cond (shown f x y k) f
+    (cond (ltb (concatenated (sumAt f y x) k) bias) (marked f)
     (lowered f x y k))))
 
 -- ---- drop, a range, shift
 
 unfoldable pub ownRow : Row → ℕ → ℕ → Row
-ownRow base x up = rowOf (λ j. pick (eqb j x) bias (concatenated up (inRow base j)))
+ownRow base x up = rowOf (λ j. cond (eqb j x) bias (concatenated up (inRow base j)))
 
 unfoldable pub reroutedRow : Row → ℕ → ℕ → Row
-reroutedRow row x to = rowOf (λ j. pick (eqb j x) to (inRow row j))
+reroutedRow row x to = rowOf (λ j. cond (eqb j x) to (inRow row j))
 
 abbrev pub rerouted : FactSet → ℕ → ℕ → ℕ → ℕ → Row
 rerouted f x y down i = reroutedRow (rowAt f i) x (concatenated (sumAt f i y) down)
@@ -110,18 +98,18 @@ reassigned f x y up down = setOf (set (tabulate 17 (rerouted f x y down)) x (own
 
 -- x in a range: low <= x <= high, both plain numbers.
 unfoldable pub ranged : FactSet → ℕ → ℕ → ℕ → FactSet
-ranged f x low high = pickSet (ltb 15 x) f (reassigned f x zeroVar (bias + high) (bias - low))
+ranged f x low high = cond (ltb 15 x) f (reassigned f x zeroVar (bias + high) (bias - low))
 
 unfoldable pub dropped : FactSet → ℕ → FactSet
-dropped f x = pickSet (ltb 15 x) f (reassigned f x zeroVar (bias + maxValue) bias)
+dropped f x = cond (ltb 15 x) f (reassigned f x zeroVar (bias + maxValue) bias)
 
 unfoldable pub shifted : FactSet → ℕ → ℕ → FactSet
-shifted f x k = pickSet (ltb 15 x) f (added (added (reassigned f x x k (negated k)) zeroVar x bias) x zeroVar (bias + maxValue))
+shifted f x k = cond (ltb 15 x) f (added (added (reassigned f x x k (negated k)) zeroVar x bias) x zeroVar (bias + maxValue))
 
 -- ---- a change: a variable anew, then three facts besides
 
 unfoldable pub anew : FactSet → ℕ → ℕ → ℕ → ℕ → FactSet
-anew f x y up down = pickSet (ltb 15 x) f (pickSet (ltb zeroVar y) f (reassigned f x y up down))
+anew f x y up down = cond (ltb 15 x) f (cond (ltb zeroVar y) f (reassigned f x y up down))
 
 abbrev pub factAt : List Fact → ℕ → Fact
 factAt facts n = getD facts n (record { x = 0; y = 0; k = 0 })
@@ -144,11 +132,11 @@ same false b = not b
 
 -- A fact may relate i and j, or both are zero.
 abbrev pub related : (ℕ → Bool) → ℕ → ℕ → Bool
-related pointer i j = pickBool (eqb i zeroVar) true (pickBool (eqb j zeroVar) true (same (pointer i) (pointer j)))
+related pointer i j = cond (eqb i zeroVar) true (cond (eqb j zeroVar) true (same (pointer i) (pointer j)))
 
 -- The greater sum; between a pointer and an integer the chain through zero.
 unfoldable pub joinedSum : Bool → ℕ → ℕ → ℕ → ℕ → ℕ → ℕ → ℕ
-joinedSum comparable a b toA toB fromA fromB = pick comparable (max a b) (concatenated (max toA toB) (max fromA fromB))
+joinedSum comparable a b toA toB fromA fromB = cond comparable (max a b) (concatenated (max toA toB) (max fromA fromB))
 
 unfoldable pub joinedRow : (ℕ → Bool) → ℕ → Row → Row → Row → Row → Row
 joinedRow pointer i a b zeroA zeroB =
@@ -156,6 +144,6 @@ joinedRow pointer i a b zeroA zeroB =
 
 unfoldable pub joined : (ℕ → Bool) → FactSet → FactSet → FactSet
 joined pointer f g =
-    pickSet (f .contradiction) g
-    (pickSet (g .contradiction) f
+    cond (f .contradiction) g
+    (cond (g .contradiction) f
     (setOf (tabulate 17 (λ i. joinedRow pointer i (rowAt f i) (rowAt g i) (rowAt f zeroVar) (rowAt g zeroVar))) false))

@@ -2,25 +2,26 @@
 use Prim.Native.Nat.{ℕ, _+_, _-_, _≤_, _<_, min}
 use mathlib.Core.Path.{_≡_, refl, sym, ap, _∙_}
 use mathlib.Core.Logic.{_≢_}
-use mathlib.Core.Bool.{Bool, true, false, _&&_}
+use mathlib.Core.Bool.{Bool, true, false, _&&_, cond}
 use borrow.Author.Tests.{lt-ltb, le-ltb, eqb-true, eqb-false, eq-eqb, ne-eqb}
 use lib.Dec.{ltb, leb, eqb}
 use lib.Seq.{getD-set-same, getD-set-other}
 use native.Mathlib.Omega.{arith}
 use Rattle.sums.specs.Numbers.{bias, maxValue, zeroVar}
 use Rattle.changes.specs.Changes.{noFact, adding, ranging, shifting, equating}
-use Rattle.arrays.specs.Tabulate.{tabulate, length-tabulate, getD-tabulate}
-use Rattle.sums.specs.Sums.{pick, concatenated, negated, roomAbove}
-use Rattle.facts.specs.Store.{pickBool, pickRow, pickSet, noRow, rowAt, inRow, sumAt, rowOf, setOf, leastSum, shown, endShown, inRange, newSum, newRow, newSet, loweredRow, lowered, marked, added, ownRow, reroutedRow, rerouted, reassigned, anew, addedFact, addedFirst, changed, dropped, ranged, shifted, related, joinedSum, joinedRow, joined}
+use Rattle.arrays.specs.Tabulate.{tabulate}
+use Rattle.arrays.specs.TabulateLaws.{length-tabulate, getD-tabulate}
+use Rattle.sums.specs.Sums.{concatenated, negated, roomAbove}
+use Rattle.facts.specs.Store.{noRow, rowAt, inRow, sumAt, rowOf, setOf, leastSum, shown, endShown, inRange, newSum, newRow, newSet, loweredRow, lowered, marked, added, ownRow, reroutedRow, rerouted, reassigned, anew, addedFact, addedFirst, changed, dropped, ranged, shifted, related, joinedSum, joinedRow, joined}
 use Rattle.facts.specs.declared.rows.Row.{Row}
 use Rattle.changes.specs.declared.Fact.{Fact}
 use Rattle.changes.specs.declared.Change.{Change}
 use Rattle.facts.specs.declared.FactSet.{FactSet}
 
-pub picked : {b : Bool} (f g : FactSet) → b ≡ true → pickSet b f g ≡ f
+pub picked : {b : Bool} (f g : FactSet) → b ≡ true → cond b f g ≡ f
 picked f g e = rw e
 
-pub passed : {b : Bool} (f g : FactSet) → b ≡ false → pickSet b f g ≡ g
+pub passed : {b : Bool} (f g : FactSet) → b ≡ false → cond b f g ≡ g
 passed f g e = rw e
 
 -- ---- join
@@ -44,10 +45,10 @@ unfolding leastSum
 least-node f x y hx hy = rw (le-ltb zeroVar x (omega arith), le-ltb zeroVar y (omega arith))
 
 -- A question to a set: with the mark all is shown, without it what the sums show.
-asked-marked : {b : Bool} (c : Bool) → b ≡ true → pickBool b true c ≡ true
+asked-marked : {b : Bool} (c : Bool) → b ≡ true → cond b true c ≡ true
 asked-marked c e = rw e
 
-asked-clear : {b : Bool} (c : Bool) → b ≡ false → pickBool b true c ≡ c
+asked-clear : {b : Bool} (c : Bool) → b ≡ false → cond b true c ≡ c
 asked-clear c e = rw e
 
 module _ (f : FactSet) (x y k : ℕ) where
@@ -64,7 +65,7 @@ module _ (f : FactSet) (x y k : ℕ) where
   unfolding shown
   not-shown s = go (f .contradiction) s
     where
-      go : (b : Bool) → pickBool b true (leb (leastSum f x y) k) ≡ false → b ≡ false
+      go : (b : Bool) → cond b true (leb (leastSum f x y) k) ≡ false → b ≡ false
       go true s = s
       go false s = refl
 
@@ -81,11 +82,9 @@ module _ (f : FactSet) (q n k r m j : ℕ) where
 
 module _ (f : FactSet) (y k : ℕ) where
   pub plain-in-range : k ≡ bias → inRange f y k ≡ true
-  unfolding inRange
   plain-in-range e = rw (eq-eqb k bias e)
 
   shown-in-range : k ≢ bias → inRange f y k ≡ (shown f zeroVar y k && shown f y zeroVar (roomAbove k))
-  unfolding inRange
   shown-in-range n = rw (ne-eqb k bias n)
 
   pub range-shown : {b r : Bool} → k ≢ bias → b ≡ shown f zeroVar y k → b ≡ true → r ≡ shown f y zeroVar (roomAbove k) → r ≡ inRange f y k
@@ -151,7 +150,7 @@ module _ (f : FactSet) (x : ℕ) where
   unfolding dropped reassigned
   mark-dropped = go (ltb 15 x)
     where
-      go : (b : Bool) → pickSet b f (reassigned f x zeroVar (bias + maxValue) bias) .contradiction ≡ f .contradiction
+      go : (b : Bool) → cond b f (reassigned f x zeroVar (bias + maxValue) bias) .contradiction ≡ f .contradiction
       go true = refl
       go false = refl
 
@@ -208,15 +207,15 @@ module _ (f : FactSet) {g : FactSet} {c : Change} (e : g ≡ changed f c) where
 
 -- ---- sum by sum
 
-in-picked : (b : Bool) (row : Row) (g : ℕ → ℕ) (j : ℕ) → j < 17 → inRow (pickRow b row (rowOf g)) j ≡ pick b (inRow row j) (g j)
+in-picked : (b : Bool) (row : Row) (g : ℕ → ℕ) (j : ℕ) → j < 17 → inRow (cond b row (rowOf g)) j ≡ cond b (inRow row j) (g j)
 in-picked true row g j h = refl
 in-picked false row g j h = getD-tabulate 17 g j 0 h
 
-in-own : (base : Row) (x up j : ℕ) → j < 17 → inRow (ownRow base x up) j ≡ pick (eqb j x) bias (concatenated up (inRow base j))
+in-own : (base : Row) (x up j : ℕ) → j < 17 → inRow (ownRow base x up) j ≡ cond (eqb j x) bias (concatenated up (inRow base j))
 unfolding ownRow
 in-own base x up j h = getD-tabulate 17 _ j 0 h
 
-in-rerouted : (row : Row) (x to j : ℕ) → j < 17 → inRow (reroutedRow row x to) j ≡ pick (eqb j x) to (inRow row j)
+in-rerouted : (row : Row) (x to j : ℕ) → j < 17 → inRow (reroutedRow row x to) j ≡ cond (eqb j x) to (inRow row j)
 unfolding reroutedRow
 in-rerouted row x to j h = getD-tabulate 17 _ j 0 h
 
@@ -242,7 +241,7 @@ module _ (f : FactSet) (i j : ℕ) (hi : i < 17) (hj : j < 17) where
   sum-new = rw (getD-tabulate, getD-tabulate)
 
   pub sum-lowered : (x y k : ℕ) → sumAt (lowered f x y k) i j
-      ≡ pick (leb (sumAt f i y) (concatenated (sumAt f i x) k)) (sumAt f i j) (min (sumAt f i j) (concatenated (concatenated (sumAt f i x) k) (sumAt f y j)))
+      ≡ cond (leb (sumAt f i y) (concatenated (sumAt f i x) k)) (sumAt f i j) (min (sumAt f i j) (concatenated (concatenated (sumAt f i x) k) (sumAt f y j)))
   unfolding lowered loweredRow
   sum-lowered x y k = rw getD-tabulate (in-picked (leb (sumAt f i y) (concatenated (sumAt f i x) k)) (rowAt f i) _ j hj)
 
@@ -250,11 +249,11 @@ module _ (f : FactSet) (i j : ℕ) (hi : i < 17) (hj : j < 17) where
       → sumAt (reassigned f x y up down) i j ≡ anewAt (sumAt f i j) (concatenated up (sumAt f y j)) (concatenated (sumAt f i y) down) (eqb i x) (eqb j x)
   sum-reassigned x y up down hx = go (eqb i x) refl
     where
-      own : (b : Bool) → pick b bias (concatenated up (sumAt f y j)) ≡ anewAt (sumAt f i j) (concatenated up (sumAt f y j)) (concatenated (sumAt f i y) down) true b
+      own : (b : Bool) → cond b bias (concatenated up (sumAt f y j)) ≡ anewAt (sumAt f i j) (concatenated up (sumAt f y j)) (concatenated (sumAt f i y) down) true b
       own true = refl
       own false = refl
 
-      other : (b : Bool) → pick b (concatenated (sumAt f i y) down) (sumAt f i j) ≡ anewAt (sumAt f i j) (concatenated up (sumAt f y j)) (concatenated (sumAt f i y) down) false b
+      other : (b : Bool) → cond b (concatenated (sumAt f i y) down) (sumAt f i j) ≡ anewAt (sumAt f i j) (concatenated up (sumAt f y j)) (concatenated (sumAt f i y) down) false b
       other true = refl
       other false = refl
 

@@ -2,16 +2,18 @@
 use Prim.Native.Nat.{ℕ, _+_, _≤_, _<_, max}
 use mathlib.Core.Path.{_≡_, refl, sym, ap, ap₂, _∙_}
 use mathlib.Core.List.{List}
-use mathlib.Core.Bool.{Bool, true, false, not, Bool·beq}
+use mathlib.Core.Bool.{Bool, true, false, not, Bool·beq, cond}
 use borrow.Author.Tests.{le-leb, lt-leb, ne-eqb}
 use lib.ListN.{length, getD, set, length-set}
 use lib.Dec.{ltb, leb, eqb}
 use native.Mathlib.Numerals.{add-one}
 use native.Mathlib.Omega.{arith}
 use Rattle.sums.specs.Numbers.{bias, zeroVar}
-use Rattle.arrays.specs.Tabulate.{tabulate, length-tabulate, getD-tabulate, tabulate-alike, Filled, filled-none, filled-more, filled-next, filled-each, filled-kept, filled-whole}
-use Rattle.sums.specs.Sums.{pick, concatenated}
-use Rattle.facts.specs.Store.{pickBool, pickSet, noRow, rowAt, inRow, sumAt, setOf, leastSum, shown, loweredRow, lowered, marked, added, ownRow, rerouted, reassigned, anew, factAt, addedFact, addedFirst, same, joinedSum, joinedRow}
+use Rattle.arrays.specs.Choice.{cond-either}
+use Rattle.arrays.specs.Tabulate.{tabulate}
+use Rattle.arrays.specs.TabulateLaws.{length-tabulate, getD-tabulate, tabulate-alike, Filled, filled-none, filled-more, filled-next, filled-each, filled-kept, filled-whole}
+use Rattle.sums.specs.Sums.{concatenated}
+use Rattle.facts.specs.Store.{noRow, rowAt, inRow, sumAt, setOf, leastSum, shown, loweredRow, lowered, marked, added, ownRow, rerouted, reassigned, anew, factAt, addedFact, addedFirst, same, joinedSum, joinedRow}
 use Rattle.facts.specs.Rows.{shortenedRow, greatestRow, throughZero}
 use Rattle.facts.specs.StoreLaws.{least-node, shown-marked, shown-clear, added-left, added-right, added-shown, added-closed, added-lowered, anew-left, anew-right, anew-variable}
 use Rattle.facts.specs.declared.rows.Row.{Row}
@@ -20,9 +22,8 @@ use Rattle.facts.specs.declared.FactSet.{FactSet}
 
 -- ---- a variable anew
 
-long-picked : (b : Bool) (f g : FactSet) → length (f .rows) ≡ 17 → length (g .rows) ≡ 17 → length (pickSet b f g .rows) ≡ 17
-long-picked true f g d e = d
-long-picked false f g d e = e
+long-picked : (b : Bool) (f g : FactSet) → length (f .rows) ≡ 17 → length (g .rows) ≡ 17 → length (cond b f g .rows) ≡ 17
+long-picked b f g d e = cond-either (λ (s : FactSet). length (s .rows) ≡ 17) b f g d e
 
 module _ (f : FactSet) (x y up down : ℕ) where
   pub long-anew : length (f .rows) ≡ 17 → length (anew f x y up down .rows) ≡ 17
@@ -57,7 +58,7 @@ module _ (f : FactSet) (x y k : ℕ) where
   unfolding shown
   known-shown hx hy h = go (f .contradiction)
     where
-      go : (b : Bool) → pickBool b true (leb (leastSum f x y) k) ≡ true
+      go : (b : Bool) → cond b true (leb (leastSum f x y) k) ≡ true
       go true = refl
       go false = le-leb (leastSum f x y) k (omega (arith, least-node f x y (omega arith) (omega arith)))
 
@@ -161,7 +162,7 @@ module _ {facts : List Fact} where
 
 -- The loop through a row, after j sums: `to` is the row's sum to zero.
 abbrev routed : List Bool → Bool → Row → ℕ → Row → ℕ → ℕ
-routed pointers pointer row to zeros n = pick (pickBool (eqb n zeroVar) true (same pointer (getD pointers n false))) (inRow row n) (concatenated to (inRow zeros n))
+routed pointers pointer row to zeros n = cond (cond (eqb n zeroVar) true (same pointer (getD pointers n false))) (inRow row n) (concatenated to (inRow zeros n))
 
 pub record Routing (pointers : List Bool) (pointer : Bool) (row : Row) (to : ℕ) (zeros next : Row) (j : ℕ) : Type 0 where
   pub filled : Filled (next .sums) (row .sums) 17 (routed pointers pointer row to zeros) j
@@ -180,7 +181,7 @@ alike false true e = sym e
 alike false false e = refl
 
 routed-variable : (pointers : List Bool) (pointer : Bool) (row : Row) (to : ℕ) (zeros : Row) (j : ℕ) {b : Bool} → j < 16 → same pointer (getD pointers j false) ≡ b
-    → routed pointers pointer row to zeros j ≡ pick b (inRow row j) (concatenated to (inRow zeros j))
+    → routed pointers pointer row to zeros j ≡ cond b (inRow row j) (concatenated to (inRow zeros j))
 routed-variable pointers pointer row to zeros j h e = rw (ne-eqb j zeroVar (λ q. omega (arith, q)), e)
 
 module _ {pointers : List Bool} {pointer : Bool} {row zeros : Row} {to : ℕ} where

@@ -4,11 +4,10 @@ use sums::MAX_SUM;
 use sums::UNBOUNDED;
 use sums::concat;
 ghost use mathlib.Core.Path.{_≡_};
-ghost use mathlib.Core.Bool.{false};
+ghost use mathlib.Core.Bool.{false, cond};
 ghost use Prim.Native.Nat.{_<_, min, max};
 ghost use lib.ListN.{getD};
 ghost use lib.Dec.{eqb};
-ghost use Rattle.sums.specs.Sums.{pick};
 ghost use Rattle.facts.specs.Store.{newSum, newRow, ownRow};
 ghost use Rattle.facts.specs.Rows.{shortenedRow, IsMask, Masks, maskRow, mergedRow, greatestRow, throughZero};
 
@@ -29,7 +28,7 @@ fn greatest(a: u64, b: u64) -> u64
 }
 
 fn choose(first: bool, a: u64, b: u64) -> u64
-    ensures { λ r. ⌜ r ≡ pick first a b ⌝ }
+    ensures { λ r. ⌜ r ≡ cond first a b ⌝ }
 {
     if first { a } else { b }
 }
@@ -37,7 +36,7 @@ fn choose(first: bool, a: u64, b: u64) -> u64
 // b where every bit of the mask is set, a where none is; unlike a choice, a row of these is done several at a time.
 fn merge(mask: u64, a: u64, b: u64) -> u64
     requires { ⌜ IsMask mask ⌝ }
-    ensures { λ r. ⌜ r ≡ pick (eqb mask 0) a b ⌝ }
+    ensures { λ r. ⌜ r ≡ cond (eqb mask 0) a b ⌝ }
 {
     a ^ ((a ^ b) & mask)
 }

@@ -1,6 +1,6 @@
 -- What the word of one field is, and what it may be.
 use Prim.Native.Nat.{ℕ, _+_, _-_, _^_}
-use mathlib.Core.Bool.{Bool, true, false, _&&_}
+use mathlib.Core.Bool.{Bool, true, false, _&&_, cond}
 use lib.Dec.{leb, ltb, eqb}
 use Rattle.sums.specs.Numbers.{bias, zeroVar}
 
@@ -8,13 +8,9 @@ use Rattle.sums.specs.Numbers.{bias, zeroVar}
 abbrev pub plain : ℕ → ℕ
 plain w = w - bias
 
-abbrev pub pickNumber : Bool → ℕ → ℕ → ℕ
-pickNumber true a b = a
-pickNumber false a b = b
-
 -- "an integer variable or -1": a missing integer has the number that stands for zero.
 unfoldable pub indexOf : ℕ → ℕ
-indexOf w = pickNumber (eqb w (bias - 1)) zeroVar (plain w)
+indexOf w = cond (eqb w (bias - 1)) zeroVar (plain w)
 
 -- An unused field is 0.
 abbrev pub isZero : ℕ → Bool

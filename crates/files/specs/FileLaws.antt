@@ -8,37 +8,47 @@ use borrow.Author.Tests.{eq-eqb, ne-eqb, lt-leb}
 use lib.Dec.{leb}
 use lib.IntN.{ℤ}
 use lib.ListN.{length, take}
-use Rattle.arrays.specs.Tabulate.{tabulate, length-tabulate}
+use Rattle.arrays.specs.Tabulate.{tabulate}
+use Rattle.arrays.specs.TabulateLaws.{length-tabulate}
 use Rattle.refusals.specs.declared.Refusal.the-variants.{Length}
 use Rattle.table.specs.Form.{lengthRight, formOf}
 use Rattle.rules.specs.Rules.{refusal}
+use Rattle.rules.specs.FactSets.{FactSets}
 use Rattle.rules.specs.Verdict.{faults, Answers}
+use Rattle.rules.specs.ByChains.{byChains, Judged}
+use Rattle.rules.specs.Decidable.{decided}
 use Rattle.rules.specs.declared.Verdict.{Verdict}
 use Rattle.rules.specs.declared.Verdict.the-variants.{Refused}
-use Rattle.encoding.specs.Words.{wordAt, WordsRead}
-use Rattle.files.specs.Files.{wordsOf, fileFaults}
+use Rattle.encoding.specs.Words.{wordAt}
+use Rattle.encoding.specs.Reading.{WordsRead}
+use Rattle.files.specs.Files.{wordsOf, fileFaults, FileJudged}
 
 and-false : (a : Bool) → (a && false) ≡ false
 and-false true = refl
 and-false false = refl
 
 -- "above 7,318 words"
-pub faults-long : (T : List ℤ) → 7318 < length T → faults T ≡ refusal Length ∷ []
+pub faults-long : (S : FactSets) (T : List ℤ) → 7318 < length T → faults S T ≡ refusal Length ∷ []
 unfolding faults formOf lengthRight
-faults-long T h = rw (lt-leb (length T) 7318 h, and-false (leb 6 (length T)))
+faults-long S T h = rw (lt-leb (length T) 7318 h, and-false (leb 6 (length T)))
 
-pub odd-refused : (bytes : List ℕ) → (length bytes % 4 ≡ 0 → ⊥) → Answers (fileFaults bytes) (Refused Length)
-unfolding fileFaults Answers
-odd-refused bytes n = rw (ne-eqb (length bytes % 4) 0 n) refl
+pub odd-refused : (bytes : List ℕ) → (length bytes % 4 ≡ 0 → ⊥) → FileJudged bytes (Refused Length)
+unfolding FileJudged fileFaults Answers
+odd-refused bytes n = decided _ _ (λ d r. rw (ne-eqb (length bytes % 4) 0 n) refl)
 
-pub long-refused : (bytes : List ℕ) → length bytes % 4 ≡ 0 → 7318 < length bytes / 4 → Answers (fileFaults bytes) (Refused Length)
-unfolding fileFaults Answers wordsOf
-long-refused bytes e h = rw (eq-eqb (length bytes % 4) 0 e, faults-long (tabulate (length bytes / 4) (λ i. wordAt bytes (4 * i))) (rw (length-tabulate (length bytes / 4) (λ i. wordAt bytes (4 * i))) h)) refl
+pub long-refused : (bytes : List ℕ) → length bytes % 4 ≡ 0 → 7318 < length bytes / 4 → FileJudged bytes (Refused Length)
+unfolding FileJudged fileFaults Answers wordsOf
+long-refused bytes e h =
+    decided _ _ (λ d r. rw (
+      eq-eqb (length bytes % 4) 0 e,
+      faults-long (byChains d) (tabulate (length bytes / 4) (λ i. wordAt bytes (4 * i))) (rw (length-tabulate (length bytes / 4) (λ i. wordAt bytes (4 * i))) h),
+    ) refl)
 
 pub file-answered : (bytes : List ℕ) {table old : List ℤ} {count : ℕ} (v : Verdict) → length bytes % 4 ≡ 0 → length bytes / 4 ≤ length old → WordsRead bytes old count table
-    → Answers (faults (take count table)) v → Answers (fileFaults bytes) v
-unfolding fileFaults wordsOf
+    → Judged (take count table) v → FileJudged bytes v
+unfolding FileJudged Judged fileFaults wordsOf
 file-answered bytes {table} {count = count} v e h p a =
     let q : count ≡ length bytes / 4 = omega (arith, p .many) in
     let t : take count table ≡ tabulate (length bytes / 4) (λ j. wordAt bytes (4 * j)) = p .filled .front ∙ ap (λ (n : ℕ). tabulate n (λ j. wordAt bytes (4 * j))) q in
-    rw (eq-eqb (length bytes % 4) 0 e, ← t) a
+    let j : Judged (tabulate (length bytes / 4) (λ j. wordAt bytes (4 * j))) v = rw t at a in
+    decided _ _ (λ d r. rw (eq-eqb (length bytes % 4) 0 e) (j .by-each d r))

@@ -1,15 +1,14 @@
 // Routine tables in files: the verdict on one.
 use refusals::Refusal;
 use rules::Verdict;
-ghost use Rattle.rules.specs.Verdict.{Answers};
-ghost use Rattle.files.specs.Files.{fileFaults};
+ghost use Rattle.files.specs.Files.{FileJudged};
 
 // The largest table, in words.
 const MAX_WORDS: usize = 7318;
 
 // The verdict on a file.
 pub fn check_file(bytes: &[u8]) -> Verdict
-    ensures { λ r. ⌜ Answers (fileFaults (now (bytes .entry))) r ⌝ }
+    ensures { λ r. ⌜ FileJudged (now (bytes .entry)) r ⌝ }
 {
     let size = bytes.len();
     if size % 4 != 0 {

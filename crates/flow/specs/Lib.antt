@@ -1,6 +1,7 @@
 pub mod Flow
 pub mod FlowLaws
 pub mod Along
+pub mod Targets
 pub mod Shape
 pub mod ShapeLaws
 pub mod SuccessorLaws

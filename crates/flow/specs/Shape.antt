@@ -1,16 +1,15 @@
 -- The terms in which the laws of the tree, the layout and the flow are stated.
-use Prim.Native.Nat.{ℕ, zero, suc, _+_, _*_, _≤_}
+use Prim.Native.Nat.{ℕ, _+_, _*_, _≤_}
 use mathlib.Core.Path.{_≡_}
-use mathlib.Core.List.{List, [], _∷_, _++_}
+use mathlib.Core.List.{List, [], _∷_}
 use lib.IntN.{ℤ}
 use lib.ListN.{length, getD}
 use Rattle.sections.specs.declared.Sections.{Sections}
 use Rattle.statements.specs.declared.Simple.{Simple}
 use Rattle.statements.specs.declared.Statement.the-variants.{Plain, If, While, Bundle}
-use Rattle.statements.specs.declared.StatementRead.{StatementRead}
-use Rattle.statements.specs.declared.StatementRead.the-variants.{Read, Unread}
+use Rattle.statements.specs.declared.StatementRead.the-variants.{Read}
 use Rattle.statements.specs.Statements.{statementAt}
-use Rattle.blocks.specs.Tree.{Block, nil, plain, branch, loop, bundle, unread, target}
+use Rattle.blocks.specs.Tree.{Block, nil, plain, branch, loop, bundle, unread}
 use Rattle.blocks.specs.Layout.{maxDepth, maxBundle}
 use Rattle.flow.specs.Flow.{Successors, successors, entry, lead}
 
@@ -91,15 +90,3 @@ Consecutive lo (x ∷ xs) = (x .statement ≡ lo) × Consecutive (lo + 1) xs
 -- The successors of statement s in a slice.
 abbrev pub entriesAt : List ℕ → ℕ → Successors
 entriesAt w s = successors s (getD w (2 * s) 0) (getD w (2 * s + 1) 0)
-
--- The targets of the n statements from a on, record by record: what a loop over a body's statements finds.
-abbrev pub targetOf : StatementRead → List ℕ
-targetOf Unread = []
-targetOf (Read (Plain s)) = target s
-targetOf (Read (If c n m)) = []
-targetOf (Read (While c n)) = []
-targetOf (Read (Bundle n)) = []
-
-unfoldable pub targetsFrom : List ℤ → Sections → ℕ → ℕ → List ℕ
-targetsFrom T h a zero = []
-targetsFrom T h a (suc n) = targetOf (statementAt T h a) ++ targetsFrom T h (a + 1) n

@@ -18,7 +18,8 @@ use Rattle.statements.specs.Statements.{statementAt}
 use Rattle.blocks.specs.Tree.{Block, nil, plain, branch, loop, bundle, unread, simples, simplesFrom, node, parse, tree, target, targets, assigned}
 use Rattle.blocks.specs.Layout.{maxDepth, contents, contentsFrom, kindLayout, nodeLayout, blockLayout, layout}
 use Rattle.blocks.specs.LayoutLaws.{no-first, no-rest, passed, bundle-within, bundle-counted, bundle-contents}
-use Rattle.flow.specs.Shape.{size, Numbered, ReadsLine, Reads, Laid, targetOf, targetsFrom}
+use Rattle.flow.specs.Shape.{size, Numbered, ReadsLine, Reads, Laid}
+use Rattle.flow.specs.Targets.{targetOf, targetsFrom}
 
 -- The contents of a bundle that are not refused are its list, none missing.
 pub record Held (T : List ℤ) (h : Sections) (n x : ℕ) (ss : List Simple) : Type 0 where

@@ -1,9 +1,7 @@
 -- How the run without origins shows the points of the plain machine, and what it needs of them.
 use Prim.Native.Nat.{ℕ, _<_, _≤_}
 use mathlib.Core.Path.{_≡_}
-use mathlib.Core.Bool.{Bool, true, false}
 use mathlib.Core.List.{List}
-use lib.Dec.{ltb}
 use lib.IntN.{ℤ}
 use lib.ListN.{length, getD}
 use Rattle.sections.specs.declared.Sections.{Sections}
@@ -17,10 +15,9 @@ use Rattle.stops.specs.Checks.{checkOf}
 use Rattle.steps.specs.Bare.{Move, move}
 use Rattle.runs.specs.BareRun.{Result, result}
 use Rattle.ends.specs.Ends.{endsOf}
+use Rattle.interpreter.specs.Outcomes.{outcomeShown}
 use Rattle.checks.specs.declared.Step.{Step}
 use Rattle.checks.specs.declared.Step.the-variants.{Go, Stop}
-use Rattle.stops.specs.declared.Outcome.{Outcome}
-use Rattle.stops.specs.declared.Outcome.the-variants.{Done, Spent, Stopped}
 
 -- What the step to a point says, by the point's status and the statement due there. (No run that is begun is stuck.)
 abbrev pub stepShown : Status → ℕ → Step
@@ -30,16 +27,6 @@ stepShown stuck a = Go a
 
 abbrev pub moveShown : Point → Move
 moveShown Q = move (stepShown (Q .status) (Q .due)) (Q .values) (Q .cells)
-
-abbrev pub pickOutcome : Bool → Outcome → Outcome → Outcome
-pickOutcome true a b = a
-pickOutcome false a b = b
-
--- How a run that is given up at a point ends: done where nothing is due, spent where a statement is due, or stopped.
-abbrev pub outcomeShown : Sections → Status → ℕ → ℕ → Outcome
-outcomeShown h going n a = pickOutcome (ltb a (h .statements)) (Spent n a) (Done n)
-outcomeShown h (stopped k) n a = Stopped n (checkOf k a)
-outcomeShown h stuck n a = Done n
 
 abbrev pub resultShown : Sections → Point → Result
 resultShown h Q = result (outcomeShown h (Q .status) (Q .steps) (Q .due)) (Q .values) (Q .cells)

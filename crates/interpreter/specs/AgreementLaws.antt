@@ -1,7 +1,7 @@
 -- The run without origins agrees with the plain machine, step by step and as a whole.
 use Prim.Native.Nat.{ℕ, zero, suc, _+_, _<_, _≤_}
 use mathlib.Core.Path.{_≡_, refl, sym, ap, ap₂, subst, _∙_}
-use mathlib.Core.Bool.{Bool, true, false, false≢true}
+use mathlib.Core.Bool.{Bool, true, false, false≢true, cond}
 use mathlib.Core.List.{List, [], _∷_}
 use native.Mathlib.Omega.{arith}
 use borrow.Author.Tests.{ltb-true, leb-true, lt-ltb}
@@ -9,8 +9,8 @@ use lib.Dec.{leb, ltb}
 use lib.IntN.{ℤ}
 use lib.ListN.{length, getD, set, length-set}
 use Rattle.sums.specs.Numbers.{bias}
-use Rattle.fields.specs.Fields.{pickNumber}
-use Rattle.sections.specs.SectionsLaws.{both, Limits}
+use Rattle.sections.specs.SectionsLaws.{both}
+use Rattle.sections.specs.Sections.{Limits}
 use Rattle.sections.specs.declared.Sections.{Sections}
 use Rattle.statements.specs.Statements.{statementAt}
 use Rattle.statements.specs.Typed.{SimpleTyped, WellTyped}
@@ -29,9 +29,10 @@ use Rattle.rules.specs.declared.Environment.{Environment}
 use Rattle.machine.specs.Machine.{low, high, address, inOrigin, conditionHolds, Failing, none, fails, failing, Status, going, stopped, stuck, Point, Memory, Performed, done, no-step, stepIf, performed, memoryOf, afterChecks, branched, statementStep, stepIfDue, nextPoint, pointAfter}
 use Rattle.checks.specs.Checked.{stepUnless}
 use Rattle.steps.specs.Bare.{valuesAfter, cellsAfter, changedUnless, Move, move, simpleMove, statementMove, bareMove, InCells, InsideSimple, Inside, Ready}
-use Rattle.runs.specs.BareRun.{Result, result, pickResult, follow, bareRun, IfTrue, Onward, SafeRun}
+use Rattle.runs.specs.BareRun.{Result, result, follow, bareRun, IfTrue, Onward, SafeRun}
 use Rattle.stops.specs.Checks.{checkOf}
-use Rattle.interpreter.specs.Agreement.{stepShown, moveShown, pickOutcome, outcomeShown, resultShown, Runnable}
+use Rattle.interpreter.specs.Agreement.{stepShown, moveShown, resultShown, Runnable}
+use Rattle.interpreter.specs.Outcomes.{outcomeShown}
 use Rattle.ends.specs.Ends.{endsOf}
 use Rattle.interpreter.specs.EndsLaws.{failing-same}
 use Rattle.checks.specs.declared.Step.{Step}
@@ -105,7 +106,7 @@ module _ (P : Point) (next k : ℕ) (o : (p : ℕ) → getD (P .origins) p 0 ≤
       record { same = move-same (Go next) vs (m .values) cs (m .cells) (sym (l .0)) (sym (l .1)); counted = refl; long = ap length (l .1) ∙ e; origins = l .2 }
   simple-stepped none no-step vs cs l e u = absurd (u refl)
 
-  branch-stepped : (b : Bool) (n : Successors) → Stepped P (branched b P n) k (move (Go (pickNumber b (n .next) (n .other))) (P .values) (P .cells))
+  branch-stepped : (b : Bool) (n : Successors) → Stepped P (branched b P n) k (move (Go (cond b (n .next) (n .other))) (P .values) (P .cells))
   branch-stepped true n = record { same = refl; counted = refl; long = refl; origins = o }
   branch-stepped false n = record { same = refl; counted = refl; long = refl; origins = o }
 
@@ -266,14 +267,14 @@ module _ (T : List ℤ) (h : Sections) (E : Environment) (D W S : List ℕ) wher
             (onward (after P .status) (after P .due) (λ b. SafeRun T h W D S l b (after P .values) (after P .cells)) (λ i. safe-run l (after P) i (runnable-next P g R due)) (free P g R due)),
       ))
 
-  spent-or-done : (b : Bool) (n a : ℕ) (vs cs : List ℕ) → pickResult b (result (Spent n a) vs cs) (result (Done n) vs cs) ≡ result (pickOutcome b (Spent n a) (Done n)) vs cs
+  spent-or-done : (b : Bool) (n a : ℕ) (vs cs : List ℕ) → cond b (result (Spent n a) vs cs) (result (Done n) vs cs) ≡ result (cond b (Spent n a) (Done n)) vs cs
   spent-or-done true n a vs cs = refl
   spent-or-done false n a vs cs = refl
 
   -- The result shown at a point that is going.
-  shown-going : (P : Point) (b : Bool) → P .status ≡ going → ltb (P .due) (h .statements) ≡ b → result (pickOutcome b (Spent (P .steps) (P .due)) (Done (P .steps))) (P .values) (P .cells) ≡ resultShown h P
+  shown-going : (P : Point) (b : Bool) → P .status ≡ going → ltb (P .due) (h .statements) ≡ b → result (cond b (Spent (P .steps) (P .due)) (Done (P .steps))) (P .values) (P .cells) ≡ resultShown h P
   shown-going P b g e =
-      ap (λ (x : Bool). result (pickOutcome x (Spent (P .steps) (P .due)) (Done (P .steps))) (P .values) (P .cells)) (sym e)
+      ap (λ (x : Bool). result (cond x (Spent (P .steps) (P .due)) (Done (P .steps))) (P .values) (P .cells)) (sym e)
       ∙ ap (λ (s : Status). result (outcomeShown h s (P .steps) (P .due)) (P .values) (P .cells)) (sym g)
 
   shown-stopped : (P : Point) (k n : ℕ) → P .status ≡ stopped k → n ≡ P .steps → result (Stopped n (checkOf k (P .due))) (P .values) (P .cells) ≡ resultShown h P
@@ -287,7 +288,7 @@ module _ (T : List ℤ) (h : Sections) (E : Environment) (D W S : List ℕ) wher
   followed (stopped k) a n F vs cs X f c u = c k refl
   followed stuck a n F vs cs X f c u = absurd (u refl)
 
-  by-test : (b : Bool) (x y X : Result) → (b ≡ true → x ≡ X) → (b ≡ false → y ≡ X) → pickResult b x y ≡ X
+  by-test : (b : Bool) (x y X : Result) → (b ≡ true → x ≡ X) → (b ≡ false → y ≡ X) → cond b x y ≡ X
   by-test true x y X f c = f refl
   by-test false x y X f c = c refl
 

@@ -2,14 +2,13 @@
 use Prim.Native.Nat.{ℕ, zero, suc, _+_, _*_, _≤_, _<_}
 use mathlib.Core.Path.{_≡_, refl}
 use mathlib.Core.Logic.{_≢_}
-use mathlib.Core.Bool.{Bool, true, false, not, _&&_}
+use mathlib.Core.Bool.{Bool, true, false, not, _&&_, cond}
 use mathlib.Core.List.{List}
 use native.Mathlib.Omega.{arith}
 use native.Mathlib.Decide.{ℕ-discrete}
 use borrow.Author.Tests.{leb-true, eqb-true, ne-eqb, eq-eqb}
 use lib.Dec.{leb, eqb}
 use lib.ListN.{length, getD}
-use Rattle.facts.specs.Store.{pickBool}
 use Rattle.sums.specs.Numbers.{maxValue}
 use Rattle.sections.specs.declared.Sections.{Sections}
 use Rattle.rules.specs.BoundsRules.{isPointer, objectLength}
@@ -42,14 +41,10 @@ module _ (h : Sections) (E : Environment) (D cs vs os : List ℕ) (A : Admitted 
         inside = leb-true _ _ (t .1);
       }
 
-  -- A pointer that is not null: its origin names an object, and its bounds are true.
-  pointer-right : (p : ℕ) → isPointer E p ≡ true → p < h .variables → value vs p ≢ 0 → (getD os p 0 ≤ h .objects) × (boundsTrue E D vs os p ≡ true)
+  -- The bounds of a pointer that is not null are true.
+  pointer-right : (p : ℕ) → isPointer E p ≡ true → p < h .variables → value vs p ≢ 0 → boundsTrue E D vs os p ≡ true
   unfolding entryRight
-  pointer-right p q l n =
-      let f : pickBool (true && not false) (leb 1 (getD os p 0) && leb (getD os p 0) (h .objects) && boundsTrue E D vs os p) (eqb (getD os p 0) 0) ≡ true
-      = rw (q, ne-eqb (value vs p) 0 n) at (A .entries p l) in
-      let t = three (leb 1 (getD os p 0)) (leb (getD os p 0) (h .objects)) (boundsTrue E D vs os p) f in
-      (leb-true _ _ (t .1), t .2)
+  pointer-right p q l n = rw (q, ne-eqb (value vs p) 0 n) at (A .entries p l)
 
   null-right : (p : ℕ) → value vs p ≡ 0 → boundsTrue E D vs os p ≡ true
   unfolding boundsTrue
@@ -57,6 +52,7 @@ module _ (h : Sections) (E : Environment) (D cs vs os : List ℕ) (A : Admitted 
 
   pub entry-begun : ((x : ℕ) → getD vs x 0 ≤ maxValue) → ((i : ℕ) → getD cs i 0 ≤ maxValue) → ((p : ℕ) → isPointer E p ≡ true → p < h .variables) → Begun h E D cs vs os
   entry-begun small-values small-cells few = record {
+    pairs = A .pairs;
     placed = pair-placed;
     memory = A .memory;
     values-long = A .values;
@@ -64,9 +60,8 @@ module _ (h : Sections) (E : Environment) (D cs vs os : List ℕ) (A : Admitted 
     values-small = small-values;
     cells-small = small-cells;
     bounds = λ p q. go p q (ℕ-discrete (value vs p) 0);
-    origins = λ p q n. pointer-right p q (few p q) n .0;
   }
     where
       go : (p : ℕ) → isPointer E p ≡ true → Dec (value vs p ≡ 0) → boundsTrue E D vs os p ≡ true
       go p q (yes z) = null-right p z
-      go p q (no n) = pointer-right p q (few p q) n .1
+      go p q (no n) = pointer-right p q (few p q) n

@@ -20,15 +20,16 @@ use Rattle.blocks.specs.Tree.{tree}
 use Rattle.rules.specs.BoundsRules.{isPointer}
 use Rattle.rules.specs.Rules.{Fault, also}
 use Rattle.rules.specs.Verdict.{environmentOf, refusals, faults, Answers}
+use Rattle.rules.specs.FactSets.{FactSets}
+use Rattle.rules.specs.ByChains.{byChains, Decided}
 use Rattle.rules.specs.declared.Environment.{Environment}
 use Rattle.rules.specs.declared.Verdict.the-variants as verdict
 use Rattle.machine.specs.Machine.{Failing, none, fails, failing, boundsTrue, inOrigin, going, stopped, stuck, Point, start, pointAfter}
 use Rattle.entry.specs.Entry.{entryRefusals}
-use Rattle.machine.specs.Points.{inBundle, Access, no-access, access, accessFrom}
-use Rattle.machine.specs.Soundness.{Outside}
+use Rattle.machine.specs.Points.{inBundle, Access, no-access, access, accessFrom, Outside}
 use Rattle.stops.specs.Checks.{checkNumber, checkStatement}
 use Rattle.stops.specs.declared.Check.{Check}
-use Rattle.interpreter.specs.Agreement.{outcomeShown}
+use Rattle.interpreter.specs.Outcomes.{outcomeShown}
 use Rattle.stops.specs.declared.Outcome.{Outcome}
 use Rattle.stops.specs.declared.Outcome.the-variants as outcome
 
@@ -39,8 +40,8 @@ entryFaults (Refused r) T D cs vs os = []
 entryFaults (WellFormed h) T D cs vs os = refusals (entryRefusals h (environmentOf T h) D cs vs os)
 
 -- "A run checks the routine first, then 10 to 12": all faults in that order. "A run is begun when no cause refuses it."
-unfoldable pub runFaults : List ℤ → List ℕ → List ℕ → List ℕ → List ℕ → List Fault
-runFaults T D cs vs os = also (faults T) (entryFaults (formOf T) T D cs vs os)
+unfoldable pub runFaults : FactSets → List ℤ → List ℕ → List ℕ → List ℕ → List ℕ → List Fault
+runFaults S T D cs vs os = also (faults S T) (entryFaults (formOf T) T D cs vs os)
 
 -- ---- the points of a begun run
 
@@ -109,7 +110,11 @@ pub record NotBegun (fs : List Fault) (cs vs : List ℕ) (r : Outcome) (vs′ cs
   pub values : vs′ ≡ vs
   pub cells : cs′ ≡ cs
 
--- THE CONTRACT OF `run`, for each input.
+-- What a run answers, given all faults of its input.
 unfoldable pub RunAnswer : List Fault → List ℤ → List ℕ → List ℕ → List ℕ → List ℕ → ℕ → Outcome → List ℕ → List ℕ → Type 0
 RunAnswer [] T D cs vs os limit r vs′ cs′ = Ran T (sectionsOf T) D cs vs os limit r vs′ cs′
 RunAnswer (f ∷ fs) T D cs vs os limit r vs′ cs′ = NotBegun (f ∷ fs) cs vs r vs′ cs′
+
+-- THE CONTRACT OF `run`, for each input, by the paper's chains of the facts of its table.
+unfoldable pub RunJudged : List ℤ → List ℕ → List ℕ → List ℕ → List ℕ → ℕ → Outcome → List ℕ → List ℕ → Type 0
+RunJudged T D cs vs os limit r vs′ cs′ = Decided T (λ d. RunAnswer (runFaults (byChains d) T D cs vs os) T D cs vs os limit r vs′ cs′)

@@ -2,7 +2,7 @@
 use Prim.Native.Nat.{ℕ, _+_, _-_, _*_, _≤_, _<_}
 use mathlib.Core.Path.{_≡_, refl, sym, ap, subst, _∙_}
 use mathlib.Core.Logic.{_≢_, _↔_, _⊎_, inl, inr}
-use mathlib.Core.Bool.{Bool, true, false}
+use mathlib.Core.Bool.{Bool, true, false, cond}
 use mathlib.Core.List.{List, [], _∷_}
 use native.Mathlib.Nat.{eq-or-lt-of-le}
 use native.Mathlib.Omega.{arith}
@@ -14,7 +14,7 @@ use Rattle.sums.specs.Numbers.{maxValue}
 use Rattle.refusals.specs.declared.Refusal.{Refusal}
 use Rattle.refusals.specs.declared.Refusal.the-variants.{Length, Directory, ObjectLength, VariableRecord, StatementRecord}
 use Rattle.sections.specs.declared.Sections.{Sections}
-use Rattle.table.specs.Form.{pickForm, lengthRight, directoryRight, sectionsOf, lowestObject, lowestVariable, lowestStatement, itemsForm, formOf}
+use Rattle.table.specs.Form.{lengthRight, directoryRight, sectionsOf, lowestObject, lowestVariable, lowestStatement, itemsForm, formOf}
 use Rattle.table.specs.FormLaws.{well-formed}
 use Rattle.table.specs.declared.Form.{Form}
 use Rattle.table.specs.declared.Form.the-variants.{WellFormed, Refused}
@@ -22,7 +22,8 @@ use Rattle.flow.specs.Flow.{tableFlow, written, Written}
 use Rattle.rules.specs.EnvironmentLaws.{environment-declares}
 use Rattle.rules.specs.AcceptedLaws.{clear, faults-clear}
 use Rattle.rules.specs.Rules.{Fault, refusal, notShown, also}
-use Rattle.rules.specs.Verdict.{environmentOf, refusals, faults, Answers}
+use Rattle.rules.specs.Verdict.{environmentOf, refusals, Answers}
+use Rattle.rules.specs.Stored.{faults}
 use Rattle.rules.specs.declared.Verdict.{Verdict}
 use Rattle.rules.specs.declared.Verdict.the-variants as verdict
 use Rattle.rules.specs.declared.Environment.{Environment}
@@ -41,8 +42,14 @@ use Rattle.ends.specs.Ends.{endsOf}
 use Rattle.steps.specs.Bare.{Prepared}
 use Rattle.runs.specs.BareRun.{Result, Ends, SafeRun, bareRun}
 use Rattle.interpreter.specs.StartLaws.{admitted, start-prepared, start-safe, start-agrees}
-use Rattle.interpreter.specs.Agreement.{pickOutcome, outcomeShown, resultShown}
-use Rattle.interpreter.specs.Claim.{failingAt, AccessInside, answerAt, AtPoint, Ran, entryFaults, runFaults, RunAnswer}
+use Rattle.interpreter.specs.Agreement.{resultShown}
+use Rattle.interpreter.specs.Outcomes.{outcomeShown}
+use Rattle.rules.specs.Stored.{store}
+use Rattle.rules.specs.Verdict as verdictRules
+use Rattle.rules.specs.ByChains.{byChains}
+use Rattle.rules.specs.Decidable.{decided}
+use Rattle.rules.specs.Agreement.{SameFirst, same-self, same-also, same-answers, faults-agree}
+use Rattle.interpreter.specs.Claim.{RunJudged, failingAt, AccessInside, answerAt, AtPoint, Ran, entryFaults, runFaults, RunAnswer}
 use Rattle.entry.specs.Entered.{entered}
 use Rattle.entry.specs.declared.EntryVerdict.{EntryVerdict}
 use Rattle.entry.specs.declared.EntryVerdict.the-variants as entry
@@ -63,7 +70,7 @@ going-done h s steps due e l = rw (e, le-ltb due (h .statements) l)
 done-steps : (h : Sections) (s : Status) (steps due n : ℕ) → s ≢ stuck → outcomeShown h s steps due ≡ Done n → (h .statements ≤ due) × (steps ≡ n)
 done-steps h going steps due n u e = go (ltb due (h .statements)) refl e
   where
-    go : (b : Bool) → ltb due (h .statements) ≡ b → pickOutcome b (Spent steps due) (Done steps) ≡ Done n → (h .statements ≤ due) × (steps ≡ n)
+    go : (b : Bool) → ltb due (h .statements) ≡ b → cond b (Spent steps due) (Done steps) ≡ Done n → (h .statements ≤ due) × (steps ≡ n)
     go true q e = let z : _≡_ {A = ℕ} 0 1 = cc in absurd (omega arith)
     go false q e = (ltb-false due (h .statements) q, cc)
 done-steps h (stopped k) steps due n u e = let z : _≡_ {A = ℕ} 0 1 = cc in absurd (omega arith)
@@ -79,7 +86,7 @@ pub record StoppedAt (s : Status) (steps due n : ℕ) (c : Check) : Type 0 where
 stopped-steps : (h : Sections) (s : Status) (steps due n : ℕ) (c : Check) → outcomeShown h s steps due ≡ Stopped n c → StoppedAt s steps due n c
 stopped-steps h going steps due n c e = go (ltb due (h .statements)) e
   where
-    go : (b : Bool) → pickOutcome b (Spent steps due) (Done steps) ≡ Stopped n c → StoppedAt going steps due n c
+    go : (b : Bool) → cond b (Spent steps due) (Done steps) ≡ Stopped n c → StoppedAt going steps due n c
     go true e = let z : _≡_ {A = ℕ} 0 1 = cc in absurd (omega arith)
     go false e = let z : _≡_ {A = ℕ} 0 1 = cc in absurd (omega arith)
 stopped-steps h (stopped k) steps due n c e = record { number = k; status = refl; steps-made = cc; check = cc }
@@ -89,7 +96,7 @@ stopped-steps h stuck steps due n c e = let z : _≡_ {A = ℕ} 0 1 = cc in absu
 spent-steps : (h : Sections) (s : Status) (steps due n a : ℕ) → outcomeShown h s steps due ≡ Spent n a → (s ≡ going) × (due < h .statements) × (steps ≡ n)
 spent-steps h going steps due n a e = go (ltb due (h .statements)) refl e
   where
-    go : (b : Bool) → ltb due (h .statements) ≡ b → pickOutcome b (Spent steps due) (Done steps) ≡ Spent n a → (going ≡ going) × (due < h .statements) × (steps ≡ n)
+    go : (b : Bool) → ltb due (h .statements) ≡ b → cond b (Spent steps due) (Done steps) ≡ Spent n a → (going ≡ going) × (due < h .statements) × (steps ≡ n)
     go true q e = (refl, ltb-true due (h .statements) q, cc)
     go false q e = let z : _≡_ {A = ℕ} 0 1 = cc in absurd (omega arith)
 spent-steps h (stopped k) steps due n a e = let z : _≡_ {A = ℕ} 0 1 = cc in absurd (omega arith)
@@ -233,11 +240,11 @@ module _ (T : List ℤ) (h : Sections) (formed : formOf T ≡ WellFormed h) (acc
 
 -- ---- the contract of `run`
 
-kept-second : (b : Bool) (r : Refusal) (f : Form) (h : Sections) → pickForm b (Refused r) f ≡ WellFormed h → f ≡ WellFormed h
+kept-second : (b : Bool) (r : Refusal) (f : Form) (h : Sections) → cond b (Refused r) f ≡ WellFormed h → f ≡ WellFormed h
 kept-second true r f h e = let z : _≡_ {A = ℕ} 0 1 = cc in absurd (omega arith)
 kept-second false r f h e = e
 
-kept-first : (b : Bool) (r : Refusal) (f : Form) (h : Sections) → pickForm b f (Refused r) ≡ WellFormed h → f ≡ WellFormed h
+kept-first : (b : Bool) (r : Refusal) (f : Form) (h : Sections) → cond b f (Refused r) ≡ WellFormed h → f ≡ WellFormed h
 kept-first true r f h e = e
 kept-first false r f h e = let z : _≡_ {A = ℕ} 0 1 = cc in absurd (omega arith)
 
@@ -294,7 +301,7 @@ answers-first (notShown s p ps) fs gs v a = a
 
 -- The verdict was a refusal.
 pub check-refused : (T : List ℤ) (D cs vs os : List ℕ) (limit : ℕ) (r : Refusal) → Answers (faults T) (verdict.Refused r)
-    → RunAnswer (runFaults T D cs vs os) T D cs vs os limit (outcome.Refused r) vs cs
+    → RunAnswer (runFaults store T D cs vs os) T D cs vs os limit (outcome.Refused r) vs cs
 unfolding runFaults RunAnswer also Answers
 check-refused T D cs vs os limit r a = go (faults T) a
   where
@@ -307,7 +314,7 @@ pub no-form-refused : (T : List ℤ) (r : Refusal) → faults T ≡ [] → formO
 no-form-refused T r e f = let p = faults-clear T e in let q = p .1 .form in let z : _≡_ {A = ℕ} 0 1 = cc in omega arith
 
 -- Of an accepted table the faults of a run are those of the entry.
-entry-only : (T : List ℤ) (h : Sections) (D cs vs os : List ℕ) → formOf T ≡ WellFormed h → faults T ≡ [] → runFaults T D cs vs os ≡ refusals (entryRefusals h (environmentOf T h) D cs vs os)
+entry-only : (T : List ℤ) (h : Sections) (D cs vs os : List ℕ) → formOf T ≡ WellFormed h → faults T ≡ [] → runFaults store T D cs vs os ≡ refusals (entryRefusals h (environmentOf T h) D cs vs os)
 unfolding runFaults also
 entry-only T h D cs vs os f e = rw (e, f)
 
@@ -317,7 +324,7 @@ entered-none [] e = refl
 entered-none (r ∷ rs) e = cc
 
 pub entry-refused : (T : List ℤ) (h : Sections) (D cs vs os : List ℕ) (limit : ℕ) (r : Refusal) → formOf T ≡ WellFormed h → faults T ≡ []
-    → entered (entryRefusals h (environmentOf T h) D cs vs os) ≡ entry.Refused r → RunAnswer (runFaults T D cs vs os) T D cs vs os limit (outcome.Refused r) vs cs
+    → entered (entryRefusals h (environmentOf T h) D cs vs os) ≡ entry.Refused r → RunAnswer (runFaults store T D cs vs os) T D cs vs os limit (outcome.Refused r) vs cs
 unfolding RunAnswer Answers entered
 entry-refused T h D cs vs os limit r f e q = rw (entry-only T h D cs vs os f e) (go (entryRefusals h (environmentOf T h) D cs vs os) q)
   where
@@ -326,7 +333,7 @@ entry-refused T h D cs vs os limit r f e q = rw (entry-only T h D cs vs os f e) 
     go (x ∷ rs) q = record { refusal = x; first = refl; answer = cc; values = refl; cells = refl }
 
 pub begun-ran : (T : List ℤ) (h : Sections) (D cs vs os : List ℕ) (limit : ℕ) (r : Outcome) (vs′ cs′ : List ℕ) → formOf T ≡ WellFormed h → faults T ≡ []
-    → entryRefusals h (environmentOf T h) D cs vs os ≡ [] → Ran T (sectionsOf T) D cs vs os limit r vs′ cs′ → RunAnswer (runFaults T D cs vs os) T D cs vs os limit r vs′ cs′
+    → entryRefusals h (environmentOf T h) D cs vs os ≡ [] → Ran T (sectionsOf T) D cs vs os limit r vs′ cs′ → RunAnswer (runFaults store T D cs vs os) T D cs vs os limit r vs′ cs′
 unfolding RunAnswer
 begun-ran T h D cs vs os limit r vs′ cs′ f e n a = rw (entry-only T h D cs vs os f e, n) a
 
@@ -365,7 +372,26 @@ module _ {T : List ℤ} {h : Sections} {D cs vs os W S : List ℕ} (L : Launched
     run-safe T h (L .formed) (L .accepts) D cs vs os (L .lent) (L .none) (L .slice) (L .room) limit,
   )
 
-  pub launched-ran : {r : Outcome} {vs′ cs′ : List ℕ} → Ends (bareRun T h W D S limit 0 0 vs cs) r vs′ cs′ → RunAnswer (runFaults T D cs vs os) T D cs vs os limit r vs′ cs′
+  pub launched-ran : {r : Outcome} {vs′ cs′ : List ℕ} → Ends (bareRun T h W D S limit 0 0 vs cs) r vs′ cs′ → RunAnswer (runFaults store T D cs vs os) T D cs vs os limit r vs′ cs′
   launched-ran {r} {vs′} {cs′} e =
       begun-ran T h D cs vs os limit r vs′ cs′ (L .formed) (L .accepts) (L .none)
       (run-claim T h (L .formed) (L .accepts) D cs vs os (L .lent) (L .none) (L .slice) (L .room) limit r vs′ cs′ (rw (L .ends, L .successors) at e))
+
+-- ---- the paper's facts
+
+same-run : (fs gs : List Fault) (T : List ℤ) (D cs vs os : List ℕ) (limit : ℕ) (r : Outcome) (vs′ cs′ : List ℕ) → SameFirst fs gs
+    → RunAnswer fs T D cs vs os limit r vs′ cs′ → RunAnswer gs T D cs vs os limit r vs′ cs′
+unfolding RunAnswer
+same-run [] [] T D cs vs os limit r vs′ cs′ s a = a
+same-run [] (g ∷ gs) T D cs vs os limit r vs′ cs′ s a = absurd s
+same-run (f ∷ fs) [] T D cs vs os limit r vs′ cs′ s a = absurd s
+same-run (f ∷ fs) (g ∷ gs) T D cs vs os limit r vs′ cs′ s a =
+    record { refusal = a .refusal; first = same-answers (f ∷ fs) (g ∷ gs) (verdict.Refused (a .refusal)) s (a .first); answer = a .answer; values = a .values; cells = a .cells }
+
+pub run-judged : (T : List ℤ) (D cs vs os : List ℕ) (limit : ℕ) (r : Outcome) (vs′ cs′ : List ℕ) → RunAnswer (runFaults store T D cs vs os) T D cs vs os limit r vs′ cs′
+    → RunJudged T D cs vs os limit r vs′ cs′
+unfolding RunJudged runFaults
+run-judged T D cs vs os limit r vs′ cs′ a =
+    decided _ _ (λ d c.
+    same-run (runFaults store T D cs vs os) (runFaults (byChains d) T D cs vs os) T D cs vs os limit r vs′ cs′
+    (same-also (faults T) (verdictRules.faults (byChains d) T) _ _ (faults-agree T d c) (λ z. same-self (entryFaults (formOf T) T D cs vs os))) a)

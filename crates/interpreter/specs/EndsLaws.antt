@@ -1,17 +1,16 @@
 -- Laws of the ends laid out for the loop: the checks by them are the checks by what is declared.
 use Prim.Native.Nat.{ℕ, zero, suc, _+_, _-_, _*_, _/_, _%_, _^_, _<_, _≤_}
 use mathlib.Core.Path.{_≡_, refl, ap, ap₂, _∙_}
-use mathlib.Core.Bool.{Bool, true, false, _||_}
+use mathlib.Core.Bool.{Bool, true, false, _||_, cond}
 use mathlib.Core.List.{List}
 use native.Mathlib.Omega.{arith}
 use borrow.Author.Tests.{ltb-true, ltb-false}
 use lib.Dec.{leb, ltb, eqb}
 use lib.IntN.{ℤ}
 use lib.ListN.{length, getD, List·getD-eq-default}
-use Rattle.arrays.specs.Tabulate.{length-tabulate, getD-tabulate}
-use Rattle.fields.specs.Fields.{pickNumber}
+use Rattle.arrays.specs.TabulateLaws.{length-tabulate, getD-tabulate}
 use Rattle.sections.specs.Typed.{IsIndex, missing, given}
-use Rattle.sections.specs.SectionsLaws.{Limits}
+use Rattle.sections.specs.Sections.{Limits}
 use Rattle.sections.specs.declared.Sections.{Sections}
 use Rattle.statements.specs.Typed.{SimpleTyped}
 use Rattle.statements.specs.declared.Simple.{Simple}
@@ -98,7 +97,7 @@ module _ (T : List ℤ) (h : Sections) where
   none-small (suc zero) = omega arith
   none-small (suc (suc n)) = omega arith
 
-  pick-small : (b : Bool) (x y : ℕ) → x < 2 ^ 34 → y < 2 ^ 34 → pickNumber b x y < 2 ^ 34
+  pick-small : (b : Bool) (x y : ℕ) → x < 2 ^ 34 → y < 2 ^ 34 → cond b x y < 2 ^ 34
   pick-small true x y p q = p
   pick-small false x y p q = q
 

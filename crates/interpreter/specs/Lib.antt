@@ -1,5 +1,6 @@
 pub mod BegunLaws
 pub mod EndsLaws
+pub mod Outcomes
 pub mod Agreement
 pub mod AgreementLaws
 pub mod StartLaws

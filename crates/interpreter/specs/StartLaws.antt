@@ -1,7 +1,7 @@
 -- What a run that is begun has at its start, and the whole run from there.
 use Prim.Native.Nat.{ℕ, zero, suc, _+_, _*_, _<_, _≤_}
 use mathlib.Core.Path.{_≡_, refl, sym, ap, subst, _∙_}
-use mathlib.Core.Bool.{Bool, true, false, not, _&&_}
+use mathlib.Core.Bool.{Bool, true, false, not, _||_, _&&_, cond}
 use mathlib.Core.List.{List, [], _∷_, _++_}
 use mathlib.Core.Logic.{⊎-elim}
 use native.Mathlib.Nat.{eq-or-lt-of-le}
@@ -10,7 +10,7 @@ use borrow.Author.Tests.{ltb-true, ltb-false, leb-true, eqb-true}
 use lib.Dec.{leb, ltb, eqb}
 use lib.IntN.{ℤ}
 use lib.ListN.{length, getD, List·getD-eq-default}
-use Rattle.facts.specs.Store.{pickBool}
+use Rattle.sums.specs.Numbers.{bias}
 use Rattle.refusals.specs.declared.Refusal.{Refusal}
 use Rattle.refusals.specs.declared.Refusal.the-variants.{MemorySize, DirectoryPair, EntryLengths, EntryValue}
 use Rattle.sections.specs.SectionsLaws.{both}
@@ -24,7 +24,7 @@ use Rattle.flow.specs.SuccessorLaws.{written-at}
 use Rattle.rules.specs.BoundsRules.{isPointer, objectLength}
 use Rattle.rules.specs.Verdict.{environmentOf}
 use Rattle.rules.specs.declared.Environment.{Environment}
-use Rattle.machine.specs.Machine.{value, high, boundsTrue, stuck, start, pointAfter}
+use Rattle.machine.specs.Machine.{value, lowerEnd, upperEnd, low, high, isObject, originHolds, boundsTrue, stuck, start, pointAfter}
 use Rattle.entry.specs.Entry.{memoryRight, endBefore, pairRight, lengthsRight, entryRight, consUnless, failures, entryRefusals}
 use Rattle.steps.specs.Bare.{Prepared}
 use Rattle.runs.specs.BareRun.{bareRun, SafeRun}
@@ -63,7 +63,7 @@ pub record Admitted (h : Sections) (E : Environment) (D cs vs os : List ℕ) : T
   pub objects : (o : ℕ) → o < h .objects → pairRight E D cs o ≡ true
   pub values : length vs ≡ h .variables
   pub origins : length os ≡ h .variables
-  pub entries : (v : ℕ) → v < h .variables → entryRight h E D vs os v ≡ true
+  pub entries : (v : ℕ) → v < h .variables → entryRight E D vs os v ≡ true
 
 pub admitted : (h : Sections) (E : Environment) (D cs vs os : List ℕ) → entryRefusals h E D cs vs os ≡ [] → Admitted h E D cs vs os
 unfolding entryRefusals memoryRight lengthsRight
@@ -79,7 +79,7 @@ admitted h E D cs vs os e =
       objects = λ o q. none-fails (pairRight E D cs) DirectoryPair (h .objects) 0 o (p .0) (omega arith) (omega arith);
       values = eqb-true _ _ (b .0);
       origins = eqb-true _ _ (b .1);
-      entries = λ v q. none-fails (entryRight h E D vs os) EntryValue (h .variables) 0 v (l .1) (omega arith) (omega arith);
+      entries = λ v q. none-fails (entryRight E D vs os) EntryValue (h .variables) 0 v (l .1) (omega arith) (omega arith);
     }
 
 module _ (h : Sections) (E : Environment) (D cs vs os : List ℕ) (A : Admitted h E D cs vs os) where
@@ -90,14 +90,23 @@ module _ (h : Sections) (E : Environment) (D cs vs os : List ℕ) (A : Admitted 
       let e = both (leb (endBefore D o) (getD D (2 * o) 0) && leb (high D o) (length cs)) (eqb (getD D (2 * o + 1) 0) (objectLength E o)) (A .objects o l) in
       leb-true _ _ (both (leb (endBefore D o) (getD D (2 * o) 0)) (leb (high D o) (length cs)) (e .0) .1)
 
-  entry-origin : (v : ℕ) → entryRight h E D vs os v ≡ true → getD os v 0 ≤ h .objects
-  unfolding entryRight
-  entry-origin v e = go (isPointer E v && not (eqb (value vs v) 0)) e
+  entry-origin : (v : ℕ) → entryRight E D vs os v ≡ true → getD os v 0 ≤ h .objects
+  unfolding entryRight boundsTrue originHolds
+  entry-origin v e = go (isPointer E v) (eqb (value vs v) 0) e
     where
-      go : (b : Bool) → pickBool b (leb 1 (getD os v 0) && leb (getD os v 0) (h .objects) && boundsTrue E D vs os v) (eqb (getD os v 0) 0) ≡ true → getD os v 0 ≤ h .objects
-      go true e =
-          leb-true _ _ (both (leb 1 (getD os v 0)) (leb (getD os v 0) (h .objects)) (both (leb 1 (getD os v 0) && leb (getD os v 0) (h .objects)) (boundsTrue E D vs os v) e .0) .1)
-      go false e = let z : getD os v 0 ≡ 0 = eqb-true _ _ e in omega arith
+      origin : (o l u : ℕ) → originHolds D o l u ≡ true → o ≤ h .objects
+      origin zero l u t = omega arith
+      origin (suc o) l u t =
+          let b = both (isObject D o) (leb (low D o + bias) l) (both (isObject D o && leb (low D o + bias) l) (leb u (high D o + bias)) t .0) in
+          omega (arith, ltb-true (2 * o + 1) (length D) (b .0), A .pairs)
+
+      none : eqb (getD os v 0) 0 ≡ true → getD os v 0 ≤ h .objects
+      none e = let z : getD os v 0 ≡ 0 = eqb-true _ _ e in omega arith
+
+      go : (a b : Bool) → cond (a && not b) (b || originHolds D (getD os v 0) (lowerEnd E vs v) (upperEnd E vs v)) (eqb (getD os v 0) 0) ≡ true → getD os v 0 ≤ h .objects
+      go true true e = none e
+      go true false e = origin (getD os v 0) (lowerEnd E vs v) (upperEnd E vs v) e
+      go false b e = none e
 
   -- Each origin is an object's number plus 1, or 0.
   pub origin-inside : (v : ℕ) → getD os v 0 ≤ h .objects

@@ -1,7 +1,7 @@
 -- Laws of the variables that a loop's body assigns and of the facts without them, as the code meets them.
 use Prim.Native.Nat.{ℕ, zero, suc, _+_, _-_, _≤_, _<_}
 use mathlib.Core.Path.{_≡_, refl, sym, ap, _∙_}
-use mathlib.Core.Bool.{Bool, true, false, _||_}
+use mathlib.Core.Bool.{Bool, true, false, _||_, cond}
 use mathlib.Core.List.{List, [], _∷_, _++_}
 use native.Mathlib.Omega.{arith}
 use native.Mathlib.Numerals.{sub-one, add-one}
@@ -21,9 +21,11 @@ use Rattle.statements.specs.declared.StatementRead.{StatementRead}
 use Rattle.statements.specs.declared.StatementRead.the-variants.{Read}
 use Rattle.statements.specs.Statements.{statementAt}
 use Rattle.blocks.specs.Tree.{target}
-use Rattle.flow.specs.Shape.{targetOf, targetsFrom}
-use Rattle.rules.specs.FactRules.{pickFacts, among, droppedEach, loopFacts}
+use Rattle.flow.specs.Targets.{targetOf, targetsFrom}
+use Rattle.rules.specs.FactRules.{among}
+use Rattle.rules.specs.Stored.{droppedEach, loopFacts}
 use Rattle.loops.specs.Marks.{targetNumber, noMarks, marked}
+use Rattle.rules.specs.FactRules as factRules
 
 pub marked-append : (m : List Bool) (xs ys : List ℕ) → marked m (xs ++ ys) ≡ marked (marked m xs) ys
 unfolding marked
@@ -139,28 +141,28 @@ marked-among m (x ∷ xs) v p =
 
 -- Only the marks below the number matter.
 pub dropped-alike : (n : ℕ) (a b : ℕ → Bool) (f : FactSet) → ((v : ℕ) → v < n → a v ≡ b v) → droppedEach n a f ≡ droppedEach n b f
-unfolding droppedEach
+unfolding factRules.droppedEach
 dropped-alike zero a b f e = refl
 dropped-alike (suc n) a b f e = rw (e n (omega arith), dropped-alike n a b f (λ v p. e v (omega arith)))
 
 pub dropped-none : (lost : ℕ → Bool) (f : FactSet) → f ≡ droppedEach 0 lost f
-unfolding droppedEach
+unfolding factRules.droppedEach
 dropped-none lost f = refl
 
-dropped-more : (n : ℕ) (lost : ℕ → Bool) (f : FactSet) → droppedEach (n + 1) lost f ≡ pickFacts (lost n) (dropped (droppedEach n lost f) n) (droppedEach n lost f)
-unfolding droppedEach
+dropped-more : (n : ℕ) (lost : ℕ → Bool) (f : FactSet) → droppedEach (n + 1) lost f ≡ cond (lost n) (dropped (droppedEach n lost f) n) (droppedEach n lost f)
+unfolding factRules.droppedEach
 dropped-more n lost f = rw add-one
 
 module _ (n : ℕ) (lost : ℕ → Bool) (f : FactSet) {g : FactSet} (e : g ≡ droppedEach n lost f) where
   pub drop-marked : lost n ≡ true → {r h : FactSet} → r ≡ dropped g n → h ≡ r → h ≡ droppedEach (n + 1) lost f
-  drop-marked t d q = q ∙ (d ∙ (ap (λ (i : FactSet). dropped i n) e ∙ sym (dropped-more n lost f ∙ ap (λ (b : Bool). pickFacts b (dropped (droppedEach n lost f) n) (droppedEach n lost f)) t)))
+  drop-marked t d q = q ∙ (d ∙ (ap (λ (i : FactSet). dropped i n) e ∙ sym (dropped-more n lost f ∙ ap (λ (b : Bool). cond b (dropped (droppedEach n lost f) n) (droppedEach n lost f)) t)))
 
   pub drop-unmarked : lost n ≡ false → {h : FactSet} → h ≡ g → h ≡ droppedEach (n + 1) lost f
-  drop-unmarked t q = q ∙ (e ∙ sym (dropped-more n lost f ∙ ap (λ (b : Bool). pickFacts b (dropped (droppedEach n lost f) n) (droppedEach n lost f)) t))
+  drop-unmarked t q = q ∙ (e ∙ sym (dropped-more n lost f ∙ ap (λ (b : Bool). cond b (dropped (droppedEach n lost f) n) (droppedEach n lost f)) t))
 
   pub drop-done : n ≡ 16 → g ≡ droppedEach 16 lost f
   drop-done q = e ∙ ap (λ (m : ℕ). droppedEach m lost f) q
 
 pub loop-facts : (xs : List ℕ) (f : FactSet) (m : List Bool) → m ≡ marked noMarks xs → droppedEach 16 (λ v. getD m v false) f ≡ loopFacts xs f
-unfolding loopFacts
+unfolding factRules.loopFacts
 loop-facts xs f m e = dropped-alike 16 _ _ f (λ v p. ap (λ (l : List Bool). getD l v false) e ∙ (marked-among noMarks xs v p ∙ ap (λ (b : Bool). b || among v xs) (getD-replicate 16 v false false p)))

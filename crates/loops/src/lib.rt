@@ -9,8 +9,8 @@ ghost use mathlib.Core.Path.{_≡_};
 ghost use mathlib.Core.Bool.{false};
 ghost use Prim.Native.Nat.{_+_, _^_, _<_};
 ghost use lib.ListN.{getD};
-ghost use Rattle.flow.specs.Shape.{targetOf, targetsFrom};
-ghost use Rattle.rules.specs.FactRules.{droppedEach, loopFacts};
+ghost use Rattle.flow.specs.Targets.{targetOf, targetsFrom};
+ghost use Rattle.rules.specs.Stored.{droppedEach, loopFacts};
 ghost use Rattle.loops.specs.Marks.{targetNumber, noMarks, marked};
 
 // The variable that a statement assigns, or 16 for none.

@@ -20,11 +20,11 @@ use Rattle.statements.specs.declared.Statement.the-variants.{Plain, If, While}
 use Rattle.statements.specs.declared.StatementRead.{StatementRead}
 use Rattle.blocks.specs.Tree.{Block, nil, plain, branch, loop, bundle, unread, target, targets, assigned}
 use Rattle.flow.specs.Flow.{Successors, successors, entry, lead}
-use Rattle.flow.specs.Shape.{size, targetsFrom}
-use Rattle.rules.specs.FactRules.{factsAfter, conditionFacts, loopFacts}
+use Rattle.flow.specs.Shape.{size}
+use Rattle.flow.specs.Targets.{targetsFrom}
+use Rattle.rules.specs.Stored.{factsAfter, conditionFacts, loopFacts, effect, accessShown, unshown, bundleFacts, bundleBounds, bundleFaults, sidesJoined, blockFacts, blockFaults, boundsAfter}
 use Rattle.rules.specs.FactsTrue.{Agree, among-left, among-right, loop-facts-hold}
-use Rattle.rules.specs.BoundsRules.{isPointer, declared, known, effect, boundsAfter, accessShown, unshown}
-use Rattle.rules.specs.Rules.{bundleFacts, bundleBounds, bundleFaults, sidesJoined, blockFacts, blockFaults}
+use Rattle.rules.specs.BoundsRules.{isPointer, declared, known}
 use Rattle.rules.specs.RuleLaws.{no-first, no-rest, access-passed, bounds-passed}
 use Rattle.rules.specs.declared.Bounds.{Bounds}
 use Rattle.rules.specs.declared.Environment.{Environment}
@@ -35,6 +35,8 @@ use Rattle.machine.specs.AccessSound.{Ready}
 use Rattle.machine.specs.SimpleSound.{Done, done-map}
 use Rattle.machine.specs.PerformedSound.{performed-good}
 use Rattle.machine.specs.Places.{LinkedLine, Linked, Stands, AtLine, Framed, headFacts, At}
+use Rattle.rules.specs.BoundsRules as boundsRules
+use Rattle.rules.specs.Rules as walkRules
 
 -- A step leads on, to a statement and a memory of which G holds, or is stopped by a check.
 pub data Fine (G : ℕ → Memory → Type 0) (P : Point) : Point → Type 0 where
@@ -60,7 +62,7 @@ module _ (T : List ℤ) (h : Sections) (E : Environment) (D cs : List ℕ) (S : 
   GoodAt F K m = Good h E D cs F K m
 
   pub ready-inside : (s : Simple) (F : FactSet) (K : List Bounds) (m : Memory) → SimpleTyped T h s → accessShown E F K s ≡ true → GoodAt F K m → Ready E D (h .objects) s m
-  unfolding accessShown
+  unfolding boundsRules.accessShown
   ready-inside (Literal x k) F K m t e g = tt
   ready-inside (AddConstant x y k) F K m t e g = tt
   ready-inside (Arithmetic x y z op) F K m t e g = tt
@@ -94,7 +96,7 @@ module _ (T : List ℤ) (h : Sections) (E : Environment) (D cs : List ℕ) (S : 
     -- Arriving at a block: at its first statement, or at what follows an empty one.
     pub enter : (b : Block) (F : FactSet) (after d : ℕ) (m : Memory) → Linked T h f b after → d ≡ entry b after → GoodAt F (E .declared) m
         → At T h E D cs b F d m ⊎ Stands T h E D cs after (blockFacts T h E b F) (E .declared) d m
-    unfolding entry blockFacts
+    unfolding entry walkRules.blockFacts
     enter nil F after d m l e g = inr (e, g)
     enter (plain a s r) F after d m l e g = inl (inl (e, g))
     enter (branch a c t u r) F after d m l e g = inl (inl (e, g))
@@ -107,7 +109,7 @@ module _ (T : List ℤ) (h : Sections) (E : Environment) (D cs : List ℕ) (S : 
 
     enter-line : (a : ℕ) (ss : List Simple) (F : FactSet) (K : List Bounds) (after d : ℕ) (m : Memory) → d ≡ lead a (length ss) after → GoodAt F K m
         → AtLine T h E D cs a ss F K d m ⊎ Stands T h E D cs after (bundleFacts ss F) (bundleBounds E ss F K) d m
-    unfolding lead bundleFacts bundleBounds
+    unfolding lead walkRules.bundleFacts walkRules.bundleBounds
     enter-line a [] F K after d m e g = inr (e, g)
     enter-line a (s ∷ ss) F K after d m e g = inl (inl (e, g))
 
@@ -128,7 +130,7 @@ module _ (T : List ℤ) (h : Sections) (E : Environment) (D cs : List ℕ) (S : 
 
     line-step : (a : ℕ) (ss : List Simple) (F : FactSet) (K : List Bounds) (after : ℕ) (P : Point) → LinkedLine T h f a ss after → bundleFaults E a ss F K ≡ []
         → AtLine T h E D cs a ss F K (P .due) (memoryOf P) → Fine (GoalLine a ss F K after (memoryOf P)) P (step P)
-    unfolding bundleFaults bundleFacts bundleBounds targets statementStep
+    unfolding walkRules.bundleFaults walkRules.bundleFacts walkRules.bundleBounds targets statementStep
     line-step a [] F K after P l q i = absurd i
     line-step a (s ∷ ss) F K after P l q (inl i) =
         let typed = read-typed T h a (Plain s) (l .0) in
@@ -149,7 +151,7 @@ module _ (T : List ℤ) (h : Sections) (E : Environment) (D cs : List ℕ) (S : 
         → unshown E (bundleFacts ss F) (bundleBounds E ss F (E .declared)) ≡ []
         → AtLine T h E D cs (a + 1) ss F (E .declared) d m ⊎ Stands T h E D cs (entry r after) (bundleFacts ss F) (bundleBounds E ss F (E .declared)) d m
         → At T h E D cs (bundle a ss r) F d m ⊎ Stands T h E D cs after (blockFacts T h E (bundle a ss r) F) (E .declared) d m
-    unfolding blockFacts
+    unfolding walkRules.blockFacts
     bundle-out a ss r F after d m l q (inl x) = inl (inr (inl x))
     bundle-out a ss r F after d m l q (inr x) =
         into (into (enter r (bundleFacts ss F) after d m l (x .0) (redeclared T h E D cs S (bundleFacts ss F) (bundleBounds E ss F (E .declared)) m q (x .1))))
@@ -166,7 +168,7 @@ module _ (T : List ℤ) (h : Sections) (E : Environment) (D cs : List ℕ) (S : 
       -- Where the sides meet.
       join-out : (d : ℕ) (m : Memory) → Stands T h E D cs (entry r after) (sidesJoined T h E thenFacts elseFacts) (E .declared) d m
           → At T h E D cs (branch a c t e r) F d m ⊎ Stands T h E D cs after (blockFacts T h E (branch a c t e r) F) (E .declared) d m
-      unfolding blockFacts
+      unfolding walkRules.blockFacts
       join-out d m x = into (into (into (enter r (sidesJoined T h E thenFacts elseFacts) after d m (l .4) (x .0) (x .1))))
 
       then-out : (d : ℕ) (m : Memory) → At T h E D cs t (conditionFacts F c) d m ⊎ Stands T h E D cs (entry r after) thenFacts (E .declared) d m
@@ -227,7 +229,7 @@ module _ (T : List ℤ) (h : Sections) (E : Environment) (D cs : List ℕ) (S : 
 
       loop-head : (P : Point) → Framed T h E D cs dropped F (memoryOf P) → GoodAt head (E .declared) (memoryOf P) → (b : Bool) → conditionHolds (P .values) c ≡ b
           → Fine (Goal (loop a c k t r) F after (memoryOf P)) P (branched b P (successors a (entry t a) (entry r after)))
-      unfolding blockFacts
+      unfolding walkRules.blockFacts
       loop-head P w g true q =
           leads (entry t a) (memoryOf P) (
             loop-out (entry t a) (memoryOf P) w
@@ -255,7 +257,7 @@ module _ (T : List ℤ) (h : Sections) (E : Environment) (D cs : List ℕ) (S : 
 
     pub block-step : (b : Block) (F : FactSet) (after : ℕ) (P : Point) → Linked T h f b after → blockFaults T h E b F ≡ [] → At T h E D cs b F (P .due) (memoryOf P)
         → Fine (Goal b F after (memoryOf P)) P (step P)
-    unfolding blockFaults blockFacts assigned statementStep
+    unfolding walkRules.blockFaults walkRules.blockFacts assigned statementStep
     block-step nil F after P l q i = absurd i
     block-step (plain a s r) F after P l q (inl i) =
         let typed = read-typed T h a (Plain s) (l .0) in

@@ -1,11 +1,11 @@
 -- The paper's test of the bounds of a pointer says what the proofs carry; and what holds where a run is begun.
-use Prim.Native.Nat.{ℕ, zero, suc, _+_, _≤_, _<_}
+use Prim.Native.Nat.{ℕ, zero, suc, _+_, _*_, _≤_, _<_}
 use mathlib.Core.Path.{_≡_, refl}
 use mathlib.Core.Logic.{_≢_, inl, inr}
-use mathlib.Core.Bool.{Bool, true, false, _||_, false≢true}
+use mathlib.Core.Bool.{Bool, true, false, _||_, _&&_, false≢true}
 use mathlib.Core.List.{List}
 use native.Mathlib.Omega.{arith}
-use borrow.Author.Tests.{leb-true, le-leb, eqb-true, eqb-false, eq-eqb}
+use borrow.Author.Tests.{leb-true, le-leb, ltb-true, lt-ltb, eqb-true, eq-eqb}
 use lib.Dec.{leb, eqb}
 use lib.IntN.{ℤ}
 use lib.ListN.{length, getD, List·getD-eq-default}
@@ -18,7 +18,7 @@ use Rattle.rules.specs.BoundsRules.{declared}
 use Rattle.rules.specs.BoundsTrue.{BoundsHold}
 use Rattle.rules.specs.EnvironmentLaws.{Declares, DeclaredEnds}
 use Rattle.rules.specs.declared.Environment.{Environment}
-use Rattle.machine.specs.Machine.{value, lowerEnd, upperEnd, low, high, originHolds, boundsTrue, Memory}
+use Rattle.machine.specs.Machine.{value, lowerEnd, upperEnd, low, high, isObject, originHolds, boundsTrue, Memory}
 use Rattle.machine.specs.Soundness.{Begun}
 use Rattle.machine.specs.Good.{TrueOf, Good}
 use Rattle.machine.specs.AccessSound.{lower-value, upper-value, ends-inside}
@@ -27,7 +27,14 @@ or-second : (a b : Bool) → b ≡ true → (a || b) ≡ true
 or-second true b e = refl
 or-second false b e = e
 
-module _ (E : Environment) (D : List ℕ) (objects : ℕ) (m : Memory) (p : ℕ) (ends : DeclaredEnds E p) where
+-- The number of an object of the directory.
+object-of : (D : List ℕ) (objects o : ℕ) → length D ≡ 2 * objects → isObject D o ≡ true → o < objects
+object-of D objects o e t = omega (arith, ltb-true (2 * o + 1) (length D) t)
+
+is-object : (D : List ℕ) (objects o : ℕ) → length D ≡ 2 * objects → o < objects → isObject D o ≡ true
+is-object D objects o e l = lt-ltb (2 * o + 1) (length D) (omega arith)
+
+module _ (E : Environment) (D : List ℕ) (objects : ℕ) (pairs : length D ≡ 2 * objects) (m : Memory) (p : ℕ) (ends : DeclaredEnds E p) where
   holds-inside : (o : ℕ) → o < objects → low D o + bias ≤ lowerEnd E (m .values) p → upperEnd E (m .values) p ≤ high D o + bias
       → BoundsHold (low D o + bias) (high D o + bias) (declared E p) (value (m .values))
   holds-inside o x l u =
@@ -37,20 +44,21 @@ module _ (E : Environment) (D : List ℕ) (objects : ℕ) (m : Memory) (p : ℕ)
         upper = (ends .high-proper, omega (arith, upper-value E D objects m p ends));
       })
 
-  pub test-true : boundsTrue E D (m .values) (m .origins) p ≡ true → (value (m .values) p ≢ 0 → getD (m .origins) p 0 ≤ objects) → TrueOf D objects m p (declared E p)
+  pub test-true : boundsTrue E D (m .values) (m .origins) p ≡ true → TrueOf D objects m p (declared E p)
   unfolding boundsTrue originHolds
-  test-true e few = null (eqb (value (m .values) p) 0) refl
+  test-true e = null (eqb (value (m .values) p) 0) refl
     where
-      origin : (o : ℕ) → getD (m .origins) p 0 ≡ o → o ≤ objects → originHolds D o (lowerEnd E (m .values) p) (upperEnd E (m .values) p) ≡ true → TrueOf D objects m p (declared E p)
-      origin zero q r t = absurd (false≢true t)
-      origin (suc o) q r t =
-          let b = both (leb (low D o + bias) (lowerEnd E (m .values) p)) (leb (upperEnd E (m .values) p) (high D o + bias)) t in
-          inr (record { object = o; origin-is = q; exists = r; bounds = holds-inside o r (leb-true _ _ (b .0)) (leb-true _ _ (b .1)) })
+      origin : (o : ℕ) → getD (m .origins) p 0 ≡ o → originHolds D o (lowerEnd E (m .values) p) (upperEnd E (m .values) p) ≡ true → TrueOf D objects m p (declared E p)
+      origin zero q t = absurd (false≢true t)
+      origin (suc o) q t =
+          let a = both (isObject D o && leb (low D o + bias) (lowerEnd E (m .values) p)) (leb (upperEnd E (m .values) p) (high D o + bias)) t in
+          let b = both (isObject D o) (leb (low D o + bias) (lowerEnd E (m .values) p)) (a .0) in
+          let r = object-of D objects o pairs (b .0) in
+          inr (record { object = o; origin-is = q; exists = r; bounds = holds-inside o r (leb-true _ _ (b .1)) (leb-true _ _ (a .1)) })
 
       null : (b : Bool) → eqb (value (m .values) p) 0 ≡ b → TrueOf D objects m p (declared E p)
       null true q = inl (eqb-true _ _ q)
-      null false q =
-          origin (getD (m .origins) p 0) refl (few (eqb-false _ _ q)) (rw q at e)
+      null false q = origin (getD (m .origins) p 0) refl (rw q at e)
 
   pub true-test : TrueOf D objects m p (declared E p) → boundsTrue E D (m .values) (m .origins) p ≡ true
   unfolding boundsTrue originHolds
@@ -58,7 +66,7 @@ module _ (E : Environment) (D : List ℕ) (objects : ℕ) (m : Memory) (p : ℕ)
   true-test (inr i) =
       let b = ends-inside E D objects m p ends _ _ (i .bounds) in
       or-second (eqb (value (m .values) p) 0) (originHolds D (getD (m .origins) p 0) (lowerEnd E (m .values) p) (upperEnd E (m .values) p))
-      (rw (i .origin-is, le-leb _ _ (b .0)) (le-leb _ _ (b .1)))
+      (rw (i .origin-is, is-object D objects (i .object) pairs (i .exists), le-leb _ _ (b .0)) (le-leb _ _ (b .1)))
 
 module _ (T : List ℤ) (h : Sections) (E : Environment) (D cs vs os : List ℕ) (declares : Declares T h E) (b : Begun h E D cs vs os) where
   begun-range : InRange (value vs)
@@ -70,7 +78,7 @@ module _ (T : List ℤ) (h : Sections) (E : Environment) (D cs vs os : List ℕ)
   begun-good =
       record {
         facts = new-holds (value vs) begun-range;
-        bounds = λ p t. test-true E D (h .objects) (record { cells = cs; values = vs; origins = os }) p (declares .ends p t) (b .bounds p t) (b .origins p t);
+        bounds = λ p t. test-true E D (h .objects) (b .pairs) (record { cells = cs; values = vs; origins = os }) p (declares .ends p t) (b .bounds p t);
         steady =
             record {
               range = begun-range;

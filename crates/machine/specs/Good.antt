@@ -1,5 +1,5 @@
 -- What holds of the memory at a point of a run, by the facts and the known bounds there.
-use Prim.Native.Nat.{ℕ, suc, _+_, _^_, _≤_, _<_}
+use Prim.Native.Nat.{ℕ, suc, _+_, _*_, _^_, _≤_, _<_}
 use mathlib.Core.Path.{_≡_, refl, _∙_}
 use mathlib.Core.Logic.{_≢_, _⊎_, inl, inr}
 use mathlib.Core.Bool.{Bool, true, false}
@@ -17,15 +17,16 @@ use Rattle.facts.specs.declared.FactSet.{FactSet}
 use Rattle.sections.specs.declared.Sections.{Sections}
 use Rattle.blocks.specs.Tree.{tree}
 use Rattle.blocks.specs.Layout.{layout}
-use Rattle.rules.specs.BoundsRules.{isPointer, declared, known, effectOn, boundsAfter, boundsShown, unshown}
+use Rattle.rules.specs.BoundsRules.{isPointer, declared, known}
+use Rattle.rules.specs.Stored.{boundsShown, unshown, blockFaults, effectOn, boundsAfter}
 use Rattle.rules.specs.BoundsTrue.{BoundsHold, known-after, all-shown, shown-holds, ProperEnd}
-use Rattle.rules.specs.Rules.{blockFaults}
 use Rattle.rules.specs.EnvironmentLaws.{Declares, DeclaredEnds}
 use Rattle.rules.specs.declared.Bounds.{Bounds}
 use Rattle.rules.specs.declared.Effect.{Effect}
 use Rattle.rules.specs.declared.Environment.{Environment}
 use Rattle.machine.specs.Machine.{value, low, high, Memory}
-use Rattle.machine.specs.Soundness.{Placed, Outside}
+use Rattle.machine.specs.Soundness.{Placed}
+use Rattle.machine.specs.Points.{Outside}
 
 -- What stays the same in a run of an accepted routine: the table is laid out and its walk has no fault, the environment is the table's, and each object
 -- is placed in a memory as long as cs.
@@ -33,6 +34,7 @@ pub record Setting (T : List ℤ) (h : Sections) (E : Environment) (D cs : List 
   pub laid : layout T h ≡ []
   pub walked : blockFaults T h E (tree T h) newSet ≡ []
   pub declares : Declares T h E
+  pub pairs : length D ≡ 2 * h .objects
   pub placed : (o : ℕ) → o < h .objects → Placed E D (length cs) o
   pub memory : length cs ≤ 2 ^ 24
 

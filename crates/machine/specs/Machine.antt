@@ -4,7 +4,7 @@ use mathlib.Core.Bool.{Bool, true, false, not, _&&_, _||_}
 use mathlib.Core.List.{List}
 use lib.Dec.{leb, ltb, eqb}
 use lib.IntN.{ℤ}
-use lib.ListN.{getD, set}
+use lib.ListN.{length, getD, set}
 use Rattle.sums.specs.Numbers.{bias, maxValue}
 use Rattle.sections.specs.declared.Sections.{Sections}
 use Rattle.conditions.specs.declared.Condition.{Condition}
@@ -49,10 +49,15 @@ low D o = getD D (2 * o) 0
 abbrev pub high : List ℕ → ℕ → ℕ
 high D o = getD D (2 * o) 0 + getD D (2 * o + 1) 0
 
--- "Bounds of p are true when p is null or its origin object [low, high) has low <= lower end and upper end <= high." Origin 0 is no object.
+-- Object o is one of the directory.
+abbrev pub isObject : List ℕ → ℕ → Bool
+isObject D o = ltb (2 * o + 1) (length D)
+
+-- "Bounds of p are true when p is null or its origin object [low, high) has low <= lower end and upper end <= high." So a pointer that is not null has an
+-- object for its origin: origin 0 is none, and so is a number past the directory.
 unfoldable pub originHolds : List ℕ → ℕ → ℕ → ℕ → Bool
 originHolds D zero l u = false
-originHolds D (suc o) l u = leb (low D o + bias) l && leb u (high D o + bias)
+originHolds D (suc o) l u = isObject D o && leb (low D o + bias) l && leb u (high D o + bias)
 
 unfoldable pub boundsTrue : Environment → List ℕ → List ℕ → List ℕ → ℕ → Bool
 boundsTrue E D vs os p = eqb (value vs p) 0 || originHolds D (getD os p 0) (lowerEnd E vs p) (upperEnd E vs p)

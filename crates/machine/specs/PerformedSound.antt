@@ -20,9 +20,9 @@ use Rattle.statements.specs.Typed.{SimpleTyped}
 use Rattle.statements.specs.declared.Simple.{Simple}
 use Rattle.statements.specs.declared.Simple.the-variants.{Literal, AddConstant, Arithmetic, Null, Address, PointerOffset, PointerIndex, Load, Store, Check}
 use Rattle.blocks.specs.Tree.{target}
-use Rattle.rules.specs.FactRules.{factsAfter, conditionFacts}
+use Rattle.rules.specs.Stored.{factsAfter, conditionFacts, effect, effectOn, boundsAfter}
 use Rattle.rules.specs.FactsTrue.{neither}
-use Rattle.rules.specs.BoundsRules.{declared, effectOn, boundsAfter, effect}
+use Rattle.rules.specs.BoundsRules.{declared}
 use Rattle.rules.specs.BoundsTrue.{known-after}
 use Rattle.rules.specs.declared.Bounds.{Bounds}
 use Rattle.rules.specs.declared.Effect.the-variants.{Keep}
@@ -32,6 +32,8 @@ use Rattle.machine.specs.Good.{Setting, TrueOf, Steady, Good}
 use Rattle.machine.specs.ConditionSound.{condition-holds}
 use Rattle.machine.specs.AccessSound.{Inside, Ready, inside-origin, access-inside, first-none}
 use Rattle.machine.specs.SimpleSound.{Done, Left, remainder-small, combined-small, derivedSet, integer-agree, integer-dropped, literal-left, sum-left, pointer-agree, null-left, address-left, index-left, offset-left}
+use Rattle.rules.specs.FactRules as factRules
+use Rattle.rules.specs.BoundsRules as boundsRules
 
 -- The result of arithmetic on a pointer that no check stops.
 pub record Moves (q a : ℕ) : Type 0 where
@@ -58,7 +60,7 @@ module _ (T : List ℤ) (h : Sections) (E : Environment) (D cs : List ℕ) (S : 
   -- Values and origins stay.
   keep-good : (G : FactSet) (cells : List ℕ) → Holds G (value (m .values)) → Steady h D cs (record { cells = cells; values = m .values; origins = m .origins })
       → Good h E D cs G (boundsAfter Keep K) (record { cells = cells; values = m .values; origins = m .origins })
-  unfolding effectOn
+  unfolding boundsRules.effectOn
   keep-good G cells f s =
       record { facts = f; bounds = λ p t. rw (known-after Keep K p (omega (arith, S .declares .few, S .declares .below p t))) (g .bounds p t); steady = s }
 
@@ -84,7 +86,7 @@ module _ (T : List ℤ) (h : Sections) (E : Environment) (D cs : List ℕ) (S : 
   offset-done : (p q k : ℕ) → SimpleTyped T h (PointerOffset p q k) → (b : Bool) → eqb k bias ≡ b
       → firstUnless b (arithmeticFailing (value (m .values) q) (value (m .values) q + k)) ≡ none
       → Left T h E D cs S F K (PointerOffset p q k) m (derivedSet m p q (value (m .values) q + k - bias))
-  unfolding factsAfter effect
+  unfolding factRules.factsAfter boundsRules.effect
   offset-done p q k t true c e =
       let same : k ≡ bias = eqb-true k bias c in
       let small : value (m .values) q + k - bias ≤ maxValue = omega (arith, g .steady .range .below q) in
@@ -108,7 +110,7 @@ module _ (T : List ℤ) (h : Sections) (E : Environment) (D cs : List ℕ) (S : 
 
   index-done : (p q i : ℕ) → SimpleTyped T h (PointerIndex p q i) → arithmeticFailing (value (m .values) q) (value (m .values) q + value (m .values) i + bias) ≡ none
       → Left T h E D cs S F K (PointerIndex p q i) m (derivedSet m p q (value (m .values) q + value (m .values) i))
-  unfolding factsAfter effect
+  unfolding factRules.factsAfter boundsRules.effect
   index-done p q i t e =
       let r = moves (value (m .values) q) (value (m .values) q + value (m .values) i + bias) e in
       let above : bias < value (m .values) q + value (m .values) i + bias = r .above in
@@ -120,7 +122,7 @@ module _ (T : List ℤ) (h : Sections) (E : Environment) (D cs : List ℕ) (S : 
       }
 
   pub performed-good : (s : Simple) → SimpleTyped T h s → Ready E D (h .objects) s m → failing E (m .values) s ≡ none → Done (Left T h E D cs S F K s m) (performed D s m)
-  unfolding performed failing factsAfter effect
+  unfolding performed failing factRules.factsAfter boundsRules.effect
   performed-good (Literal x k) t r e =
       let small : k ≤ maxValue = omega (arith, t .value) in
       record { good = literal-left T h E D cs S F K m g x k (t .target) small; agree = integer-agree T h E D cs S F K m g x k (t .target) small }

@@ -15,12 +15,11 @@ use Rattle.statements.specs.declared.Statement.the-variants.{Plain, If, While, 
 use Rattle.statements.specs.declared.StatementRead.the-variants.{Read}
 use Rattle.blocks.specs.Tree.{Block, nil, plain, branch, loop, bundle, unread, assigned}
 use Rattle.flow.specs.Flow.{Successors, successors, entry, lead}
-use Rattle.flow.specs.Shape.{size, Numbered, Formed, ReadsLine, Reads, RightLine, Right, targetsFrom}
+use Rattle.flow.specs.Shape.{size, Numbered, Formed, ReadsLine, Reads, RightLine, Right}
+use Rattle.flow.specs.Targets.{targetsFrom}
 use Rattle.flow.specs.ShapeLaws.{body-targets}
-use Rattle.rules.specs.FactRules.{factsAfter, conditionFacts, loopFacts}
+use Rattle.rules.specs.Stored.{factsAfter, conditionFacts, loopFacts, effect, bundleFacts, sidesJoined, blockFacts, boundsAfter}
 use Rattle.rules.specs.FactsTrue.{Agree}
-use Rattle.rules.specs.BoundsRules.{effect, boundsAfter}
-use Rattle.rules.specs.Rules.{bundleFacts, sidesJoined, blockFacts}
 use Rattle.rules.specs.declared.Bounds.{Bounds}
 use Rattle.rules.specs.declared.Environment.{Environment}
 use Rattle.machine.specs.Machine.{value, Memory}

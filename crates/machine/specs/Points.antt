@@ -1,5 +1,5 @@
--- Points of a run: which are in a bundle, and the access that the step from a point performs.
-use Prim.Native.Nat.{ℕ, _+_}
+-- Points of a run: which are in a bundle, the access that the step from a point performs, and the cells outside of all objects.
+use Prim.Native.Nat.{ℕ, _+_, _≤_, _<_}
 use mathlib.Core.Bool.{Bool, true, false, _&&_, _||_}
 use mathlib.Core.List.{List}
 use lib.Dec.{ltb}
@@ -14,7 +14,7 @@ use Rattle.statements.specs.declared.StatementRead.{StatementRead}
 use Rattle.statements.specs.declared.StatementRead.the-variants.{Read, Unread}
 use Rattle.blocks.specs.Tree.{Block, nil, plain, branch, loop, bundle, unread}
 use Rattle.rules.specs.declared.Environment.{Environment}
-use Rattle.machine.specs.Machine.{Failing, none, fails, failing, address, Status, going, stopped, stuck, Point, Memory, memoryOf}
+use Rattle.machine.specs.Machine.{low, high, Failing, none, fails, failing, address, Status, going, stopped, stuck, Point, Memory, memoryOf}
 
 -- "A point is in a bundle when a statement inside one is due": of the statement d that is due. A bundle's head is not inside it.
 unfoldable pub inBundle : Block → ℕ → Bool
@@ -63,3 +63,7 @@ unfoldable pub accessFrom : List ℤ → Sections → Environment → Status →
 accessFrom T h E going P = accessIf (ltb (P .due) (h .statements)) (statementAccess E (statementAt T h (P .due)) (memoryOf P))
 accessFrom T h E (stopped n) P = no-access
 accessFrom T h E stuck P = no-access
+
+-- Cell i is in none of the objects.
+abbrev pub Outside : List ℕ → ℕ → ℕ → Type 0
+Outside D objects i = (o : ℕ) → o < objects → low D o ≤ i → i < high D o → ⊥

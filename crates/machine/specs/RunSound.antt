@@ -29,8 +29,8 @@ use Rattle.flow.specs.SuccessorLaws.{flow-right}
 use Rattle.rules.specs.FactsTrue.{Agree}
 use Rattle.rules.specs.BoundsRules.{isPointer, declared}
 use Rattle.rules.specs.EnvironmentLaws.{Declares, environment-declares}
-use Rattle.rules.specs.Rules.{blockFacts}
-use Rattle.rules.specs.Verdict.{environmentOf, faults}
+use Rattle.rules.specs.Stored.{blockFacts, faults}
+use Rattle.rules.specs.Verdict.{environmentOf}
 use Rattle.rules.specs.AcceptedLaws.{clear}
 use Rattle.rules.specs.declared.Environment.{Environment}
 use Rattle.machine.specs.Machine.{value, boundsTrue, Failing, none, fails, failing, Memory, Status, going, stopped, stuck, Point, memoryOf, statementStep, successorsOf, stepIfDue, nextPoint, start, pointAfter}
@@ -118,8 +118,8 @@ module _ (T : List ℤ) (h : Sections) (E : Environment) (D cs : List ℕ) where
     due-of P (inr w) = omega (arith, w .0)
 
     bounds-of : (P : Point) → Somewhere P → inBundle (tree T h) (P .due) ≡ false → (p : ℕ) → isPointer E p ≡ true → boundsTrue E D (P .values) (P .origins) p ≡ true
-    bounds-of P (inl w) e p t = true-test E D (h .objects) (memoryOf P) p (S .declares .ends p t) (w .declared e .bounds p t)
-    bounds-of P (inr w) e p t = true-test E D (h .objects) (memoryOf P) p (S .declares .ends p t) (w .1 .bounds p t)
+    bounds-of P (inl w) e p t = true-test E D (h .objects) (S .pairs) (memoryOf P) p (S .declares .ends p t) (w .declared e .bounds p t)
+    bounds-of P (inr w) e p t = true-test E D (h .objects) (S .pairs) (memoryOf P) p (S .declares .ends p t) (w .1 .bounds p t)
 
     -- The access of a statement that is due, where no check fails.
     access-right : (m : Memory) (origin a : ℕ) → Steady h D cs m → Inside D (h .objects) origin a → AccessRight D (length (m .cells)) a origin
@@ -210,7 +210,7 @@ module _ (T : List ℤ) (h : Sections) (formed : formOf T ≡ WellFormed h) (acc
   pub begun-setting : Setting T h (environmentOf T h) D cs
   begun-setting =
       let a = clear T h formed accepts in
-      record { laid = a .laid; walked = a .walked; declares = declares; placed = begun .placed; memory = begun .memory }
+      record { laid = a .laid; walked = a .walked; declares = declares; pairs = begun .pairs; placed = begun .placed; memory = begun .memory }
 
   -- The invariant holds at the start.
   pub begun-invariant : Invariant T h (environmentOf T h) D cs (start T h (environmentOf T h) D cs vs os)

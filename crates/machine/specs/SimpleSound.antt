@@ -2,7 +2,7 @@
 use Prim.Native.Nat.{ℕ, zero, suc, _+_, _-_, _*_, _%_, _^_, _≤_, _<_}
 use mathlib.Core.Path.{_≡_, refl, sym, _∙_, ap}
 use mathlib.Core.Logic.{_≢_, inl, inr}
-use mathlib.Core.Bool.{Bool, true, false, _&&_, false≢true}
+use mathlib.Core.Bool.{Bool, true, false, _&&_, false≢true, cond}
 use mathlib.Core.List.{List, [], _∷_}
 use native.Mathlib.Omega.{arith}
 use borrow.Author.Tests.{eqb-true, eqb-false, eq-eqb, ne-eqb}
@@ -18,9 +18,10 @@ use Rattle.sections.specs.Typed.{IsInteger, IsPointer}
 use Rattle.sections.specs.declared.Sections.{Sections}
 use Rattle.statements.specs.declared.Simple.{Simple}
 use Rattle.blocks.specs.Tree.{target}
-use Rattle.rules.specs.FactRules.{pickFacts, equated, sumFacts, offsetFacts, factsAfter}
+use Rattle.rules.specs.Stored.{equated, sumFacts, offsetFacts, factsAfter, effect, effectOn, boundsAfter}
+use Rattle.rules.specs.BoundsRules as boundsRules
 use Rattle.rules.specs.FactsTrue.{Agree, among-one, equated-holds, positive-holds, sum-in-range}
-use Rattle.rules.specs.BoundsRules.{pickEffect, pickBounds, objectLength, known, forgetBounds, objectBounds, effectOn, boundsAfter, effect}
+use Rattle.rules.specs.BoundsRules.{objectLength, known, forgetBounds, objectBounds}
 use Rattle.rules.specs.BoundsTrue.{BoundsHold, forget-holds, shift-holds, object-holds}
 use Rattle.rules.specs.declared.Bounds.{Bounds}
 use Rattle.rules.specs.declared.Effect.{Effect}
@@ -28,6 +29,7 @@ use Rattle.rules.specs.declared.Effect.the-variants.{Forget, Shift, Copy, Objec
 use Rattle.rules.specs.declared.Environment.{Environment}
 use Rattle.machine.specs.Machine.{value, low, high, Memory, Performed, done, no-step, combined}
 use Rattle.machine.specs.Good.{Setting, TrueOf, Good, carry, Assigned, set-good}
+use Rattle.rules.specs.FactRules as factRules
 
 -- A statement that has a step leaves a memory.
 abbrev pub Done : (Memory → Type 0) → Performed → Type 0
@@ -72,20 +74,20 @@ module _ (T : List ℤ) (h : Sections) (E : Environment) (D cs : List ℕ) (S : 
     pub agree : Agree (target s) (value (m .values)) (value (n .values))
 
   others-forget : (K : List Bounds) (v w : ℕ → ℕ) (x a : ℕ) → Assigned v w x a → (r l u : ℕ) → r ≢ x → BoundsHold l u (known K r) v → BoundsHold l u (effectOn (Forget x) K r) w
-  unfolding effectOn
+  unfolding boundsRules.effectOn
   others-forget K v w x a is r l u n b = forget-holds v w x (is .except) l u (known K r) b
 
   others-shift : (K : List Bounds) (v w : ℕ → ℕ) (x k a : ℕ) → w x + bias ≡ v x + k → Assigned v w x a → (r l u : ℕ) → r ≢ x → BoundsHold l u (known K r) v
       → BoundsHold l u (effectOn (Shift x k) K r) w
-  unfolding effectOn
+  unfolding boundsRules.effectOn
   others-shift K v w x k a e is r l u n b = shift-holds v w x (is .except) k e l u (known K r) b
 
   others-copy : (K : List Bounds) (v w : ℕ → ℕ) (x q a : ℕ) → Assigned v w x a → (r l u : ℕ) → r ≢ x → BoundsHold l u (known K r) v → BoundsHold l u (effectOn (Copy x q) K r) w
-  unfolding effectOn
+  unfolding boundsRules.effectOn
   others-copy K v w x q a is r l u n b = rw (ne-eqb r x n) (forget-holds v w x (is .except) l u (known K r) b)
 
   others-object : (K : List Bounds) (v w : ℕ → ℕ) (x k a : ℕ) → Assigned v w x a → (r l u : ℕ) → r ≢ x → BoundsHold l u (known K r) v → BoundsHold l u (effectOn (Object x k) K r) w
-  unfolding effectOn
+  unfolding boundsRules.effectOn
   others-object K v w x k a is r l u n b = rw (ne-eqb r x n) (forget-holds v w x (is .except) l u (known K r) b)
 
   module _ (F : FactSet) (K : List Bounds) (m : Memory) (g : Good h E D cs F K m) where
@@ -127,13 +129,13 @@ module _ (T : List ℤ) (h : Sections) (E : Environment) (D cs : List ℕ) (S : 
       sum = (v y + k) % 2 ^ 32
 
       pub sum-left : (f s : Bool) → inRange F y k ≡ f → eqb x y ≡ s
-          → Good h E D cs (sumFacts f s F x y k) (boundsAfter (pickEffect (f && s) (Shift x k) (Forget x)) K) (integerSet m x sum)
-      unfolding sumFacts
+          → Good h E D cs (sumFacts f s F x y k) (boundsAfter (cond (f && s) (Shift x k) (Forget x)) K) (integerSet m x sum)
+      unfolding factRules.sumFacts
       sum-left false s p q = integer-dropped x sum i (remainder-small (v y + k))
       sum-left true s p q = in-range s q (sum-in-range F v (g .steady .range) (g .facts) y k (omega (arith, variable-small y (j .below))) p)
         where
           in-range : (s : Bool) → eqb x y ≡ s → (bias ≤ v y + k) × (v y + k ≤ bias + maxValue)
-              → Good h E D cs (pickFacts s (shifted F x k) (equated (dropped F x) x y k)) (boundsAfter (pickEffect s (Shift x k) (Forget x)) K) (integerSet m x sum)
+              → Good h E D cs (cond s (shifted F x k) (equated (dropped F x) x y k)) (boundsAfter (cond s (Shift x k) (Forget x)) K) (integerSet m x sum)
           in-range true q r =
               let same : v x ≡ v y = ap v (eqb-true x y q) in
               let raised : sum + bias ≡ v x + k = omega (arith, remainder-same (v y + k) (r .0) (r .1)) in
@@ -175,7 +177,7 @@ module _ (T : List ℤ) (h : Sections) (E : Environment) (D cs : List ℕ) (S : 
         (others-forget K v (valuesSet m p 0) p 0) (λ is e. inl (is .value-is))
 
     pub address-left : (p o : ℕ) → IsPointer T h p → o < h .objects → Good h E D cs (ranged F p 1 maxValue) (boundsAfter (Object p (objectLength E o)) K) (pointerSet m p (low D o) (o + 1))
-    unfolding effectOn
+    unfolding boundsRules.effectOn
     address-left p o i l =
         let placed = S .placed o l in
         let long : getD D (2 * o + 1) 0 ≡ objectLength E o = placed .long in
@@ -193,7 +195,7 @@ module _ (T : List ℤ) (h : Sections) (E : Environment) (D cs : List ℕ) (S : 
         }))
       where
         own : Assigned v (valuesSet m p (low D o)) p (low D o)
-            → BoundsHold (low D o + bias) (high D o + bias) (pickBounds (eqb p p) (objectBounds p (objectLength E o)) (forgetBounds p (known K p))) (valuesSet m p (low D o))
+            → BoundsHold (low D o + bias) (high D o + bias) (cond (eqb p p) (objectBounds p (objectLength E o)) (forgetBounds p (known K p))) (valuesSet m p (low D o))
         own is =
             let placed = S .placed o l in
             let long : getD D (2 * o + 1) 0 ≡ objectLength E o = placed .long in
@@ -209,21 +211,21 @@ module _ (T : List ℤ) (h : Sections) (E : Environment) (D cs : List ℕ) (S : 
 
       copy-good : (G : FactSet) → (Assigned v (valuesSet m p a) p a → Holds G (valuesSet m p a))
           → Good h E D cs G (boundsAfter (Copy p q) K) (derivedSet m p q a)
-      unfolding effectOn
+      unfolding boundsRules.effectOn
       copy-good G facts =
           pointer-good p a (getD (m .origins) q 0) i small G (Copy p q) facts (others-copy K v (valuesSet m p a) p q a)
           (λ is e. derived-own _ is e (λ l u b. rw (eq-eqb p p refl) (forget-holds v (valuesSet m p a) p (is .except) l u (known K q) b)))
 
       forget-good : (G : FactSet) → p ≡ q → (Assigned v (valuesSet m p a) p a → Holds G (valuesSet m p a))
           → Good h E D cs G (boundsAfter (Forget p) K) (derivedSet m p q a)
-      unfolding effectOn
+      unfolding boundsRules.effectOn
       forget-good G s facts =
           pointer-good p a (getD (m .origins) q 0) i small G (Forget p) facts (others-forget K v (valuesSet m p a) p a)
           (λ is e. derived-own _ is e (λ l u b. forget-holds v (valuesSet m p a) p (is .except) l u (known K p) (rw s b)))
 
       shift-good : (k : ℕ) (G : FactSet) → p ≡ q → a + bias ≡ v q + k → (Assigned v (valuesSet m p a) p a → Holds G (valuesSet m p a))
           → Good h E D cs G (boundsAfter (Shift p k) K) (derivedSet m p q a)
-      unfolding effectOn
+      unfolding boundsRules.effectOn
       shift-good k G s r facts =
           let same : v p ≡ v q = ap v s in
           pointer-good p a (getD (m .origins) q 0) i small G (Shift p k) facts
@@ -231,12 +233,12 @@ module _ (T : List ℤ) (h : Sections) (E : Environment) (D cs : List ℕ) (S : 
           (λ is e.
           derived-own _ is e (λ l u b. shift-holds v (valuesSet m p a) p (is .except) k (omega (arith, is .value-is)) l u (known K p) (rw s b)))
 
-      pub index-left : 1 ≤ a → (s : Bool) → eqb p q ≡ s → Good h E D cs (ranged F p 1 maxValue) (boundsAfter (pickEffect s (Forget p) (Copy p q)) K) (derivedSet m p q a)
+      pub index-left : 1 ≤ a → (s : Bool) → eqb p q ≡ s → Good h E D cs (ranged F p 1 maxValue) (boundsAfter (cond s (Forget p) (Copy p q)) K) (derivedSet m p q a)
       index-left l true e = forget-good (ranged F p 1 maxValue) (eqb-true p q e) (ranged-fact p a (getD (m .origins) q 0) i small 1 maxValue l small)
       index-left l false e = copy-good (ranged F p 1 maxValue) (ranged-fact p a (getD (m .origins) q 0) i small 1 maxValue l small)
 
       module _ (k : ℕ) (moved : a + bias ≡ v q + k) (some : eqb k bias ≡ false → 1 ≤ a) where
-        moved-facts : (s : Bool) → eqb p q ≡ s → Assigned v (valuesSet m p a) p a → Holds (pickFacts s (shifted F p k) (equated (dropped F p) p q k)) (valuesSet m p a)
+        moved-facts : (s : Bool) → eqb p q ≡ s → Assigned v (valuesSet m p a) p a → Holds (cond s (shifted F p k) (equated (dropped F p) p q k)) (valuesSet m p a)
         moved-facts true e is =
             let same : v p ≡ v q = ap v (eqb-true p q e) in
             shifted-holds F v (valuesSet m p a) (g .steady .range) (is .range) (g .facts) p (variable-small p (i .below)) (is .except) k (omega (arith, is .value-is))
@@ -246,11 +248,11 @@ module _ (T : List ℤ) (h : Sections) (E : Environment) (D cs : List ℕ) (S : 
             (omega (arith, is .value-is, is .except q (λ s. eqb-false p q e (sym s))))
 
         offset-facts : (s z : Bool) → eqb p q ≡ s → eqb k bias ≡ z → Assigned v (valuesSet m p a) p a → Holds (offsetFacts s z F p q k) (valuesSet m p a)
-        unfolding offsetFacts
+        unfolding factRules.offsetFacts
         offset-facts s true e d is = moved-facts s e is
         offset-facts s false e d is =
-            positive-holds (pickFacts s (shifted F p k) (equated (dropped F p) p q k)) (valuesSet m p a) (is .range) (moved-facts s e is) p (omega (arith, is .value-is, some d))
+            positive-holds (cond s (shifted F p k) (equated (dropped F p) p q k)) (valuesSet m p a) (is .range) (moved-facts s e is) p (omega (arith, is .value-is, some d))
 
-        pub offset-left : (s z : Bool) → eqb p q ≡ s → eqb k bias ≡ z → Good h E D cs (offsetFacts s z F p q k) (boundsAfter (pickEffect s (Shift p k) (Copy p q)) K) (derivedSet m p q a)
+        pub offset-left : (s z : Bool) → eqb p q ≡ s → eqb k bias ≡ z → Good h E D cs (offsetFacts s z F p q k) (boundsAfter (cond s (Shift p k) (Copy p q)) K) (derivedSet m p q a)
         offset-left true z e d = shift-good k (offsetFacts true z F p q k) (eqb-true p q e) moved (offset-facts true z e d)
         offset-left false z e d = copy-good (offsetFacts false z F p q k) (offset-facts false z e d)

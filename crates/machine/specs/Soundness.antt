@@ -12,7 +12,7 @@ use Rattle.blocks.specs.Tree.{tree}
 use Rattle.rules.specs.BoundsRules.{isPointer, objectLength}
 use Rattle.rules.specs.declared.Environment.{Environment}
 use Rattle.machine.specs.Machine.{value, low, high, boundsTrue, inOrigin, stuck, Point}
-use Rattle.machine.specs.Points.{inBundle, Access, no-access, access, accessFrom}
+use Rattle.machine.specs.Points.{inBundle, Access, no-access, access, accessFrom, Outside}
 
 -- ---- where a run is begun
 
@@ -23,8 +23,8 @@ pub record Placed (E : Environment) (D : List ℕ) (n o : ℕ) : Type 0 where
   pub inside : high D o ≤ n
 
 -- "A run is begun when no cause refuses it": what soundness needs of causes 10 to 12, and of the words of 32 bits.
--- A pointer that is not null has an object for its origin; that it is not 0 follows, since origin 0 has no true bounds.
 pub record Begun (h : Sections) (E : Environment) (D cs vs os : List ℕ) : Type 0 where
+  pub pairs : length D ≡ 2 * h .objects
   pub placed : (o : ℕ) → o < h .objects → Placed E D (length cs) o
   pub memory : length cs ≤ 2 ^ 24
   pub values-long : length vs ≡ h .variables
@@ -32,13 +32,8 @@ pub record Begun (h : Sections) (E : Environment) (D cs vs os : List ℕ) : Type
   pub values-small : (x : ℕ) → getD vs x 0 ≤ maxValue
   pub cells-small : (i : ℕ) → getD cs i 0 ≤ maxValue
   pub bounds : (p : ℕ) → isPointer E p ≡ true → boundsTrue E D vs os p ≡ true
-  pub origins : (p : ℕ) → isPointer E p ≡ true → value vs p ≢ 0 → getD os p 0 ≤ h .objects
 
 -- ---- what holds at a point
-
--- Cell i is in none of the objects.
-abbrev pub Outside : List ℕ → ℕ → ℕ → Type 0
-Outside D objects i = (o : ℕ) → o < objects → low D o ≤ i → i < high D o → ⊥
 
 -- An access of a memory of n cells: in the origin object of its pointer, and at one of the cells from 1 on.
 pub record AccessRight (D : List ℕ) (n a origin : ℕ) : Type 0 where

@@ -21,10 +21,8 @@ use Rattle.statements.specs.declared.StatementRead.the-variants.{Read}
 use Rattle.blocks.specs.Tree.{Block, nil, plain, branch, loop, bundle, unread}
 use Rattle.flow.specs.Flow.{Successors, entry}
 use Rattle.flow.specs.Shape.{size}
-use Rattle.rules.specs.FactRules.{factsAfter, conditionFacts}
+use Rattle.rules.specs.Stored.{factsAfter, conditionFacts, effect, accessShown, bundleFacts, bundleFaults, sidesJoined, blockFacts, blockFaults, boundsAfter}
 use Rattle.rules.specs.FactsTrue.{neither}
-use Rattle.rules.specs.BoundsRules.{effect, boundsAfter, accessShown}
-use Rattle.rules.specs.Rules.{bundleFacts, bundleFaults, sidesJoined, blockFacts, blockFaults}
 use Rattle.rules.specs.RuleLaws.{no-first, no-rest, access-passed}
 use Rattle.rules.specs.declared.Bounds.{Bounds}
 use Rattle.rules.specs.declared.Environment.{Environment}
@@ -34,6 +32,7 @@ use Rattle.machine.specs.Good.{Setting, Good}
 use Rattle.machine.specs.AccessSound.{Ready}
 use Rattle.machine.specs.BlockSound.{ready-inside, ready-outside}
 use Rattle.machine.specs.Places.{LinkedLine, Linked, AtLine, headFacts, At}
+use Rattle.rules.specs.Rules as walkRules
 
 module _ (T : List ℤ) (h : Sections) (E : Environment) (D cs : List ℕ) where
   pub record Standing (b : Block) (d : ℕ) (m : Memory) : Type 0 where
@@ -72,7 +71,7 @@ module _ (T : List ℤ) (h : Sections) (E : Environment) (D cs : List ℕ) where
 
     standing-line : (a : ℕ) (ss : List Simple) (F : FactSet) (K : List Bounds) (after d : ℕ) (m : Memory) → LinkedLine T h f a ss after → bundleFaults E a ss F K ≡ []
         → AtLine T h E D cs a ss F K d m → StandingLine a (length ss) d m
-    unfolding bundleFaults
+    unfolding walkRules.bundleFaults
     standing-line a [] F K after d m l q i = absurd i
     standing-line a (s ∷ ss) F K after d m l q (inl i) =
         let e = i .0 in
@@ -108,7 +107,7 @@ module _ (T : List ℤ) (h : Sections) (E : Environment) (D cs : List ℕ) where
         }
 
     pub standing : (b : Block) (F : FactSet) (after d : ℕ) (m : Memory) → Linked T h f b after → blockFaults T h E b F ≡ [] → At T h E D cs b F d m → Standing b d m
-    unfolding blockFaults inBundle
+    unfolding walkRules.blockFaults inBundle
     standing nil F after d m l q i = absurd i
     standing (plain a s r) F after d m l q (inl i) = standing-here (plain a s r) a d (Plain s) F m (l .0) (i .0) (i .1)
     standing (plain a s r) F after d m l q (inr i) = widened r (plain a s r) d m (λ e. e) (standing r (factsAfter s F) after d m (l .2) (no-rest _ _ (no-rest _ _ q)) i)

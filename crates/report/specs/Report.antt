@@ -1,4 +1,5 @@
 -- What a rehearsal tells a scorer: each late boat's row, or why it got none; the rows left; the row that two laptops must not share.
+use mathlib.Core.Bool.{cond}
 use Prim.Native.Nat.{ℕ}
 use mathlib.Core.List.{List, _++_}
 use lib.Dec.{eqb}
@@ -8,7 +9,7 @@ use Rattle.stops.specs.Checks.{checkNumber, checkStatement}
 use Rattle.stops.specs.declared.Check.{Check}
 use Rattle.stops.specs.declared.Outcome.{Outcome}
 use Rattle.stops.specs.declared.Outcome.the-variants.{Done, Spent, Stopped, Refused}
-use Rattle.text.specs.Text.{bytesOf, decimal, pickText}
+use Rattle.text.specs.Text.{bytesOf, decimal}
 
 abbrev pub numeral : ℕ → List ℕ
 numeral n = decimal 20 n
@@ -17,7 +18,7 @@ numeral n = decimal 20 n
 unfoldable pub refusedText : Refusal → List ℕ
 refusedText r =
     (bytesOf ": refused " ++ numeral (number r))
-    ++ pickText (eqb (number r) 8)
+    ++ cond (eqb (number r) 8)
     ((bytesOf " at statement " ++ numeral (place r)) ++ (bytesOf ", pointer " ++ numeral (pointer r)))
     (bytesOf " at place " ++ numeral (place r))
 
@@ -37,16 +38,16 @@ entryLine boat row o = ((bytesOf "boat " ++ numeral boat) ++ entryText row o) ++
 
 -- "Late boats took the next rows until the block was full."
 unfoldable pub leftLine : ℕ → List ℕ
-leftLine rows = pickText (eqb rows 0) (bytesOf "the block is full\n") ((bytesOf "rows left: " ++ numeral rows) ++ bytesOf "\n")
+leftLine rows = cond (eqb rows 0) (bytesOf "the block is full\n") ((bytesOf "rows left: " ++ numeral rows) ++ bytesOf "\n")
 
 -- A row that holds no boat has 0 in its cell.
 unfoldable pub rowLine : ℕ → ℕ → List ℕ
 rowLine row boat =
-    (bytesOf "row " ++ numeral row) ++ pickText (eqb boat 0) (bytesOf " is free\n") ((bytesOf " holds boat " ++ numeral boat) ++ bytesOf "\n")
+    (bytesOf "row " ++ numeral row) ++ cond (eqb boat 0) (bytesOf " is free\n") ((bytesOf " holds boat " ++ numeral boat) ++ bytesOf "\n")
 
 -- "The row past the end was the first row of the other laptop's block."
 unfoldable pub firstRowLine : ℕ → ℕ → List ℕ
 firstRowLine before after =
-    pickText (eqb before after)
+    cond (eqb before after)
     ((bytesOf "the other laptop's first row still holds " ++ numeral before) ++ bytesOf "\n")
     (((bytesOf "the other laptop's first row held " ++ numeral before) ++ (bytesOf " and now holds " ++ numeral after)) ++ bytesOf "\n")

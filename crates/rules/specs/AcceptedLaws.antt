@@ -13,11 +13,13 @@ use Rattle.table.specs.declared.Form.{Form}
 use Rattle.table.specs.declared.Form.the-variants as form
 use Rattle.blocks.specs.Tree.{tree}
 use Rattle.blocks.specs.Layout.{layout}
-use Rattle.rules.specs.Rules.{Fault, refusal, notShown, blockFaults}
-use Rattle.rules.specs.Verdict.{environmentOf, refusals, sectionFaults, formFaults, faults, Answers}
+use Rattle.rules.specs.Rules.{Fault, refusal, notShown}
+use Rattle.rules.specs.Stored.{blockFaults, sectionFaults, formFaults, faults}
+use Rattle.rules.specs.Verdict.{environmentOf, refusals, Answers}
 use Rattle.rules.specs.RuleLaws.{no-first, no-rest}
 use Rattle.rules.specs.declared.Verdict.{Verdict}
 use Rattle.rules.specs.declared.Verdict.the-variants.{Accepted, Refused}
+use Rattle.rules.specs.Verdict as verdictRules
 
 -- An answer that accepts says that there is no fault.
 pub accepted-clear : (xs : List Fault) {v : Verdict} → Answers xs v → v ≡ Accepted → xs ≡ []
@@ -37,13 +39,13 @@ no-refusals (x ∷ xs) e = cc
 
 -- A table without a fault is well formed and laid out, and its walk has no fault.
 pub clear : (T : List ℤ) (h : Sections) → formOf T ≡ form.WellFormed h → faults T ≡ [] → Clear T h
-unfolding faults sectionFaults
+unfolding verdictRules.faults verdictRules.sectionFaults
 clear T h f e =
     let s : formFaults T (form.WellFormed h) ≡ [] = rw f at e in
     record { form = f; laid = no-refusals (layout T h) (no-first _ _ s); walked = no-rest _ _ s }
 
 pub faults-clear : (T : List ℤ) → faults T ≡ [] → (h : Sections) × Clear T h
-unfolding faults
+unfolding verdictRules.faults
 faults-clear T e = go (formOf T) refl e
   where
     go : (f : Form) → formOf T ≡ f → formFaults T f ≡ [] → (h : Sections) × Clear T h

@@ -1,34 +1,22 @@
 -- The paper's section "Bounds in force": what each kind of statement does to the known bounds, and when declared bounds are shown.
-use Prim.Native.Nat.{ℕ, zero, suc, _+_, _-_, _^_}
-use mathlib.Core.Bool.{Bool, true, false, not, _&&_, _||_}
+use Prim.Native.Nat.{ℕ, zero, suc, _+_}
+use mathlib.Core.Bool.{Bool, true, false, not, _&&_, _||_, cond}
 use mathlib.Core.List.{List, [], _∷_}
-use lib.Dec.{leb, ltb, eqb}
+use lib.Dec.{eqb}
 use lib.ListN.{getD}
 use Rattle.sums.specs.Numbers.{bias, zeroVar}
 use Rattle.arrays.specs.Tabulate.{tabulate}
-use Rattle.facts.specs.Store.{shown, endShown, inRange}
-use Rattle.facts.specs.declared.FactSet.{FactSet}
 use Rattle.statements.specs.declared.Simple.{Simple}
 use Rattle.statements.specs.declared.Simple.the-variants.{Literal, AddConstant, Arithmetic, Null, Address, PointerOffset, PointerIndex, Load, Store, Check}
 use Rattle.variables.specs.declared.End.{End}
+use Rattle.rules.specs.FactSets.{FactSets}
+use Rattle.rules.specs.FactRules.{inRange}
 use Rattle.rules.specs.declared.KnownEnd.{KnownEnd}
 use Rattle.rules.specs.declared.KnownEnd.the-variants.{Known, Unknown}
 use Rattle.rules.specs.declared.Bounds.{Bounds}
 use Rattle.rules.specs.declared.Environment.{Environment}
 use Rattle.rules.specs.declared.Effect.{Effect}
 use Rattle.rules.specs.declared.Effect.the-variants.{Keep, Forget, Shift, Copy, Object}
-
-abbrev pub pickEnd : Bool → KnownEnd → KnownEnd → KnownEnd
-pickEnd true a b = a
-pickEnd false a b = b
-
-abbrev pub pickBounds : Bool → Bounds → Bounds → Bounds
-pickBounds true a b = a
-pickBounds false a b = b
-
-abbrev pub pickEffect : Bool → Effect → Effect → Effect
-pickEffect true a b = a
-pickEffect false a b = b
 
 -- ---- what is declared and what is known
 
@@ -56,95 +44,89 @@ names e v = eqb (e .pointer) v || eqb (e .integer) v
 
 unfoldable pub forgetEnd : ℕ → KnownEnd → KnownEnd
 forgetEnd v Unknown = Unknown
-forgetEnd v (Known e) = pickEnd (names e v) Unknown (Known e)
-
--- "(v := v + k: replace v by v - k in the end's value)": its constant falls by k. The constants of legal tables are in range.
-unfoldable pub shiftConstant : ℕ → End → KnownEnd
-shiftConstant k e =
-    pickEnd (ltb (e .constant) (2 ^ 40) && leb k (e .constant + bias))
-    (Known (record { pointer = e .pointer; integer = e .integer; constant = e .constant + bias - k })) Unknown
-
-unfoldable pub shiftEnd : ℕ → ℕ → KnownEnd → KnownEnd
-shiftEnd v k Unknown = Unknown
-shiftEnd v k (Known e) = pickEnd (names e v) (shiftConstant k e) (Known e)
+forgetEnd v (Known e) = cond (names e v) Unknown (Known e)
 
 unfoldable pub forgetBounds : ℕ → Bounds → Bounds
 forgetBounds v b = record { lower = forgetEnd v (b .lower); upper = forgetEnd v (b .upper) }
-
-unfoldable pub shiftBounds : ℕ → ℕ → Bounds → Bounds
-shiftBounds v k b = record { lower = shiftEnd v k (b .lower); upper = shiftEnd v k (b .upper) }
 
 -- "Kind 5 then gives (p, p + length)"
 unfoldable pub objectBounds : ℕ → ℕ → Bounds
 objectBounds p n =
     record { lower = Known (record { pointer = p; integer = zeroVar; constant = bias }); upper = Known (record { pointer = p; integer = zeroVar; constant = bias + n }) }
 
--- What the known bounds of one pointer become.
-unfoldable pub effectOn : Effect → List Bounds → ℕ → Bounds
-effectOn Keep K p = known K p
-effectOn (Forget v) K p = forgetBounds v (known K p)
-effectOn (Shift v k) K p = shiftBounds v k (known K p)
--- "Kinds 6 and 7 to another pointer first copy the known bounds of q to p."
-effectOn (Copy v q) K p = forgetBounds v (pickBounds (eqb p v) (known K q) (known K p))
-effectOn (Object v n) K p = pickBounds (eqb p v) (objectBounds v n) (forgetBounds v (known K p))
-
-unfoldable pub boundsAfter : Effect → List Bounds → List Bounds
-boundsAfter e K = tabulate 16 (effectOn e K)
-
--- What each kind does. The inverse exists for "kind 2 where facts are shifted" and for kind 6 with p = q.
-unfoldable pub effect : Environment → FactSet → Simple → Effect
-effect E f (Literal x k) = Forget x
-effect E f (AddConstant x y k) = pickEffect (inRange f y k && eqb x y) (Shift x k) (Forget x)
-effect E f (Arithmetic x y z op) = Forget x
--- "kind 4 leaves p's own": nothing new is put in their place.
-effect E f (Null p) = Forget p
-effect E f (Address p o) = Object p (objectLength E o)
-effect E f (PointerOffset p q k) = pickEffect (eqb p q) (Shift p k) (Copy p q)
-effect E f (PointerIndex p q i) = pickEffect (eqb p q) (Forget p) (Copy p q)
-effect E f (Load x p i k) = Forget x
-effect E f (Store p i k x) = Keep
-effect E f (Check c) = Keep
-
--- ---- "Declared bounds of p are shown when p <= 0 is shown, or known lower <= declared lower and declared upper <= known upper."
-
-abbrev pub sameEnd : End → End → Bool
-sameEnd e g = eqb (e .pointer) (g .pointer) && eqb (e .integer) (g .integer) && eqb (e .constant) (g .constant)
-
--- "End (q, n, k) <= end (r, m, j) when chains from q to r and from n to m have sums s and t with s + t + k <= j."
--- The same end is at most itself, by two empty chains.
-unfoldable pub endAtMost : FactSet → End → End → Bool
-endAtMost f e g = sameEnd e g || endShown f (e .pointer) (e .integer) (e .constant) (g .pointer) (g .integer) (g .constant)
-
--- An unknown end is below or above no end.
-unfoldable pub knownAtMost : FactSet → KnownEnd → KnownEnd → Bool
-knownAtMost f Unknown g = false
-knownAtMost f (Known e) Unknown = false
-knownAtMost f (Known e) (Known g) = endAtMost f e g
-
-unfoldable pub boundsShown : FactSet → ℕ → Bounds → Bounds → Bool
-boundsShown f p k d = shown f p zeroVar bias || knownAtMost f (k .lower) (d .lower) && knownAtMost f (d .upper) (k .upper)
-
--- The pointers whose declared bounds are not shown, from number p on, lowest first.
 abbrev pub consIf : Bool → ℕ → List ℕ → List ℕ
 consIf true p ps = p ∷ ps
 consIf false p ps = ps
 
-unfoldable pub unshownFrom : Environment → FactSet → List Bounds → ℕ → ℕ → List ℕ
-unshownFrom E f K zero p = []
-unshownFrom E f K (suc n) p = consIf (isPointer E p && not (boundsShown f p (known K p) (declared E p))) p (unshownFrom E f K n (p + 1))
+module _ (S : FactSets) where
+  open FactSets S using (Facts, endLess, shown, endShown)
 
-unfoldable pub unshown : Environment → FactSet → List Bounds → List ℕ
-unshown E f K = unshownFrom E f K 16 0
+  -- "(v := v + k, by kind 2 where facts are shifted or by kind 6: replace v by v - k in the end's value)"
+  unfoldable pub shiftEnd : ℕ → ℕ → KnownEnd → KnownEnd
+  shiftEnd v k Unknown = Unknown
+  shiftEnd v k (Known e) = cond (names e v) (endLess k e) (Known e)
 
--- "In a bundle an access through p needs p's declared bounds shown there."
-unfoldable pub accessShown : Environment → FactSet → List Bounds → Simple → Bool
-accessShown E f K (Literal x k) = true
-accessShown E f K (AddConstant x y k) = true
-accessShown E f K (Arithmetic x y z op) = true
-accessShown E f K (Null p) = true
-accessShown E f K (Address p o) = true
-accessShown E f K (PointerOffset p q k) = true
-accessShown E f K (PointerIndex p q i) = true
-accessShown E f K (Load x p i k) = boundsShown f p (known K p) (declared E p)
-accessShown E f K (Store p i k x) = boundsShown f p (known K p) (declared E p)
-accessShown E f K (Check c) = true
+  unfoldable pub shiftBounds : ℕ → ℕ → Bounds → Bounds
+  shiftBounds v k b = record { lower = shiftEnd v k (b .lower); upper = shiftEnd v k (b .upper) }
+
+  -- What the known bounds of one pointer become.
+  unfoldable pub effectOn : Effect → List Bounds → ℕ → Bounds
+  effectOn Keep K p = known K p
+  effectOn (Forget v) K p = forgetBounds v (known K p)
+  effectOn (Shift v k) K p = shiftBounds v k (known K p)
+  -- "Kinds 6 and 7 to another pointer first copy the known bounds of q to p."
+  effectOn (Copy v q) K p = forgetBounds v (cond (eqb p v) (known K q) (known K p))
+  effectOn (Object v n) K p = cond (eqb p v) (objectBounds v n) (forgetBounds v (known K p))
+
+  unfoldable pub boundsAfter : Effect → List Bounds → List Bounds
+  boundsAfter e K = tabulate 16 (effectOn e K)
+
+  -- What each kind does. The inverse exists for "kind 2 where facts are shifted" and for kind 6 with p = q.
+  unfoldable pub effect : Environment → Facts → Simple → Effect
+  effect E f (Literal x k) = Forget x
+  effect E f (AddConstant x y k) = cond (inRange S f y k && eqb x y) (Shift x k) (Forget x)
+  effect E f (Arithmetic x y z op) = Forget x
+  -- "kind 4 leaves p's own": nothing new is put in their place.
+  effect E f (Null p) = Forget p
+  effect E f (Address p o) = Object p (objectLength E o)
+  effect E f (PointerOffset p q k) = cond (eqb p q) (Shift p k) (Copy p q)
+  effect E f (PointerIndex p q i) = cond (eqb p q) (Forget p) (Copy p q)
+  effect E f (Load x p i k) = Forget x
+  effect E f (Store p i k x) = Keep
+  effect E f (Check c) = Keep
+
+  -- ---- "Declared bounds of p are shown when p <= 0 is shown, or known lower <= declared lower and declared upper <= known upper."
+
+  -- "End (q, n, k) <= end (r, m, j) when chains from q to r and from n to m have sums s and t with s + t + k <= j."
+  unfoldable pub endAtMost : Facts → End → End → Bool
+  endAtMost f e g = endShown f (e .pointer) (e .integer) (e .constant) (g .pointer) (g .integer) (g .constant)
+
+  -- An unknown end is below or above no end.
+  unfoldable pub knownAtMost : Facts → KnownEnd → KnownEnd → Bool
+  knownAtMost f Unknown g = false
+  knownAtMost f (Known e) Unknown = false
+  knownAtMost f (Known e) (Known g) = endAtMost f e g
+
+  unfoldable pub boundsShown : Facts → ℕ → Bounds → Bounds → Bool
+  boundsShown f p k d = shown f p zeroVar bias || knownAtMost f (k .lower) (d .lower) && knownAtMost f (d .upper) (k .upper)
+
+  -- The pointers whose declared bounds are not shown, from number p on, lowest first.
+  unfoldable pub unshownFrom : Environment → Facts → List Bounds → ℕ → ℕ → List ℕ
+  unshownFrom E f K zero p = []
+  unshownFrom E f K (suc n) p = consIf (isPointer E p && not (boundsShown f p (known K p) (declared E p))) p (unshownFrom E f K n (p + 1))
+
+  unfoldable pub unshown : Environment → Facts → List Bounds → List ℕ
+  unshown E f K = unshownFrom E f K 16 0
+
+  -- "In a bundle an access through p needs p's declared bounds shown there."
+  unfoldable pub accessShown : Environment → Facts → List Bounds → Simple → Bool
+  accessShown E f K (Literal x k) = true
+  accessShown E f K (AddConstant x y k) = true
+  accessShown E f K (Arithmetic x y z op) = true
+  accessShown E f K (Null p) = true
+  accessShown E f K (Address p o) = true
+  accessShown E f K (PointerOffset p q k) = true
+  accessShown E f K (PointerIndex p q i) = true
+  accessShown E f K (Load x p i k) = boundsShown f p (known K p) (declared E p)
+  accessShown E f K (Store p i k x) = boundsShown f p (known K p) (declared E p)
+  accessShown E f K (Check c) = true

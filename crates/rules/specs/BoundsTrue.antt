@@ -2,14 +2,14 @@
 use Prim.Native.Nat.{ℕ, zero, suc, _+_, _-_, _^_, _≤_, _<_}
 use mathlib.Core.Path.{_≡_, refl, sym, _∙_, ap}
 use mathlib.Core.Logic.{_≢_, _⊎_, inl, inr, ⊎-elim}
-use mathlib.Core.Bool.{Bool, true, false, not, _&&_, false≢true}
+use mathlib.Core.Bool.{Bool, true, false, not, _&&_, false≢true, cond}
 use mathlib.Core.List.{List, []}
 use native.Mathlib.Omega.{arith}
 use native.Mathlib.Nat.{eq-or-lt-of-le}
 use borrow.Author.Tests.{leb-true, ltb-true, eqb-true, eqb-false, not-false}
 use lib.Dec.{leb, ltb, eqb}
 use Rattle.sums.specs.Numbers.{bias, zeroVar}
-use Rattle.arrays.specs.Tabulate.{getD-tabulate}
+use Rattle.arrays.specs.TabulateLaws.{getD-tabulate}
 use Rattle.sums.specs.Sums.{unbounded}
 use Rattle.facts.specs.Store.{shown, endShown}
 use Rattle.chains.specs.Sound.{InRange, Holds, Except, end-true}
@@ -18,12 +18,14 @@ use Rattle.sections.specs.SectionsLaws.{both}
 use Rattle.sections.specs.NameLaws.{either}
 use Rattle.variables.specs.declared.End.{End}
 use Rattle.rules.specs.FactsTrue.{neither}
-use Rattle.rules.specs.BoundsRules.{pickEnd, nothingKnown, isPointer, declared, known, names, forgetEnd, shiftConstant, shiftEnd, forgetBounds, shiftBounds, objectBounds, effectOn, boundsAfter, sameEnd, endAtMost, knownAtMost, boundsShown, consIf, unshownFrom, unshown}
+use Rattle.rules.specs.BoundsRules.{nothingKnown, isPointer, declared, known, names, forgetEnd, forgetBounds, objectBounds, consIf}
+use Rattle.rules.specs.Stored.{sameEnd, endAtMost, knownAtMost, boundsShown, unshownFrom, unshown, shiftConstant, shiftEnd, shiftBounds, effectOn, boundsAfter}
 use Rattle.rules.specs.declared.KnownEnd.{KnownEnd}
 use Rattle.rules.specs.declared.KnownEnd.the-variants.{Known, Unknown}
 use Rattle.rules.specs.declared.Bounds.{Bounds}
 use Rattle.rules.specs.declared.Environment.{Environment}
 use Rattle.rules.specs.declared.Effect.{Effect}
+use Rattle.rules.specs.BoundsRules as boundsRules
 
 -- The value of an end, with the bias.
 abbrev pub endAt : (ℕ → ℕ) → End → ℕ
@@ -87,7 +89,7 @@ module _ (v w : ℕ → ℕ) (x : ℕ) (same : Except x v w) where
   unfolding forgetEnd
   forget-kept e r = go (names e x) refl
     where
-      go : (b : Bool) → names e x ≡ b → Kept v w e (pickEnd b Unknown (Known e))
+      go : (b : Bool) → names e x ≡ b → Kept v w e (cond b Unknown (Known e))
       go true t = tt
       go false t = (r, unnamed e t)
 
@@ -119,7 +121,7 @@ module _ (v w : ℕ → ℕ) (x : ℕ) (same : Except x v w) where
     constant-kept e r t = go (ltb (e .constant) (2 ^ 40) && leb k (e .constant + bias)) refl
       where
         go : (b : Bool) → (ltb (e .constant) (2 ^ 40) && leb k (e .constant + bias)) ≡ b
-            → Kept v w e (pickEnd b (Known (record { pointer = e .pointer; integer = e .integer; constant = e .constant + bias - k })) Unknown)
+            → Kept v w e (cond b (Known (record { pointer = e .pointer; integer = e .integer; constant = e .constant + bias - k })) Unknown)
         go false s = tt
         go true s =
             let p = both (ltb (e .constant) (2 ^ 40)) (leb k (e .constant + bias)) s in
@@ -129,15 +131,15 @@ module _ (v w : ℕ → ℕ) (x : ℕ) (same : Except x v w) where
             )
 
     shift-kept : (e : End) → Proper e → Kept v w e (shiftEnd x k (Known e))
-    unfolding shiftEnd
+    unfolding boundsRules.shiftEnd
     shift-kept e r = go (names e x) refl
       where
-        go : (b : Bool) → names e x ≡ b → Kept v w e (pickEnd b (shiftConstant k e) (Known e))
+        go : (b : Bool) → names e x ≡ b → Kept v w e (cond b (shiftConstant k e) (Known e))
         go true t = constant-kept e r t
         go false t = (r, unnamed e t)
 
     pub shift-holds : (low high : ℕ) (b : Bounds) → BoundsHold low high b v → BoundsHold low high (shiftBounds x k b) w
-    unfolding shiftBounds shiftEnd
+    unfolding boundsRules.shiftBounds boundsRules.shiftEnd
     shift-holds low high b h =
         record {
           lower = lower-changed v w (shiftEnd x k) refl shift-kept low (b .lower) (h .lower);
@@ -155,14 +157,14 @@ object-holds low n p v g hp hn e =
 
 -- The bounds of a pointer after a statement.
 pub known-after : (e : Effect) (K : List Bounds) (p : ℕ) → p < 16 → known (boundsAfter e K) p ≡ effectOn e K p
-unfolding boundsAfter
+unfolding boundsRules.boundsAfter
 known-after e K p l = getD-tabulate 16 (effectOn e K) p nothingKnown l
 
 -- ---- bounds that are shown
 
 module _ (f : FactSet) (v : ℕ → ℕ) (h : Holds f v) where
   end-at-most : (e g : End) → Proper e → Proper g → endAtMost f e g ≡ true → endAt v e ≤ endAt v g
-  unfolding endAtMost
+  unfolding boundsRules.endAtMost
   end-at-most e g r s t = go (either (sameEnd e g) (endShown f (e .pointer) (e .integer) (e .constant) (g .pointer) (g .integer) (g .constant)) t)
     where
       go : (sameEnd e g ≡ true) ⊎ (endShown f (e .pointer) (e .integer) (e .constant) (g .pointer) (g .integer) (g .constant) ≡ true) → endAt v e ≤ endAt v g
@@ -175,13 +177,13 @@ module _ (f : FactSet) (v : ℕ → ℕ) (h : Holds f v) where
           end-true f v h (e .pointer) (e .integer) (e .constant) (g .pointer) (g .integer) (g .constant) (r .pointer) (r .integer) (s .pointer) (s .integer) (s .constant) q
 
   lower-shown : (low : ℕ) (e g : KnownEnd) → knownAtMost f e g ≡ true → ProperEnd g → LowerHolds low e v → LowerHolds low g v
-  unfolding knownAtMost
+  unfolding boundsRules.knownAtMost
   lower-shown low Unknown g t s l = absurd (false≢true t)
   lower-shown low (Known e) Unknown t s l = absurd (false≢true t)
   lower-shown low (Known e) (Known g) t s l = (s, omega (arith, end-at-most e g (l .0) s t, l .1))
 
   upper-shown : (high : ℕ) (g e : KnownEnd) → knownAtMost f g e ≡ true → ProperEnd g → UpperHolds high e v → UpperHolds high g v
-  unfolding knownAtMost
+  unfolding boundsRules.knownAtMost
   upper-shown high Unknown e t s l = absurd (false≢true t)
   upper-shown high (Known g) Unknown t s l = absurd (false≢true t)
   upper-shown high (Known g) (Known e) t s l = (s, omega (arith, end-at-most g e s (l .0) t, l .1))
@@ -189,7 +191,7 @@ module _ (f : FactSet) (v : ℕ → ℕ) (h : Holds f v) where
   -- Bounds that are shown by known bounds which lie in a part lie there too, or the pointer is null.
   pub shown-holds : InRange v → (low high p : ℕ) (k d : Bounds) → p < 17 → ProperEnd (d .lower) → ProperEnd (d .upper) → boundsShown f p k d ≡ true
       → BoundsHold low high k v → (v p ≡ 0) ⊎ BoundsHold low high d v
-  unfolding boundsShown
+  unfolding boundsRules.boundsShown
   shown-holds g low high p k d hp r s t l = go (either (shown f p zeroVar bias) (knownAtMost f (k .lower) (d .lower) && knownAtMost f (d .upper) (k .upper)) t)
     where
       go : (shown f p zeroVar bias ≡ true) ⊎ ((knownAtMost f (k .lower) (d .lower) && knownAtMost f (d .upper) (k .upper)) ≡ true) → (v p ≡ 0) ⊎ BoundsHold low high d v
@@ -209,7 +211,7 @@ module _ (E : Environment) (f : FactSet) (K : List Bounds) where
   denied false b p q = absurd (false≢true p)
 
   shown-from : (n p : ℕ) → unshownFrom E f K n p ≡ [] → (q : ℕ) → p ≤ q → q < p + n → isPointer E q ≡ true → boundsShown f q (known K q) (declared E q) ≡ true
-  unfolding unshownFrom
+  unfolding boundsRules.unshownFrom
   shown-from zero p e q l u t = absurd (omega arith)
   shown-from (suc n) p e q l u t =
       let r = none-listed (isPointer E p && not (boundsShown f p (known K p) (declared E p))) p (unshownFrom E f K n (p + 1)) e in
@@ -221,5 +223,5 @@ module _ (E : Environment) (f : FactSet) (K : List Bounds) where
       (eq-or-lt-of-le l)
 
   pub all-shown : unshown E f K ≡ [] → (p : ℕ) → p < 16 → isPointer E p ≡ true → boundsShown f p (known K p) (declared E p) ≡ true
-  unfolding unshown
+  unfolding boundsRules.unshown
   all-shown e p l t = shown-from 16 0 e p (omega arith) (omega arith) t

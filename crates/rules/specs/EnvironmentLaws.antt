@@ -10,7 +10,8 @@ use lib.IntN.{ℤ}
 use lib.ListN.{length, List·getD-eq-default}
 use lib.Dec.{ltb}
 use Rattle.sums.specs.Numbers.{bias}
-use Rattle.arrays.specs.Tabulate.{tabulate, getD-tabulate, length-tabulate}
+use Rattle.arrays.specs.Tabulate.{tabulate}
+use Rattle.arrays.specs.TabulateLaws.{getD-tabulate, length-tabulate}
 use Rattle.sections.specs.Sections.{kindAt, integerAt, pointerAt}
 use Rattle.sections.specs.Typed.{IsInteger, IsPointer, IsIndex, missing, given}
 use Rattle.sections.specs.NameLaws.{pointer-limits}

@@ -1,80 +1,83 @@
 -- The paper's section "Facts": what each kind of statement does to the facts.
 use Prim.Native.Nat.{ℕ, zero, suc, _+_, _-_}
-use mathlib.Core.Bool.{Bool, true, false, _&&_, _||_}
+use mathlib.Core.Bool.{Bool, false, _&&_, _||_, cond}
 use mathlib.Core.List.{List, [], _∷_}
 use lib.Dec.{eqb}
 use Rattle.sums.specs.Numbers.{bias, maxValue, zeroVar}
-use Rattle.facts.specs.Store.{inRange, added, dropped, ranged, shifted}
-use Rattle.facts.specs.declared.FactSet.{FactSet}
 use Rattle.conditions.specs.declared.Condition.{Condition}
 use Rattle.statements.specs.declared.Simple.{Simple}
 use Rattle.statements.specs.declared.Simple.the-variants.{Literal, AddConstant, Arithmetic, Null, Address, PointerOffset, PointerIndex, Load, Store, Check}
+use Rattle.rules.specs.FactSets.{FactSets}
 
-abbrev pub pickFacts : Bool → FactSet → FactSet → FactSet
-pickFacts true f g = f
-pickFacts false f g = g
-
--- x = y + k, with the bias in k: both x <= y + k and y <= x - k.
-unfoldable pub equated : FactSet → ℕ → ℕ → ℕ → FactSet
-equated f x y k = added (added f x y k) y x (bias + bias - k)
-
--- x >= 1
-unfoldable pub positive : FactSet → ℕ → FactSet
-positive f x = added f zeroVar x (bias - 1)
-
--- "!= gives a fact only against literal 0, namely x >= 1."
-unfoldable pub differs : FactSet → ℕ → ℕ → ℕ → FactSet
-differs f x y k = pickFacts (eqb y zeroVar && eqb k 0) (positive f x) f
-
--- "A condition gives its facts (< is <= with one less, == both ways)": left RELATION right + k, by the relation's number.
-unfoldable pub relationFacts : ℕ → FactSet → ℕ → ℕ → ℕ → FactSet
-relationFacts zero f x y k = added f x y (bias + k - 1)
-relationFacts (suc zero) f x y k = added f y x (bias - k)
-relationFacts (suc (suc zero)) f x y k = added f y x (bias - k - 1)
-relationFacts (suc (suc (suc zero))) f x y k = added f x y (bias + k)
-relationFacts (suc (suc (suc (suc zero)))) f x y k = equated f x y (bias + k)
-relationFacts (suc (suc (suc (suc (suc n))))) f x y k = differs f x y k
-
-unfoldable pub conditionFacts : FactSet → Condition → FactSet
-conditionFacts f c = relationFacts (c .relation) f (c .left) (c .right) (c .offset)
-
--- "Kind 2: when 0 <= y + k <= 4,294,967,295 is shown (`inRange`), x equals y + k (for x = y the facts are shifted); otherwise drop x."
-unfoldable pub sumFacts : Bool → Bool → FactSet → ℕ → ℕ → ℕ → FactSet
-sumFacts fits same f x y k = pickFacts fits (pickFacts same (shifted f x k) (equated (dropped f x) x y k)) (dropped f x)
-
--- "Kind 6: p = q + k, shifted for p = q; where k is not 0 also p >= 1."
-unfoldable pub offsetFacts : Bool → Bool → FactSet → ℕ → ℕ → ℕ → FactSet
-offsetFacts same plain f p q k =
-    let moved = pickFacts same (shifted f p k) (equated (dropped f p) p q k) in
-    pickFacts plain moved (positive moved p)
-
--- The facts after a statement of kinds 1 to 10.
-unfoldable pub factsAfter : Simple → FactSet → FactSet
--- "Kind 1: drop x, then x equals the literal."
-factsAfter (Literal x k) f = ranged f x k k
-factsAfter (AddConstant x y k) f = sumFacts (inRange f y k) (eqb x y) f x y k
--- "Kinds 3, 8 and any later kind that sets an integer: drop x."
-factsAfter (Arithmetic x y z op) f = dropped f x
--- "Kind 4: p = 0." As "every assignment drops its target before facts are added".
-factsAfter (Null p) f = ranged f p 0 0
--- "Kind 5: drop p, p >= 1."
-factsAfter (Address p o) f = ranged f p 1 maxValue
-factsAfter (PointerOffset p q k) f = offsetFacts (eqb p q) (eqb k bias) f p q k
--- "Kind 7: drop p, p >= 1."
-factsAfter (PointerIndex p q i) f = ranged f p 1 maxValue
-factsAfter (Load x p i k) f = dropped f x
-factsAfter (Store p i k x) f = f
--- "A condition gives its facts after a dynamic check"
-factsAfter (Check c) f = conditionFacts f c
-
--- "variables assigned in the body are dropped first": each variable, by its number, that is among the targets.
+-- A number among others.
 unfoldable pub among : ℕ → List ℕ → Bool
 among v [] = false
 among v (x ∷ xs) = eqb v x || among v xs
 
-unfoldable pub droppedEach : ℕ → (ℕ → Bool) → FactSet → FactSet
-droppedEach zero lost f = f
-droppedEach (suc n) lost f = pickFacts (lost n) (dropped (droppedEach n lost f) n) (droppedEach n lost f)
+module _ (S : FactSets) where
+  open FactSets S using (Facts, added, dropped, ranged, shifted, shown)
 
-unfoldable pub loopFacts : List ℕ → FactSet → FactSet
-loopFacts targets f = droppedEach 16 (λ v. among v targets) f
+  -- x = y + k, with the bias in k: both x <= y + k and y <= x - k.
+  unfoldable pub equated : Facts → ℕ → ℕ → ℕ → Facts
+  equated f x y k = added (added f x y k) y x (bias + bias - k)
+
+  -- x >= 1
+  unfoldable pub positive : Facts → ℕ → Facts
+  positive f x = added f zeroVar x (bias - 1)
+
+  -- "!= gives a fact only against literal 0, namely x >= 1."
+  unfoldable pub differs : Facts → ℕ → ℕ → ℕ → Facts
+  differs f x y k = cond (eqb y zeroVar && eqb k 0) (positive f x) f
+
+  -- "A condition gives its facts (< is <= with one less, == both ways)": left RELATION right + k, by the relation's number.
+  unfoldable pub relationFacts : ℕ → Facts → ℕ → ℕ → ℕ → Facts
+  relationFacts zero f x y k = added f x y (bias + k - 1)
+  relationFacts (suc zero) f x y k = added f y x (bias - k)
+  relationFacts (suc (suc zero)) f x y k = added f y x (bias - k - 1)
+  relationFacts (suc (suc (suc zero))) f x y k = added f x y (bias + k)
+  relationFacts (suc (suc (suc (suc zero)))) f x y k = equated f x y (bias + k)
+  relationFacts (suc (suc (suc (suc (suc n))))) f x y k = differs f x y k
+
+  unfoldable pub conditionFacts : Facts → Condition → Facts
+  conditionFacts f c = relationFacts (c .relation) f (c .left) (c .right) (c .offset)
+
+  -- "0 <= y + k <= 4,294,967,295 is shown": 0 <= y + k, and y <= 4,294,967,295 - k; "a plain copy always counts as shown".
+  abbrev pub inRange : Facts → ℕ → ℕ → Bool
+  inRange f y k = eqb k bias || shown f zeroVar y k && shown f y zeroVar (bias + maxValue + bias - k)
+
+  -- "Kind 2: when 0 <= y + k <= 4,294,967,295 is shown (`inRange`), x equals y + k (for x = y the facts are shifted); otherwise drop x."
+  unfoldable pub sumFacts : Bool → Bool → Facts → ℕ → ℕ → ℕ → Facts
+  sumFacts fits same f x y k = cond fits (cond same (shifted f x k) (equated (dropped f x) x y k)) (dropped f x)
+
+  -- "Kind 6: p = q + k, shifted for p = q; where k is not 0 also p >= 1."
+  unfoldable pub offsetFacts : Bool → Bool → Facts → ℕ → ℕ → ℕ → Facts
+  offsetFacts same plain f p q k =
+      let moved = cond same (shifted f p k) (equated (dropped f p) p q k) in
+      cond plain moved (positive moved p)
+
+  -- The facts after a statement of kinds 1 to 10.
+  unfoldable pub factsAfter : Simple → Facts → Facts
+  -- "Kind 1: drop x, then x equals the literal."
+  factsAfter (Literal x k) f = ranged f x k k
+  factsAfter (AddConstant x y k) f = sumFacts (inRange f y k) (eqb x y) f x y k
+  -- "Kinds 3, 8 and any later kind that sets an integer: drop x."
+  factsAfter (Arithmetic x y z op) f = dropped f x
+  -- "Kind 4: p = 0." As "every assignment drops its target before facts are added".
+  factsAfter (Null p) f = ranged f p 0 0
+  -- "Kind 5: drop p, p >= 1."
+  factsAfter (Address p o) f = ranged f p 1 maxValue
+  factsAfter (PointerOffset p q k) f = offsetFacts (eqb p q) (eqb k bias) f p q k
+  -- "Kind 7: drop p, p >= 1."
+  factsAfter (PointerIndex p q i) f = ranged f p 1 maxValue
+  factsAfter (Load x p i k) f = dropped f x
+  factsAfter (Store p i k x) f = f
+  -- "A condition gives its facts after a dynamic check"
+  factsAfter (Check c) f = conditionFacts f c
+
+  -- "variables assigned in the body are dropped first": each variable, by its number, that is among the targets.
+  unfoldable pub droppedEach : ℕ → (ℕ → Bool) → Facts → Facts
+  droppedEach zero lost f = f
+  droppedEach (suc n) lost f = cond (lost n) (dropped (droppedEach n lost f) n) (droppedEach n lost f)
+
+  unfoldable pub loopFacts : List ℕ → Facts → Facts
+  loopFacts targets f = droppedEach 16 (λ v. among v targets) f

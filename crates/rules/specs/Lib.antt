@@ -1,3 +1,10 @@
+pub mod Decidable
+pub mod ByChains
+pub mod Representation
+pub mod Fair
+pub mod Agreement
+pub mod FactSets
+pub mod Stored
 pub mod FactRules
 pub mod BoundsRules
 pub mod Rules
@@ -6,7 +13,6 @@ pub mod Ranges
 pub mod RuleLaws
 pub mod AcceptedLaws
 pub mod Routines
-pub mod Exactness
 pub mod FactsTrue
 pub mod BoundsTrue
 pub mod EnvironmentLaws

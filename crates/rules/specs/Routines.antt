@@ -1,9 +1,9 @@
 -- The paper's "Routines to try", (a) to (l): one table of routines with their verdicts, shown of the written rules by one statement.
-use mathlib.Core.Path.{_≡_, refl}
+use mathlib.Core.Path.{_≡_, refl, sym, _∙_}
 use mathlib.Core.List.{List, [], _∷_, map}
 use lib.IntN.{ℤ, pos, negsuc}
 use Rattle.sums.specs.Sums.{concatenated}
-use Rattle.facts.specs.Store.{leastSum, shown, endShown, inRange, newRow, newSet, loweredRow, lowered, marked, added, ownRow, reroutedRow, reassigned, ranged, dropped, shifted, joinedSum, joinedRow, joined}
+use Rattle.facts.specs.Store.{leastSum, shown, endShown, newRow, newSet, loweredRow, lowered, marked, added, ownRow, reroutedRow, reassigned, ranged, dropped, shifted, joinedSum, joinedRow, joined}
 use Rattle.arrays.specs.Tabulate.{tabulate}
 use Rattle.words.specs.Words.{fieldsAt, biased, word}
 use Rattle.fields.specs.Fields.{indexOf, isBelow, isLiteral, literalValue, isConstant}
@@ -14,15 +14,24 @@ use Rattle.statements.specs.Statements.{unusedFrom, literalRead, addConstantRea
 use Rattle.variables.specs.Variables.{endWordsAt, variableWordsAt, endRight, endZero, endOf, integerRecord, pointerRecord, variableOf, variableAt, objectAt}
 use Rattle.table.specs.Form.{lengthRight, isNumber, sectionsOf, directoryRight, objectRight, variableReads, statementReads, lowestFrom, lowestObject, lowestVariable, lowestStatement, itemsForm, formOf}
 use Rattle.blocks.specs.Layout.{also, when, contents, bundleLayout, blockLayout, layout, verdict}
-use Rattle.flow.specs.Shape.{size, targetsFrom}
+use Rattle.flow.specs.Shape.{size}
+use Rattle.flow.specs.Targets.{targetsFrom}
 use Rattle.blocks.specs.Tree.{simples, parse, tree, targets, assigned}
-use Rattle.rules.specs.BoundsRules.{forgetEnd, shiftConstant, shiftEnd, forgetBounds, shiftBounds, objectBounds, effectOn, boundsAfter, effect, endAtMost, knownAtMost, boundsShown, unshownFrom, unshown, accessShown}
-use Rattle.rules.specs.FactRules.{equated, positive, differs, relationFacts, conditionFacts, sumFacts, offsetFacts, factsAfter, among, droppedEach, loopFacts}
-use Rattle.rules.specs.Rules.{also as checker-also, faultIf, accessAt, boundsAt, bundleFacts, bundleBounds, bundleFaults, blockFacts, blockFaults}
-use Rattle.rules.specs.Verdict.{environmentOf, sectionFaults, faults, Answers, lowestVerdict}
+use Rattle.rules.specs.BoundsRules.{forgetEnd, forgetBounds, objectBounds}
+use Rattle.rules.specs.Stored.{effect, endAtMost, knownAtMost, boundsShown, unshownFrom, unshown, accessShown, equated, positive, differs, relationFacts, conditionFacts, sumFacts, offsetFacts, factsAfter, droppedEach, loopFacts, bundleFacts, bundleBounds, bundleFaults, blockFacts, blockFaults, sectionFaults, faults, shiftConstant, shiftEnd, shiftBounds, effectOn, boundsAfter}
+use Rattle.rules.specs.FactRules.{among}
+use Rattle.rules.specs.Rules.{also as checker-also, faultIf, accessAt, boundsAt}
+use Rattle.rules.specs.Verdict.{environmentOf, Answers, lowestVerdict}
+use Rattle.rules.specs.ByChains.{Decided, chainFaults}
+use Rattle.rules.specs.Decidable.{decided}
+use Rattle.rules.specs.Agreement.{same-lowest, faults-agree}
 use Rattle.refusals.specs.declared.Refusal.the-variants.{Contradiction, BoundsNotShown, BundleAccess}
 use Rattle.rules.specs.declared.Verdict.{Verdict}
 use Rattle.rules.specs.declared.Verdict.the-variants.{Accepted, Refused}
+use Rattle.rules.specs.BoundsRules as boundsRules
+use Rattle.rules.specs.FactRules as factRules
+use Rattle.rules.specs.Rules as walkRules
+use Rattle.rules.specs.Verdict as verdictRules
 
 pub record Routine : Type 0 where
   pub table : List ℤ
@@ -71,6 +80,21 @@ routines =
     (Refused (Contradiction 1)) ∷
     []
 
-pub right : map (λ (r : Routine). lowestVerdict (faults (r .table))) routines ≡ map (λ (r : Routine). r .verdict) routines
-unfolding routines concatenated leastSum shown endShown newRow newSet loweredRow lowered marked added ownRow reroutedRow reassigned ranged dropped shifted joinedSum joinedRow joined tabulate lengthRight isNumber sectionsOf directoryRight objectRight variableReads statementReads lowestFrom lowestObject lowestVariable lowestStatement itemsForm formOf negation negatedOf inLimits isVariable kindAt integerAt pointerAt namesInteger namesPointer namesIndex fieldsAt unusedFrom literalRead addConstantRead arithmeticRead nullRead addressRead pointerOffsetRead pointerIndexRead loadRead storeRead sameKind besideLiteral conditionRight rightOf offsetOf conditionOf bundleRead checkRead ifRead whileRead kindRead statementAt endWordsAt variableWordsAt endRight endZero endOf integerRecord pointerRecord variableOf variableAt objectAt biased word indexOf isBelow isLiteral literalValue isConstant also when contents bundleLayout blockLayout layout verdict size targetsFrom simples parse tree targets assigned forgetEnd shiftConstant shiftEnd forgetBounds shiftBounds objectBounds effectOn boundsAfter effect endAtMost knownAtMost boundsShown unshownFrom unshown accessShown equated positive differs relationFacts conditionFacts inRange sumFacts offsetFacts factsAfter among droppedEach loopFacts checker-also faultIf accessAt boundsAt bundleFacts bundleBounds bundleFaults blockFacts blockFaults environmentOf sectionFaults faults Answers lowestVerdict
-right = refl
+computed : map (λ (r : Routine). lowestVerdict (faults (r .table))) routines ≡ map (λ (r : Routine). r .verdict) routines
+unfolding routines concatenated leastSum shown endShown newRow newSet loweredRow lowered marked added ownRow reroutedRow reassigned ranged dropped shifted joinedSum joinedRow joined tabulate lengthRight isNumber sectionsOf directoryRight objectRight variableReads statementReads lowestFrom lowestObject lowestVariable lowestStatement itemsForm formOf negation negatedOf inLimits isVariable kindAt integerAt pointerAt namesInteger namesPointer namesIndex fieldsAt unusedFrom literalRead addConstantRead arithmeticRead nullRead addressRead pointerOffsetRead pointerIndexRead loadRead storeRead sameKind besideLiteral conditionRight rightOf offsetOf conditionOf bundleRead checkRead ifRead whileRead kindRead statementAt endWordsAt variableWordsAt endRight endZero endOf integerRecord pointerRecord variableOf variableAt objectAt biased word indexOf isBelow isLiteral literalValue isConstant also when contents bundleLayout blockLayout layout verdict size targetsFrom simples parse tree targets assigned forgetEnd shiftConstant boundsRules.shiftEnd forgetBounds boundsRules.shiftBounds objectBounds boundsRules.effectOn boundsRules.boundsAfter boundsRules.effect boundsRules.endAtMost boundsRules.knownAtMost boundsRules.boundsShown boundsRules.unshownFrom boundsRules.unshown boundsRules.accessShown factRules.equated factRules.positive factRules.differs factRules.relationFacts factRules.conditionFacts factRules.sumFacts factRules.offsetFacts factRules.factsAfter among factRules.droppedEach factRules.loopFacts checker-also faultIf accessAt boundsAt walkRules.bundleFacts walkRules.bundleBounds walkRules.bundleFaults walkRules.blockFacts walkRules.blockFaults environmentOf verdictRules.sectionFaults verdictRules.faults Answers lowestVerdict
+computed = refl
+
+-- By the paper's chains, the rules give each routine its verdict.
+abbrev pub Given : List Routine → Type 0
+Given [] = Unit {0}
+Given (r ∷ rs) = Decided (r .table) (λ d. lowestVerdict (chainFaults d (r .table)) ≡ r .verdict) × Given rs
+
+given : (rs : List Routine) → map (λ (r : Routine). lowestVerdict (faults (r .table))) rs ≡ map (λ (r : Routine). r .verdict) rs → Given rs
+given [] e = tt
+given (r ∷ rs) e =
+    let e₁ : lowestVerdict (faults (r .table)) ≡ r .verdict = cc in
+    let e₂ : map (λ (r : Routine). lowestVerdict (faults (r .table))) rs ≡ map (λ (r : Routine). r .verdict) rs = cc in
+    (decided _ _ (λ d c. sym (same-lowest (faults (r .table)) (chainFaults d (r .table)) (faults-agree (r .table) d c)) ∙ e₁), given rs e₂)
+
+pub right : Given routines
+right = given routines computed

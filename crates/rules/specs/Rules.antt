@@ -3,15 +3,14 @@ use Prim.Native.Nat.{ℕ, _+_}
 use mathlib.Core.Bool.{Bool, true, false}
 use mathlib.Core.List.{List, [], _∷_}
 use lib.IntN.{ℤ}
-use Rattle.facts.specs.Store.{contradictory, joined}
-use Rattle.facts.specs.declared.FactSet.{FactSet}
 use Rattle.refusals.specs.declared.Refusal.{Refusal}
 use Rattle.refusals.specs.declared.Refusal.the-variants.{StatementRecord, Contradiction, BundleAccess}
 use Rattle.sections.specs.declared.Sections.{Sections}
 use Rattle.conditions.specs.Negation.{negatedOf}
 use Rattle.statements.specs.declared.Simple.{Simple}
 use Rattle.blocks.specs.Tree.{Block, nil, plain, branch, loop, bundle, unread}
-use Rattle.flow.specs.Shape.{targetsFrom}
+use Rattle.flow.specs.Targets.{targetsFrom}
+use Rattle.rules.specs.FactSets.{FactSets}
 use Rattle.rules.specs.FactRules.{factsAfter, conditionFacts, loopFacts}
 use Rattle.rules.specs.BoundsRules.{isPointer, effect, boundsAfter, unshown, accessShown}
 use Rattle.rules.specs.declared.Bounds.{Bounds}
@@ -31,10 +30,6 @@ unfoldable pub faultIf : Bool → Refusal → List Fault
 faultIf true r = refusal r ∷ []
 faultIf false r = []
 
--- "facts contradict before a statement"
-abbrev pub contradictionAt : FactSet → ℕ → List Fault
-contradictionAt f a = faultIf (contradictory f) (Contradiction a)
-
 -- "access in a bundle, bounds not shown"
 unfoldable pub accessAt : Bool → ℕ → List Fault
 accessAt true a = []
@@ -45,54 +40,61 @@ unfoldable pub boundsAt : ℕ → List ℕ → List Fault
 boundsAt a [] = []
 boundsAt a (p ∷ ps) = notShown a p ps ∷ []
 
--- ---- the statements of a bundle, from number a on
+module _ (S : FactSets) where
+  open FactSets S using (Facts, joined, contradictory)
 
-unfoldable pub bundleFacts : List Simple → FactSet → FactSet
-bundleFacts [] f = f
-bundleFacts (s ∷ ss) f = bundleFacts ss (factsAfter s f)
+  -- "facts contradict before a statement"
+  abbrev pub contradictionAt : Facts → ℕ → List Fault
+  contradictionAt f a = faultIf (contradictory f) (Contradiction a)
 
-unfoldable pub bundleBounds : Environment → List Simple → FactSet → List Bounds → List Bounds
-bundleBounds E [] f K = K
-bundleBounds E (s ∷ ss) f K = bundleBounds E ss (factsAfter s f) (boundsAfter (effect E f s) K)
+  -- ---- the statements of a bundle, from number a on
 
-unfoldable pub bundleFaults : Environment → ℕ → List Simple → FactSet → List Bounds → List Fault
-bundleFaults E a [] f K = []
-bundleFaults E a (s ∷ ss) f K =
-    also (contradictionAt f a) (also (accessAt (accessShown E f K s) a) (bundleFaults E (a + 1) ss (factsAfter s f) (boundsAfter (effect E f s) K)))
+  unfoldable pub bundleFacts : List Simple → Facts → Facts
+  bundleFacts [] f = f
+  bundleFacts (s ∷ ss) f = bundleFacts ss (factsAfter S s f)
 
--- ---- blocks. Outside a bundle the known bounds are the declared ones: "all declared bounds must be shown and become the known ones".
+  unfoldable pub bundleBounds : Environment → List Simple → Facts → List Bounds → List Bounds
+  bundleBounds E [] f K = K
+  bundleBounds E (s ∷ ss) f K = bundleBounds E ss (factsAfter S s f) (boundsAfter S (effect S E f s) K)
 
-module _ (T : List ℤ) (h : Sections) (E : Environment) where
-  abbrev pub sidesJoined : FactSet → FactSet → FactSet
-  sidesJoined f g = joined (isPointer E) f g
+  unfoldable pub bundleFaults : Environment → ℕ → List Simple → Facts → List Bounds → List Fault
+  bundleFaults E a [] f K = []
+  bundleFaults E a (s ∷ ss) f K =
+      also (contradictionAt f a) (also (accessAt (accessShown S E f K s) a) (bundleFaults E (a + 1) ss (factsAfter S s f) (boundsAfter S (effect S E f s) K)))
 
-  -- The facts after a block. "If: the negated condition holds in the else block; afterwards what both sides show. While: variables assigned in the
-  -- body are dropped first; then the condition holds in the body and its negation after it."
-  unfoldable pub blockFacts : Block → FactSet → FactSet
-  blockFacts nil f = f
-  blockFacts (plain a s r) f = blockFacts r (factsAfter s f)
-  blockFacts (branch a c t e r) f = blockFacts r (sidesJoined (blockFacts t (conditionFacts f c)) (blockFacts e (conditionFacts f (negatedOf c))))
-  blockFacts (loop a c n t r) f = blockFacts r (conditionFacts (loopFacts (targetsFrom T h (a + 1) n) f) (negatedOf c))
-  blockFacts (bundle a ss r) f = blockFacts r (bundleFacts ss f)
-  blockFacts (unread a) f = f
+  -- ---- blocks. Outside a bundle the known bounds are the declared ones: "all declared bounds must be shown and become the known ones".
 
-  -- All faults of a block in table order: "statements in table order: 7, 9, the statement, 8".
-  unfoldable pub blockFaults : Block → FactSet → List Fault
-  blockFaults nil f = []
-  blockFaults (plain a s r) f =
-      also (contradictionAt f a) (also (boundsAt a (unshown E (factsAfter s f) (boundsAfter (effect E f s) (E .declared)))) (blockFaults r (factsAfter s f)))
-  blockFaults (branch a c t e r) f =
-      also (contradictionAt f a)
-      (also (blockFaults t (conditionFacts f c))
-      (also (blockFaults e (conditionFacts f (negatedOf c)))
-      (blockFaults r (sidesJoined (blockFacts t (conditionFacts f c)) (blockFacts e (conditionFacts f (negatedOf c)))))))
-  blockFaults (loop a c n t r) f =
-      also (contradictionAt f a)
-      (also (blockFaults t (conditionFacts (loopFacts (targetsFrom T h (a + 1) n) f) c))
-      (blockFaults r (conditionFacts (loopFacts (targetsFrom T h (a + 1) n) f) (negatedOf c))))
-  blockFaults (bundle a ss r) f =
-      also (contradictionAt f a)
-      (also (bundleFaults E (a + 1) ss f (E .declared))
-      (also (boundsAt a (unshown E (bundleFacts ss f) (bundleBounds E ss f (E .declared))))
-      (blockFaults r (bundleFacts ss f))))
-  blockFaults (unread a) f = refusal (StatementRecord a) ∷ []
+  module _ (T : List ℤ) (h : Sections) (E : Environment) where
+    abbrev pub sidesJoined : Facts → Facts → Facts
+    sidesJoined f g = joined (isPointer E) f g
+
+    -- The facts after a block. "If: the negated condition holds in the else block; afterwards what both sides show. While: variables assigned in the
+    -- body are dropped first; then the condition holds in the body and its negation after it."
+    unfoldable pub blockFacts : Block → Facts → Facts
+    blockFacts nil f = f
+    blockFacts (plain a s r) f = blockFacts r (factsAfter S s f)
+    blockFacts (branch a c t e r) f = blockFacts r (sidesJoined (blockFacts t (conditionFacts S f c)) (blockFacts e (conditionFacts S f (negatedOf c))))
+    blockFacts (loop a c n t r) f = blockFacts r (conditionFacts S (loopFacts S (targetsFrom T h (a + 1) n) f) (negatedOf c))
+    blockFacts (bundle a ss r) f = blockFacts r (bundleFacts ss f)
+    blockFacts (unread a) f = f
+
+    -- All faults of a block in table order: "statements in table order: 7, 9, the statement, 8".
+    unfoldable pub blockFaults : Block → Facts → List Fault
+    blockFaults nil f = []
+    blockFaults (plain a s r) f =
+        also (contradictionAt f a) (also (boundsAt a (unshown S E (factsAfter S s f) (boundsAfter S (effect S E f s) (E .declared)))) (blockFaults r (factsAfter S s f)))
+    blockFaults (branch a c t e r) f =
+        also (contradictionAt f a)
+        (also (blockFaults t (conditionFacts S f c))
+        (also (blockFaults e (conditionFacts S f (negatedOf c)))
+        (blockFaults r (sidesJoined (blockFacts t (conditionFacts S f c)) (blockFacts e (conditionFacts S f (negatedOf c)))))))
+    blockFaults (loop a c n t r) f =
+        also (contradictionAt f a)
+        (also (blockFaults t (conditionFacts S (loopFacts S (targetsFrom T h (a + 1) n) f) c))
+        (blockFaults r (conditionFacts S (loopFacts S (targetsFrom T h (a + 1) n) f) (negatedOf c))))
+    blockFaults (bundle a ss r) f =
+        also (contradictionAt f a)
+        (also (bundleFaults E (a + 1) ss f (E .declared))
+        (also (boundsAt a (unshown S E (bundleFacts ss f) (bundleBounds E ss f (E .declared))))
+        (blockFaults r (bundleFacts ss f))))
+    blockFaults (unread a) f = refusal (StatementRecord a) ∷ []

@@ -4,7 +4,6 @@ use mathlib.Core.Path.{_≡_}
 use mathlib.Core.List.{List, [], _∷_, List·Memᴰ}
 use lib.IntN.{ℤ}
 use Rattle.arrays.specs.Tabulate.{tabulate}
-use Rattle.facts.specs.Store.{newSet}
 use Rattle.refusals.specs.declared.Refusal.{Refusal}
 use Rattle.refusals.specs.declared.Refusal.the-variants.{BoundsNotShown}
 use Rattle.sections.specs.Sections.{pointerAt}
@@ -18,6 +17,7 @@ use Rattle.table.specs.declared.Form.{Form}
 use Rattle.table.specs.declared.Form.the-variants as form
 use Rattle.blocks.specs.Tree.{tree}
 use Rattle.blocks.specs.Layout.{layout}
+use Rattle.rules.specs.FactSets.{FactSets}
 use Rattle.rules.specs.BoundsRules.{nothingKnown}
 use Rattle.rules.specs.Rules.{Fault, refusal, notShown, also, blockFaults}
 use Rattle.rules.specs.declared.KnownEnd.the-variants.{Known}
@@ -47,18 +47,19 @@ abbrev pub refusals : List Refusal → List Fault
 refusals [] = []
 refusals (r ∷ rs) = refusal r ∷ refusals rs
 
--- Cause 6, then the walk, begun with what is always known.
-unfoldable pub sectionFaults : List ℤ → Sections → List Fault
-sectionFaults T h = also (refusals (layout T h)) (blockFaults T h (environmentOf T h) (tree T h) newSet)
+module _ (S : FactSets) where
+  -- Cause 6, then the walk, begun with what is always known.
+  unfoldable pub sectionFaults : List ℤ → Sections → List Fault
+  sectionFaults T h = also (refusals (layout T h)) (blockFaults S T h (environmentOf T h) (tree T h) (S .new))
 
--- The first of the causes 1 to 5, else what follows them.
-abbrev pub formFaults : List ℤ → Form → List Fault
-formFaults T (form.Refused r) = refusal r ∷ []
-formFaults T (form.WellFormed h) = sectionFaults T h
+  -- The first of the causes 1 to 5, else what follows them.
+  abbrev pub formFaults : List ℤ → Form → List Fault
+  formFaults T (form.Refused r) = refusal r ∷ []
+  formFaults T (form.WellFormed h) = sectionFaults T h
 
--- All faults of a table in the order of the paper; the first is the verdict, and a table with none is accepted.
-unfoldable pub faults : List ℤ → List Fault
-faults T = formFaults T (formOf T)
+  -- All faults of a table in the order of the paper; the first is the verdict, and a table with none is accepted.
+  unfoldable pub faults : List ℤ → List Fault
+  faults T = formFaults T (formOf T)
 
 -- What a verdict says: "accepted if the printed rules accept it and refused, by the first rule it breaks, if they do not".
 -- Refusal 8 names "some pointer not shown": the program chooses one of them.

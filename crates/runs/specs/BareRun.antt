@@ -1,7 +1,7 @@
 -- Runs of the plain machine without origins, which is what the code does.
 use Prim.Native.Nat.{ℕ, zero, suc, _+_}
 use mathlib.Core.Path.{_≡_}
-use mathlib.Core.Bool.{Bool, true, false}
+use mathlib.Core.Bool.{Bool, true, false, cond}
 use mathlib.Core.List.{List}
 use lib.Dec.{ltb}
 use lib.IntN.{ℤ}
@@ -21,10 +21,6 @@ pub record Result : Type 0 where
 abbrev pub result : Outcome → List ℕ → List ℕ → Result
 result o vs cs = record { outcome = o; values = vs; cells = cs }
 
-abbrev pub pickResult : Bool → Result → Result → Result
-pickResult true a b = a
-pickResult false a b = b
-
 -- After a step, the n-th, to the values vs and the cells cs.
 abbrev pub follow : Step → (ℕ → Result) → ℕ → List ℕ → List ℕ → Result
 follow (Go b) go n vs cs = go b
@@ -43,10 +39,10 @@ Onward (Stop c) A = Unit {0}
 module _ (T : List ℤ) (h : Sections) (W D S : List ℕ) where
   -- From the statement due with n steps made: done where nothing is due, spent where the limit is used, else the step.
   unfoldable pub bareRun : ℕ → ℕ → ℕ → List ℕ → List ℕ → Result
-  bareRun zero n a vs cs = pickResult (ltb a (h .statements)) (result (Spent n a) vs cs) (result (Done n) vs cs)
+  bareRun zero n a vs cs = cond (ltb a (h .statements)) (result (Spent n a) vs cs) (result (Done n) vs cs)
   bareRun (suc l) n a vs cs =
       let m = bareMove T h W D S a vs cs in
-      pickResult (ltb a (h .statements))
+      cond (ltb a (h .statements))
       (follow (m .said) (λ b. bareRun l (n + 1) b (m .values) (m .cells)) (n + 1) (m .values) (m .cells))
       (result (Done n) vs cs)
 

@@ -1,7 +1,7 @@
 -- What the tests of a field say.
 use Prim.Native.Nat.{ℕ, _+_, _-_, _<_}
 use mathlib.Core.Path.{_≡_, refl}
-use mathlib.Core.Bool.{Bool, true, false, _||_}
+use mathlib.Core.Bool.{Bool, true, false, _||_, cond}
 use mathlib.Core.List.{List}
 use mathlib.Core.Logic.{_⊎_, inl, inr}
 use lib.IntN.{ℤ}
@@ -10,9 +10,9 @@ use borrow.Author.Tests.{leb-true, ltb-true, eqb-true}
 use native.Mathlib.Omega.{arith}
 use Rattle.sums.specs.Numbers.{bias, zeroVar}
 use Rattle.words.specs.Words.{word}
-use Rattle.fields.specs.Fields.{plain, pickNumber, indexOf, literalLimit, literalValue, isBelow, isLiteral, isConstant}
-use Rattle.sections.specs.Sections.{isVariable, variableStart, kindAt, integerAt, pointerAt, namesInteger, namesPointer, namesIndex}
-use Rattle.sections.specs.SectionsLaws.{both, Limits, variable-limits}
+use Rattle.fields.specs.Fields.{plain, indexOf, literalLimit, literalValue, isBelow, isLiteral, isConstant}
+use Rattle.sections.specs.Sections.{isVariable, variableStart, kindAt, integerAt, pointerAt, namesInteger, namesPointer, namesIndex, Limits}
+use Rattle.sections.specs.SectionsLaws.{both, variable-limits}
 use Rattle.sections.specs.Typed.{IsInteger, IsPointer, IsIndex, missing, given, IsSmall}
 use Rattle.sections.specs.declared.Sections.{Sections}
 
@@ -40,7 +40,7 @@ module _ (table : List ℤ) (h : Sections) where
   unfolding kindAt
   kind-within v n l e = go (isVariable h v) refl e
     where
-      go : (b : Bool) → isVariable h v ≡ b → pickNumber b (word table (variableStart h v)) (bias + 2) ≡ n → isVariable h v ≡ true
+      go : (b : Bool) → isVariable h v ≡ b → cond b (word table (variableStart h v)) (bias + 2) ≡ n → isVariable h v ≡ true
       go true q g = q
       go false q g = absurd (omega arith)
 
@@ -64,6 +64,6 @@ module _ (table : List ℤ) (h : Sections) where
   unfolding namesIndex indexOf
   index-named w e = go (eqb w (bias - 1)) e
     where
-      go : (b : Bool) → (b || namesInteger table h w) ≡ true → IsIndex table h (pickNumber b zeroVar (plain w))
+      go : (b : Bool) → (b || namesInteger table h w) ≡ true → IsIndex table h (cond b zeroVar (plain w))
       go true g = missing refl
       go false g = given (integer-named w g)

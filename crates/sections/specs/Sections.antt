@@ -1,17 +1,24 @@
 -- The sections of a table, and what a word of a record names.
-use Prim.Native.Nat.{ℕ, _+_, _-_, _*_}
-use mathlib.Core.Bool.{Bool, _&&_, _||_}
+use Prim.Native.Nat.{ℕ, _+_, _-_, _*_, _≤_}
+use mathlib.Core.Bool.{Bool, _&&_, _||_, cond}
 use mathlib.Core.List.{List}
 use lib.IntN.{ℤ}
 use lib.Dec.{leb, ltb, eqb}
 use Rattle.sums.specs.Numbers.{bias}
 use Rattle.words.specs.Words.{word}
-use Rattle.fields.specs.Fields.{plain, pickNumber}
+use Rattle.fields.specs.Fields.{plain}
 use Rattle.sections.specs.declared.Sections.{Sections}
 
 -- "At most 16" objects, "1 to 16" variables, "at most 1,024" statements.
 unfoldable pub inLimits : Sections → Bool
 inLimits h = leb (h .objects) 16 && leb 1 (h .variables) && leb (h .variables) 16 && leb (h .statements) 1024
+
+-- The same as facts.
+pub record Limits (h : Sections) : Type 0 where
+  pub objects : h .objects ≤ 16
+  pub some : 1 ≤ h .variables
+  pub variables : h .variables ≤ 16
+  pub statements : h .statements ≤ 1024
 
 -- "Objects: one word each", "Variables: 8 words each", "Statements: 7 words each", the sections one after the other from word 6.
 abbrev pub objectStart : ℕ → ℕ
@@ -29,7 +36,7 @@ isVariable h v = inLimits h && ltb v (h .variables)
 
 -- "Kind (0 integer, 1 array_ptr)": the kind word alone decides. There is no kind 2, which stands for no variable.
 unfoldable pub kindAt : List ℤ → Sections → ℕ → ℕ
-kindAt table h v = pickNumber (isVariable h v) (word table (variableStart h v)) (bias + 2)
+kindAt table h v = cond (isVariable h v) (word table (variableStart h v)) (bias + 2)
 
 unfoldable pub integerAt : List ℤ → Sections → ℕ → Bool
 integerAt table h v = eqb (kindAt table h v) bias

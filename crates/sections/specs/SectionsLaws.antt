@@ -1,22 +1,16 @@
 -- Laws of the sections.
-use Prim.Native.Nat.{ℕ, _≤_, _<_}
+use Prim.Native.Nat.{ℕ, _<_}
 use mathlib.Core.Path.{_≡_, refl}
 use mathlib.Core.Bool.{Bool, true, false, _&&_, false≢true}
 use lib.Dec.{leb, ltb}
 use borrow.Author.Tests.{leb-true, ltb-true}
-use Rattle.sections.specs.Sections.{inLimits, isVariable}
+use Rattle.sections.specs.Sections.{inLimits, Limits, isVariable}
 use Rattle.sections.specs.declared.Sections.{Sections}
 
 -- Two tests that hold together.
 pub both : (a b : Bool) → (a && b) ≡ true → (a ≡ true) × (b ≡ true)
 both true b e = (refl, e)
 both false b e = absurd (false≢true e)
-
-pub record Limits (h : Sections) : Type 0 where
-  pub objects : h .objects ≤ 16
-  pub some : 1 ≤ h .variables
-  pub variables : h .variables ≤ 16
-  pub statements : h .statements ≤ 1024
 
 pub limits : (h : Sections) → inLimits h ≡ true → Limits h
 unfolding inLimits

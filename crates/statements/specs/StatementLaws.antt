@@ -1,7 +1,7 @@
 -- Laws of the reading of statements.
 use Prim.Native.Nat.{ℕ, _^_, _<_}
 use mathlib.Core.Path.{_≡_, refl}
-use mathlib.Core.Bool.{Bool, true, false, _&&_}
+use mathlib.Core.Bool.{Bool, true, false, _&&_, cond}
 use mathlib.Core.List.{List}
 use lib.IntN.{ℤ}
 use lib.Dec.{ltb, eqb}
@@ -10,14 +10,14 @@ use native.Mathlib.Omega.{arith}
 use Rattle.words.specs.Words.{fieldsAt}
 use Rattle.words.specs.declared.Fields.{Fields}
 use Rattle.fields.specs.Fields.{plain, isCount, isBelow, isLiteral, isConstant}
-use Rattle.sections.specs.Sections.{inLimits, statementStart, namesInteger, namesPointer, namesIndex}
-use Rattle.sections.specs.SectionsLaws.{both, Limits, statement-limits}
+use Rattle.sections.specs.Sections.{inLimits, statementStart, namesInteger, namesPointer, namesIndex, Limits}
+use Rattle.sections.specs.SectionsLaws.{both, statement-limits}
 use Rattle.sections.specs.NameLaws.{below-holds, literal-small, constant-small, integer-named, pointer-named, index-named}
 use Rattle.sections.specs.declared.Sections.{Sections}
 use Rattle.conditions.specs.Conditions.{conditionRight}
 use Rattle.conditions.specs.ConditionLaws.{condition-typed}
 use Rattle.conditions.specs.declared.Condition.{Condition}
-use Rattle.statements.specs.Statements.{pickRead, readIf, unusedFrom, literalRead, addConstantRead, arithmeticRead, nullRead, addressRead, pointerOffsetRead, pointerIndexRead, loadRead, storeRead, checkRead, ifRead, whileRead, bundleRead, kindRead, statementAt}
+use Rattle.statements.specs.Statements.{readIf, unusedFrom, literalRead, addConstantRead, arithmeticRead, nullRead, addressRead, pointerOffsetRead, pointerIndexRead, loadRead, storeRead, checkRead, ifRead, whileRead, bundleRead, kindRead, statementAt}
 use Rattle.statements.specs.Typed.{WellTyped}
 use Rattle.statements.specs.declared.Statement.{Statement}
 use Rattle.statements.specs.declared.Statement.the-variants.{If, While, Bundle}
@@ -45,7 +45,7 @@ module _ (table : List ℤ) (h : Sections) where
   typed₅ a b c d f s k = typed₄ (a && b) c d f s (λ e. let p = both a b e in k (p .0) (p .1))
 
   -- Which of two readings is taken makes no difference.
-  typed-pick : (b : Bool) (r s : StatementRead) → TypedRead r → TypedRead s → TypedRead (pickRead b r s)
+  typed-pick : (b : Bool) (r s : StatementRead) → TypedRead r → TypedRead s → TypedRead (cond b r s)
   typed-pick true r s p q = p
   typed-pick false r s p q = q
 
@@ -164,7 +164,7 @@ pub read-limits : (table : List ℤ) (h : Sections) (a : ℕ) (s : Statement) �
 unfolding statementAt
 read-limits table h a s e = go (inLimits h && ltb a (h .statements)) refl e
   where
-    go : (b : Bool) → (inLimits h && ltb a (h .statements)) ≡ b → pickRead b (kindRead table h (fieldsAt table (statementStart h a))) Unread ≡ Read s → Limits h × (a < h .statements)
+    go : (b : Bool) → (inLimits h && ltb a (h .statements)) ≡ b → cond b (kindRead table h (fieldsAt table (statementStart h a))) Unread ≡ Read s → Limits h × (a < h .statements)
     go true q g = statement-limits h a q
     go false q g = let z : _≡_ {A = ℕ} 0 1 = cc in absurd (omega arith)
 

@@ -1,6 +1,6 @@
 -- What a statement record reads as: "7 words each: kind and six fields, unused fields 0".
 use Prim.Native.Nat.{ℕ, _^_}
-use mathlib.Core.Bool.{Bool, true, false, _&&_, _||_}
+use mathlib.Core.Bool.{Bool, true, false, _&&_, _||_, cond}
 use mathlib.Core.List.{List}
 use lib.IntN.{ℤ}
 use lib.Dec.{ltb, eqb}
@@ -16,13 +16,9 @@ use Rattle.statements.specs.declared.Statement.the-variants.{Plain, If, 
 use Rattle.statements.specs.declared.StatementRead.{StatementRead}
 use Rattle.statements.specs.declared.StatementRead.the-variants.{Read, Unread}
 
-abbrev pub pickRead : Bool → StatementRead → StatementRead → StatementRead
-pickRead true a b = a
-pickRead false a b = b
-
 -- A record reads as the statement where its test holds.
 abbrev pub readIf : Bool → Statement → StatementRead
-readIf right s = pickRead right (Read s) Unread
+readIf right s = cond right (Read s) Unread
 
 -- "unused fields 0": each field from number n on. Every kind uses the first.
 unfoldable pub unusedFrom : ℕ → Fields → Bool
@@ -101,20 +97,20 @@ bundleRead f = readIf (ltb (plain (f .first)) (2 ^ 31) && unusedFrom 2 f) (Bundl
 unfoldable pub kindRead : List ℤ → Sections → Fields → StatementRead
 kindRead table h f =
     let kind = plain (f .kind) in
-    pickRead (eqb kind 1) (literalRead table h f)
-    (pickRead (eqb kind 2) (addConstantRead table h f)
-    (pickRead (eqb kind 3) (arithmeticRead table h f)
-    (pickRead (eqb kind 4) (nullRead table h f)
-    (pickRead (eqb kind 5) (addressRead table h f)
-    (pickRead (eqb kind 6) (pointerOffsetRead table h f)
-    (pickRead (eqb kind 7) (pointerIndexRead table h f)
-    (pickRead (eqb kind 8) (loadRead table h f)
-    (pickRead (eqb kind 9) (storeRead table h f)
-    (pickRead (eqb kind 10) (checkRead table h f)
-    (pickRead (eqb kind 11) (ifRead table h f)
-    (pickRead (eqb kind 12) (whileRead table h f)
-    (pickRead (eqb kind 13) (bundleRead f) Unread))))))))))))
+    cond (eqb kind 1) (literalRead table h f)
+    (cond (eqb kind 2) (addConstantRead table h f)
+    (cond (eqb kind 3) (arithmeticRead table h f)
+    (cond (eqb kind 4) (nullRead table h f)
+    (cond (eqb kind 5) (addressRead table h f)
+    (cond (eqb kind 6) (pointerOffsetRead table h f)
+    (cond (eqb kind 7) (pointerIndexRead table h f)
+    (cond (eqb kind 8) (loadRead table h f)
+    (cond (eqb kind 9) (storeRead table h f)
+    (cond (eqb kind 10) (checkRead table h f)
+    (cond (eqb kind 11) (ifRead table h f)
+    (cond (eqb kind 12) (whileRead table h f)
+    (cond (eqb kind 13) (bundleRead f) Unread))))))))))))
 
 -- The statement of a number; a number that no statement has does not read.
 unfoldable pub statementAt : List ℤ → Sections → ℕ → StatementRead
-statementAt table h a = pickRead (inLimits h && ltb a (h .statements)) (kindRead table h (fieldsAt table (statementStart h a))) Unread
+statementAt table h a = cond (inLimits h && ltb a (h .statements)) (kindRead table h (fieldsAt table (statementStart h a))) Unread

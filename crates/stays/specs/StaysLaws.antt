@@ -6,7 +6,7 @@ use mathlib.Core.List.{List}
 use native.Mathlib.Omega.{arith}
 use borrow.Author.Tests.{ne-eqb}
 use lib.ListN.{length, getD}
-use Rattle.arrays.specs.Tabulate.{any-default}
+use Rattle.arrays.specs.TabulateLaws.{any-default}
 use Rattle.rules.specs.BoundsRules.{known}
 use Rattle.rules.specs.declared.KnownEnd.the-variants.{Known}
 use Rattle.rules.specs.declared.Bounds.{Bounds}

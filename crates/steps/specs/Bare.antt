@@ -1,4 +1,5 @@
 -- A step of the plain machine without origins, which is what the code does.
+use mathlib.Core.Bool.{cond}
 use Prim.Native.Nat.{ℕ, _+_, _-_, _*_, _%_, _^_, _<_, _≤_}
 use mathlib.Core.Path.{_≡_}
 use mathlib.Core.List.{List}
@@ -6,7 +7,6 @@ use lib.Dec.{eqb}
 use lib.IntN.{ℤ}
 use lib.ListN.{length, getD, set}
 use Rattle.sums.specs.Numbers.{bias}
-use Rattle.fields.specs.Fields.{pickNumber}
 use Rattle.sections.specs.declared.Sections.{Sections}
 use Rattle.statements.specs.Statements.{statementAt}
 use Rattle.statements.specs.declared.Simple.{Simple}
@@ -79,8 +79,8 @@ simpleMove W D s a next vs cs =
 
 unfoldable pub statementMove : List ℕ → List ℕ → Statement → ℕ → Successors → List ℕ → List ℕ → Move
 statementMove W D (Plain s) a n vs cs = simpleMove W D s a (n .next) vs cs
-statementMove W D (If c x y) a n vs cs = move (Go (pickNumber (conditionHolds vs c) (n .next) (n .other))) vs cs
-statementMove W D (While c x) a n vs cs = move (Go (pickNumber (conditionHolds vs c) (n .next) (n .other))) vs cs
+statementMove W D (If c x y) a n vs cs = move (Go (cond (conditionHolds vs c) (n .next) (n .other))) vs cs
+statementMove W D (While c x) a n vs cs = move (Go (cond (conditionHolds vs c) (n .next) (n .other))) vs cs
 statementMove W D (Bundle x) a n vs cs = move (Go (n .next)) vs cs
 
 -- ---- what the code needs, so that no index is outside

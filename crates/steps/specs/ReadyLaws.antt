@@ -1,12 +1,12 @@
 -- What a statement that reads gives the code: its operands are in range, and its step is that of its kind.
+use mathlib.Core.Bool.{cond}
 use Prim.Native.Nat.{ℕ, _+_, _*_, _^_, _<_, _≤_}
 use mathlib.Core.Path.{_≡_, refl, sym, ap, _∙_}
 use mathlib.Core.List.{List}
 use native.Mathlib.Omega.{arith}
 use lib.IntN.{ℤ}
 use lib.ListN.{length, getD}
-use Rattle.fields.specs.Fields.{pickNumber}
-use Rattle.sections.specs.SectionsLaws.{Limits}
+use Rattle.sections.specs.Sections.{Limits}
 use Rattle.sections.specs.declared.Sections.{Sections}
 use Rattle.conditions.specs.ConditionLaws.{offset-small}
 use Rattle.conditions.specs.declared.Condition.{Condition}
@@ -89,12 +89,12 @@ module _ (T : List ℤ) (h : Sections) (W D S : List ℕ) (a : ℕ) (vs cs : Lis
   unfolding bareMove statementMove
   bare-plain s n r ws ds e g m = rw e (rw g at m)
 
-  pub bare-if : (c : Condition) (x y b n o : ℕ) → decodedAt T h a ≡ If c x y → b ≡ pickNumber (conditionHolds vs c) n o → n ≡ getD S (2 * a) 0 → o ≡ getD S (2 * a + 1) 0 →
+  pub bare-if : (c : Condition) (x y b n o : ℕ) → decodedAt T h a ≡ If c x y → b ≡ cond (conditionHolds vs c) n o → n ≡ getD S (2 * a) 0 → o ≡ getD S (2 * a + 1) 0 →
       Moves (bareMove T h W D S a vs cs) (Go b) vs cs
   unfolding bareMove statementMove
   bare-if c x y b n o e g p q = rw e (record { said = ap Go (rw (p, q) at g); values = refl; cells = refl })
 
-  pub bare-while : (c : Condition) (x b n o : ℕ) → decodedAt T h a ≡ While c x → b ≡ pickNumber (conditionHolds vs c) n o → n ≡ getD S (2 * a) 0 → o ≡ getD S (2 * a + 1) 0 →
+  pub bare-while : (c : Condition) (x b n o : ℕ) → decodedAt T h a ≡ While c x → b ≡ cond (conditionHolds vs c) n o → n ≡ getD S (2 * a) 0 → o ≡ getD S (2 * a + 1) 0 →
       Moves (bareMove T h W D S a vs cs) (Go b) vs cs
   unfolding bareMove statementMove
   bare-while c x b n o e g p q = rw e (record { said = ap Go (rw (p, q) at g); values = refl; cells = refl })

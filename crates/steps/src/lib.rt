@@ -10,10 +10,10 @@ use machine::wide;
 use sections::Sections;
 use simple::advance_simple;
 use statements::Statement;
+ghost use mathlib.Core.Bool.{cond};
 ghost use mathlib.Core.Path.{_≡_};
 ghost use Prim.Native.Nat.{_^_, _<_};
 ghost use lib.ListN.{length, getD};
-ghost use Rattle.fields.specs.Fields.{pickNumber};
 ghost use Rattle.machine.specs.Machine.{conditionHolds};
 ghost use Rattle.steps.specs.Bare.{Prepared, Ready, bareMove, Moves};
 
@@ -28,7 +28,7 @@ fn successor(successors: &[u32], i: usize) -> usize
 // An if or a while: `next` where its condition holds, else `other`.
 fn branch(values: &[u32], c: Condition, next: usize, other: usize) -> usize
     requires { ⌜ c .offset < 2 ^ 32 ⌝ }
-    ensures { λ r. ⌜ r ≡ pickNumber (conditionHolds (now (values .entry)) c) next other ⌝ }
+    ensures { λ r. ⌜ r ≡ cond (conditionHolds (now (values .entry)) c) next other ⌝ }
 {
     if condition_holds(values, c) {
         return next;

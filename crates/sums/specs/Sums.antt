@@ -1,12 +1,8 @@
 -- Sums of chains, each kept as the natural number that is `bias` more.
 use Prim.Native.Nat.{ℕ, _+_, _-_, _^_}
-use mathlib.Core.Bool.{Bool, true, false}
+use mathlib.Core.Bool.{Bool, true, false, cond}
 use lib.Dec.{leb}
 use Rattle.sums.specs.Numbers.{bias, maxValue}
-
-abbrev pub pick : Bool → ℕ → ℕ → ℕ
-pick true a b = a
-pick false a b = b
 
 -- What a sum that is out of range counts as.
 abbrev pub unbounded : ℕ
@@ -14,7 +10,7 @@ unbounded = 2 ^ 64 - 1
 
 -- The sum of two chains, one after the other; of sums in range it is a + b.
 unfoldable pub concatenated : ℕ → ℕ → ℕ
-concatenated a b = pick (leb (2 ^ 40) a) unbounded (pick (leb (2 ^ 40) b) unbounded (a + b - bias))
+concatenated a b = cond (leb (2 ^ 40) a) unbounded (cond (leb (2 ^ 40) b) unbounded (a + b - bias))
 
 -- The sum with the other sign.
 abbrev pub negated : ℕ → ℕ

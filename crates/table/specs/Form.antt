@@ -1,6 +1,6 @@
 -- Causes of refusal 1 to 5: "Causes 1 to 6 come in that order over the whole table, lowest place first."
 use Prim.Native.Nat.{ℕ, zero, suc, _+_, _*_, _/_}
-use mathlib.Core.Bool.{Bool, true, false, _&&_}
+use mathlib.Core.Bool.{Bool, true, false, _&&_, cond}
 use mathlib.Core.List.{List}
 use lib.IntN.{ℤ}
 use lib.ListN.{length}
@@ -8,7 +8,7 @@ use lib.Dec.{leb, ltb, eqb}
 use Rattle.sums.specs.Numbers.{bias}
 use Rattle.refusals.specs.declared.Refusal.the-variants.{Length, Directory, ObjectLength, VariableRecord, StatementRecord}
 use Rattle.words.specs.Words.{word}
-use Rattle.fields.specs.Fields.{plain, pickNumber}
+use Rattle.fields.specs.Fields.{plain}
 use Rattle.sections.specs.Sections.{inLimits}
 use Rattle.sections.specs.declared.Sections.{Sections}
 use Rattle.statements.specs.Statements.{statementAt}
@@ -19,10 +19,6 @@ use Rattle.variables.specs.declared.VariableRead.{VariableRead}
 use Rattle.variables.specs.declared.VariableRead.the-variants as variable
 use Rattle.table.specs.declared.Form.{Form}
 use Rattle.table.specs.declared.Form.the-variants.{WellFormed, Refused}
-
-abbrev pub pickForm : Bool → Form → Form → Form
-pickForm true a b = a
-pickForm false a b = b
 
 -- Cause 1: "below 6 or above 7,318 words".
 unfoldable pub lengthRight : List ℤ → Bool
@@ -66,7 +62,7 @@ statementReads table h a = isStatementRead (statementAt table h a)
 -- Of n numbers from i on, the lowest at which the test fails; where it holds at all of them, the number after them.
 unfoldable pub lowestFrom : (ℕ → Bool) → ℕ → ℕ → ℕ
 lowestFrom right i zero = i
-lowestFrom right i (suc n) = pickNumber (right i) (lowestFrom right (i + 1) n) i
+lowestFrom right i (suc n) = cond (right i) (lowestFrom right (i + 1) n) i
 
 unfoldable pub lowestObject : List ℤ → Sections → ℕ
 lowestObject table h = lowestFrom (objectRight table h) 0 (h .objects)
@@ -80,10 +76,10 @@ lowestStatement table h = lowestFrom (statementReads table h) 0 (h .statements)
 -- Causes 3 to 5, "lowest place first".
 unfoldable pub itemsForm : List ℤ → Sections → Form
 itemsForm table h =
-    pickForm (ltb (lowestObject table h) (h .objects)) (Refused (ObjectLength (lowestObject table h)))
-    (pickForm (ltb (lowestVariable table h) (h .variables)) (Refused (VariableRecord (lowestVariable table h)))
-    (pickForm (ltb (lowestStatement table h) (h .statements)) (Refused (StatementRecord (lowestStatement table h))) (WellFormed h)))
+    cond (ltb (lowestObject table h) (h .objects)) (Refused (ObjectLength (lowestObject table h)))
+    (cond (ltb (lowestVariable table h) (h .variables)) (Refused (VariableRecord (lowestVariable table h)))
+    (cond (ltb (lowestStatement table h) (h .statements)) (Refused (StatementRecord (lowestStatement table h))) (WellFormed h)))
 
 -- The first of the causes 1 to 5; where there is none, the sections.
 unfoldable pub formOf : List ℤ → Form
-formOf table = pickForm (lengthRight table) (pickForm (directoryRight table (sectionsOf table)) (itemsForm table (sectionsOf table)) (Refused Directory)) (Refused Length)
+formOf table = cond (lengthRight table) (cond (directoryRight table (sectionsOf table)) (itemsForm table (sectionsOf table)) (Refused Directory)) (Refused Length)

@@ -1,7 +1,7 @@
 -- What holds of a table that causes 1 to 5 do not refuse.
 use Prim.Native.Nat.{ℕ, _+_, _*_, _≤_, _<_}
 use mathlib.Core.Path.{_≡_, refl}
-use mathlib.Core.Bool.{Bool, true, false, _&&_}
+use mathlib.Core.Bool.{Bool, true, false, _&&_, cond}
 use mathlib.Core.List.{List}
 use lib.IntN.{ℤ}
 use lib.ListN.{length}
@@ -11,8 +11,8 @@ use native.Mathlib.Omega.{arith}
 use Rattle.refusals.specs.declared.Refusal.{Refusal}
 use Rattle.refusals.specs.declared.Refusal.the-variants.{Length, Directory, ObjectLength, VariableRecord, StatementRecord}
 use Rattle.words.specs.Words.{word}
-use Rattle.sections.specs.Sections.{inLimits}
-use Rattle.sections.specs.SectionsLaws.{both, Limits, limits}
+use Rattle.sections.specs.Sections.{inLimits, Limits}
+use Rattle.sections.specs.SectionsLaws.{both, limits}
 use Rattle.sections.specs.declared.Sections.{Sections}
 use Rattle.statements.specs.Statements.{statementAt}
 use Rattle.statements.specs.declared.Statement.{Statement}
@@ -22,7 +22,7 @@ use Rattle.variables.specs.Variables.{variableAt, objectAt}
 use Rattle.variables.specs.declared.Variable.{Variable}
 use Rattle.variables.specs.declared.VariableRead.{VariableRead}
 use Rattle.variables.specs.declared.VariableRead.the-variants as variable
-use Rattle.table.specs.Form.{pickForm, lengthRight, isNumber, sectionsOf, directoryRight, objectRight, isVariableRead, variableReads, isStatementRead, statementReads, lowestObject, lowestVariable, lowestStatement, itemsForm, formOf}
+use Rattle.table.specs.Form.{lengthRight, isNumber, sectionsOf, directoryRight, objectRight, isVariableRead, variableReads, isStatementRead, statementReads, lowestObject, lowestVariable, lowestStatement, itemsForm, formOf}
 use Rattle.table.specs.Searches.{holds-below}
 use Rattle.table.specs.declared.Form.{Form}
 use Rattle.table.specs.declared.Form.the-variants.{WellFormed, Refused}
@@ -35,11 +35,11 @@ pub record Formed (table : List ℤ) (h : Sections) : Type 0 where
   pub statements : (a : ℕ) → a < h .statements → (s : Statement) × (statementAt table h a ≡ statement.Read s)
 
 -- The last of two forms is well formed, and the first is a refusal.
-passes : (b : Bool) (r : Refusal) (f : Form) (h : Sections) → pickForm b (Refused r) f ≡ WellFormed h → (b ≡ false) × (f ≡ WellFormed h)
+passes : (b : Bool) (r : Refusal) (f : Form) (h : Sections) → cond b (Refused r) f ≡ WellFormed h → (b ≡ false) × (f ≡ WellFormed h)
 passes true r f h e = let z : _≡_ {A = ℕ} 0 1 = cc in absurd (omega arith)
 passes false r f h e = (refl, e)
 
-holds : (b : Bool) (r : Refusal) (f : Form) (h : Sections) → pickForm b f (Refused r) ≡ WellFormed h → (b ≡ true) × (f ≡ WellFormed h)
+holds : (b : Bool) (r : Refusal) (f : Form) (h : Sections) → cond b f (Refused r) ≡ WellFormed h → (b ≡ true) × (f ≡ WellFormed h)
 holds true r f h e = (refl, e)
 holds false r f h e = let z : _≡_ {A = ℕ} 0 1 = cc in absurd (omega arith)
 

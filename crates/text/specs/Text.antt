@@ -3,7 +3,7 @@ use Prim.Native.Nat.{ℕ, zero, suc, _+_, _/_, _%_, _≤_}
 use Prim.Native.Char.{code}
 use Prim.Native.String as string
 use mathlib.Core.Path.{_≡_}
-use mathlib.Core.Bool.{Bool, true, false}
+use mathlib.Core.Bool.{Bool, true, false, cond}
 use mathlib.Core.List.{List, [], _∷_, _++_}
 use lib.Dec.{ltb}
 use lib.ListN.{length, take}
@@ -17,14 +17,10 @@ bytesOf (string._∷_ c s) = code c ∷ bytesOf s
 abbrev pub textOf : Text → List ℕ
 textOf t = take (t .len) (t .bytes)
 
-abbrev pub pickText : Bool → List ℕ → List ℕ → List ℕ
-pickText true a b = a
-pickText false a b = b
-
 -- A number in decimal, of at most so many digits.
 unfoldable pub decimal : ℕ → ℕ → List ℕ
 decimal zero n = []
-decimal (suc f) n = pickText (ltb n 10) ((48 + n) ∷ []) (decimal f (n / 10) ++ ((48 + n % 10) ∷ []))
+decimal (suc f) n = cond (ltb n 10) ((48 + n) ∷ []) (decimal f (n / 10) ++ ((48 + n % 10) ∷ []))
 
 -- `after` is the text `before`, of `len` bytes, with `more` at its end.
 pub record Grown (before more : List ℕ) (len : ℕ) (after : Text) : Type 0 where

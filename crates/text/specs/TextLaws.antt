@@ -1,7 +1,7 @@
 -- Laws of decimal numbers and of growing text.
 use Prim.Native.Nat.{ℕ, zero, suc, _+_, _-_, _/_, _%_, _≤_, _<_}
 use mathlib.Core.Path.{_≡_, refl, sym, ap, _∙_}
-use mathlib.Core.Bool.{Bool, true, false}
+use mathlib.Core.Bool.{Bool, true, false, cond}
 use mathlib.Core.List.{List, [], _∷_, _++_, append-assoc, append-nil}
 use native.Mathlib.Omega.{arith}
 use borrow.Author.Tests.{lt-ltb, le-ltb}
@@ -9,7 +9,7 @@ use lib.Dec.{ltb}
 use lib.ListN.{length, take, getD, length-append}
 use lib.Seq.{take-suc, take-all}
 use native.Mathlib.Numerals.{add-one}
-use Rattle.text.specs.Text.{textOf, pickText, decimal, Grown}
+use Rattle.text.specs.Text.{textOf, decimal, Grown}
 use Rattle.text.specs.declared.Text.{Text}
 
 decimal-small : (f n : ℕ) → n < 10 → decimal (suc f) n ≡ (48 + n) ∷ []
@@ -26,7 +26,7 @@ unfolding decimal
 length-decimal zero n = omega arith
 length-decimal (suc f) n = go (ltb n 10) (length-decimal f (n / 10))
   where
-    go : (b : Bool) → length (decimal f (n / 10)) ≤ f → length (pickText b ((48 + n) ∷ []) (decimal f (n / 10) ++ ((48 + n % 10) ∷ []))) ≤ suc f
+    go : (b : Bool) → length (decimal f (n / 10)) ≤ f → length (cond b ((48 + n) ∷ []) (decimal f (n / 10) ++ ((48 + n % 10) ∷ []))) ≤ suc f
     go true h = omega arith
     go false h = omega (arith, length-append (decimal f (n / 10)) ((48 + n % 10) ∷ []))
 

@@ -1,7 +1,9 @@
 -- An effect on the bounds of one pointer, in terms of the rules.
+use mathlib.Core.Bool.{cond}
 use Prim.Native.Nat.{ℕ}
 use lib.Dec.{eqb}
-use Rattle.rules.specs.BoundsRules.{pickBounds, forgetBounds, shiftBounds, objectBounds}
+use Rattle.rules.specs.BoundsRules.{forgetBounds, objectBounds}
+use Rattle.rules.specs.Stored.{shiftBounds}
 use Rattle.rules.specs.declared.Bounds.{Bounds}
 use Rattle.rules.specs.declared.Effect.{Effect}
 use Rattle.rules.specs.declared.Effect.the-variants.{Keep, Forget, Shift, Copy, Object}
@@ -19,5 +21,5 @@ abbrev pub effectOnOne : Effect → ℕ → Bounds → Bounds → Bounds
 effectOnOne Keep p own source = own
 effectOnOne (Forget v) p own source = forgetBounds v own
 effectOnOne (Shift v k) p own source = shiftBounds v k own
-effectOnOne (Copy v q) p own source = forgetBounds v (pickBounds (eqb p v) source own)
-effectOnOne (Object v n) p own source = pickBounds (eqb p v) (objectBounds v n) (forgetBounds v own)
+effectOnOne (Copy v q) p own source = forgetBounds v (cond (eqb p v) source own)
+effectOnOne (Object v n) p own source = cond (eqb p v) (objectBounds v n) (forgetBounds v own)

@@ -4,7 +4,9 @@ use mathlib.Core.Path.{_≡_, refl, sym, ap, _∙_}
 use mathlib.Core.List.{List}
 use native.Mathlib.Omega.{arith}
 use lib.ListN.{length}
-use Rattle.rules.specs.BoundsRules.{known, effectOn, boundsAfter}
+use Rattle.rules.specs.BoundsRules.{known}
+use Rattle.rules.specs.Stored.{effectOn, boundsAfter}
+use Rattle.rules.specs.BoundsRules as boundsRules
 use Rattle.rules.specs.BoundsTrue.{known-after}
 use Rattle.rules.specs.Ranges.{Short}
 use Rattle.rules.specs.declared.Bounds.{Bounds}
@@ -14,7 +16,7 @@ use Rattle.stays.specs.StaysLaws.{stored, stored-known}
 use Rattle.transfer.specs.Transfer.{sourceOf, effectOnOne}
 
 pub effect-on-one : (e : Effect) (K : List Bounds) (p : ℕ) → effectOn e K p ≡ effectOnOne e p (known K p) (known K (sourceOf e))
-unfolding effectOn
+unfolding boundsRules.effectOn
 effect-on-one Keep K p = refl
 effect-on-one (Forget v) K p = refl
 effect-on-one (Shift v k) K p = refl

@@ -8,7 +8,8 @@ use sums::ZERO;
 use variables::End;
 ghost use mathlib.Core.Path.{_≡_};
 ghost use Prim.Native.Nat.{_^_, _<_};
-ghost use Rattle.rules.specs.BoundsRules.{forgetEnd, shiftConstant, shiftEnd, forgetBounds, shiftBounds, objectBounds};
+ghost use Rattle.rules.specs.BoundsRules.{forgetEnd, forgetBounds, objectBounds};
+ghost use Rattle.rules.specs.Stored.{shiftConstant, shiftEnd, shiftBounds};
 ghost use Rattle.rules.specs.Ranges.{Short};
 ghost use Rattle.transfer.specs.Transfer.{sourceOf, effectOnOne};
 

@@ -1,18 +1,18 @@
 -- Laws of the reading of variables.
 use Prim.Native.Nat.{ℕ, _+_, _<_}
 use mathlib.Core.Path.{_≡_, refl, ap, _∙_}
-use mathlib.Core.Bool.{Bool, true, false, _&&_}
+use mathlib.Core.Bool.{Bool, true, false, _&&_, cond}
 use mathlib.Core.List.{List}
 use lib.IntN.{ℤ}
 use lib.Dec.{eqb}
 use native.Mathlib.Omega.{arith}
 use Rattle.sums.specs.Numbers.{bias}
 use Rattle.fields.specs.Fields.{isZero, isConstant}
-use Rattle.sections.specs.Sections.{isVariable, variableStart, kindAt, integerAt, pointerAt, namesPointer, namesIndex}
-use Rattle.sections.specs.SectionsLaws.{both, Limits, variable-limits}
+use Rattle.sections.specs.Sections.{isVariable, variableStart, kindAt, integerAt, pointerAt, namesPointer, namesIndex, Limits}
+use Rattle.sections.specs.SectionsLaws.{both, variable-limits}
 use Rattle.sections.specs.NameLaws.{constant-small, pointer-named, index-named}
 use Rattle.sections.specs.declared.Sections.{Sections}
-use Rattle.variables.specs.Variables.{pickVariable, variableWordsAt, endZero, endRight, endOf, integerRecord, pointerRecord, variableOf, variableAt}
+use Rattle.variables.specs.Variables.{variableWordsAt, endZero, endRight, endOf, integerRecord, pointerRecord, variableOf, variableAt}
 use Rattle.variables.specs.Typed.{EndTyped, PointerTyped, VariableTyped}
 use Rattle.variables.specs.declared.Variable.{Variable}
 use Rattle.variables.specs.declared.Variable.the-variants.{Integer, Pointer}
@@ -67,7 +67,7 @@ module _ (table : List ℤ) (h : Sections) where
       go : (a b : Bool) →
           (a ≡ true → integerAt table h v ≡ true) →
           (b ≡ true → PointerTyped table h v (endOf (variableWordsAt table (variableStart h v) .lower)) (endOf (variableWordsAt table (variableStart h v) .upper))) →
-          TypedRead v (pickVariable a (Read Integer) (pickVariable b (Read (Pointer (endOf (variableWordsAt table (variableStart h v) .lower)) (endOf (variableWordsAt table (variableStart h v) .upper)))) Unread))
+          TypedRead v (cond a (Read Integer) (cond b (Read (Pointer (endOf (variableWordsAt table (variableStart h v) .lower)) (endOf (variableWordsAt table (variableStart h v) .upper)))) Unread))
       go true b i p = i refl
       go false true i p = p refl
       go false false i p = tt
@@ -77,7 +77,7 @@ module _ (table : List ℤ) (h : Sections) where
   variable-typed v = go (isVariable h v) (record-typed v)
     where
       go : (b : Bool) → (b ≡ true → TypedRead v (variableOf table h (variableWordsAt table (variableStart h v)))) →
-          TypedRead v (pickVariable b (variableOf table h (variableWordsAt table (variableStart h v))) Unread)
+          TypedRead v (cond b (variableOf table h (variableWordsAt table (variableStart h v))) Unread)
       go true k = k refl
       go false k = tt
 
@@ -89,6 +89,6 @@ pub variable-read-limits : (table : List ℤ) (h : Sections) (v : ℕ) (x : Vari
 unfolding variableAt
 variable-read-limits table h v x e = go (isVariable h v) refl e
   where
-    go : (b : Bool) → isVariable h v ≡ b → pickVariable b (variableOf table h (variableWordsAt table (variableStart h v))) Unread ≡ Read x → Limits h × (v < h .variables)
+    go : (b : Bool) → isVariable h v ≡ b → cond b (variableOf table h (variableWordsAt table (variableStart h v))) Unread ≡ Read x → Limits h × (v < h .variables)
     go true q g = variable-limits h v q
     go false q g = let z : _≡_ {A = ℕ} 0 1 = cc in absurd (omega arith)

@@ -1,12 +1,12 @@
 -- What the record of a variable reads as, and the length of an object.
 use Prim.Native.Nat.{ℕ, _+_}
-use mathlib.Core.Bool.{Bool, true, false, _&&_}
+use mathlib.Core.Bool.{Bool, true, false, _&&_, cond}
 use mathlib.Core.List.{List}
 use lib.IntN.{ℤ}
 use lib.Dec.{ltb, eqb}
 use Rattle.sums.specs.Numbers.{bias}
 use Rattle.words.specs.Words.{word}
-use Rattle.fields.specs.Fields.{plain, pickNumber, indexOf, isZero, isConstant}
+use Rattle.fields.specs.Fields.{plain, indexOf, isZero, isConstant}
 use Rattle.sections.specs.Sections.{inLimits, isVariable, objectStart, variableStart, namesPointer, namesIndex}
 use Rattle.sections.specs.declared.Sections.{Sections}
 use Rattle.variables.specs.declared.End.{End}
@@ -15,10 +15,6 @@ use Rattle.variables.specs.declared.VariableRead.{VariableRead}
 use Rattle.variables.specs.declared.VariableRead.the-variants.{Read, Unread}
 use Rattle.variables.specs.declared.EndWords.{EndWords}
 use Rattle.variables.specs.declared.VariableWords.{VariableWords}
-
-abbrev pub pickVariable : Bool → VariableRead → VariableRead → VariableRead
-pickVariable true a b = a
-pickVariable false a b = b
 
 -- "An end is three words."
 unfoldable pub endWordsAt : List ℤ → ℕ → EndWords
@@ -47,12 +43,12 @@ pointerRecord table h w = eqb (w .kind) (bias + 1) && isZero (w .second) && endR
 
 unfoldable pub variableOf : List ℤ → Sections → VariableWords → VariableRead
 variableOf table h w =
-    pickVariable (integerRecord w) (Read Integer) (pickVariable (pointerRecord table h w) (Read (Pointer (endOf (w .lower)) (endOf (w .upper)))) Unread)
+    cond (integerRecord w) (Read Integer) (cond (pointerRecord table h w) (Read (Pointer (endOf (w .lower)) (endOf (w .upper)))) Unread)
 
 -- The variable of a number; a number that no variable has does not read.
 unfoldable pub variableAt : List ℤ → Sections → ℕ → VariableRead
-variableAt table h v = pickVariable (isVariable h v) (variableOf table h (variableWordsAt table (variableStart h v))) Unread
+variableAt table h v = cond (isVariable h v) (variableOf table h (variableWordsAt table (variableStart h v))) Unread
 
 -- "Objects: one word each, its length in cells": 0 for a negative word, and for a number that no object has.
 unfoldable pub objectAt : List ℤ → Sections → ℕ → ℕ
-objectAt table h o = pickNumber (inLimits h && ltb o (h .objects)) (plain (word table (objectStart o))) 0
+objectAt table h o = cond (inLimits h && ltb o (h .objects)) (plain (word table (objectStart o))) 0

@@ -5,8 +5,9 @@ use Prim.Native.Nat.{_-_}
 use native.Mathlib.Omega.{arith}
 use mathlib.Core.Path.{sym, _∙_}
 use mathlib.Core.Logic.{⊎-elim}
-use Rattle.arrays.specs.Tabulate.{Filled, filled-none, filled-whole, length-under}
-use Rattle.rules.specs.BoundsRules.{effectOn, boundsAfter}
+use Rattle.arrays.specs.TabulateLaws.{Filled, filled-none, filled-whole, length-under}
+use Rattle.rules.specs.Stored.{effectOn, boundsAfter}
+use Rattle.rules.specs.BoundsRules as boundsRules
 use Rattle.stays.specs.StaysLaws.{stays-read}
 use Rattle.transfer.specs.TransferLaws.{source-below}
 use Rattle.bounds.specs.BoundsRulesLaws.{all-kept, filled-stays, filled-anew}
@@ -20,7 +21,7 @@ abbrev μ-loop : tie.MeasureT-loop
 μ-loop effect known from source changed replaced next₀ p₀ next p = 16 - p
 
 pub bounds-after-spec : {M : Type 1} → statement M
-unfolding boundsAfter
+unfolding boundsRules.boundsAfter
 bounds-after-spec =
     tie.close
     (tie.spec

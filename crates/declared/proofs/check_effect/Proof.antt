@@ -4,8 +4,9 @@ use Prim.Native.Nat.{_-_}
 use native.Mathlib.Omega.{arith}
 use mathlib.Core.Path.{_≡_}
 use mathlib.Core.Logic.{⊎-elim}
-use Rattle.arrays.specs.Tabulate.{length-under}
-use Rattle.rules.specs.BoundsRules.{known, boundsAfter}
+use Rattle.arrays.specs.TabulateLaws.{length-under}
+use Rattle.rules.specs.BoundsRules.{known}
+use Rattle.rules.specs.Stored.{boundsAfter}
 use Rattle.transfer.specs.TransferLaws.{source-below, effect-known}
 use Rattle.declared.specs.ShownLaws.{Passed, passed-none, passed-more, passed-missed, passed-all, unasked, asked-shown, asked-missed}
 use Rattle.declared.proofs.check_effect.Statement.{statement}

@@ -3,7 +3,7 @@ use borrow.Author.Needs.{needs}
 use Prim.Native.Nat.{_-_}
 use mathlib.Core.Path.{_≡_}
 use mathlib.Core.Logic.{⊎-elim}
-use Rattle.arrays.specs.Tabulate.{length-under}
+use Rattle.arrays.specs.TabulateLaws.{length-under}
 use Rattle.rules.specs.BoundsRules.{known}
 use Rattle.stays.specs.StaysLaws.{stored, stored-known}
 use Rattle.declared.specs.ShownLaws.{Passed, passed-none, passed-more, passed-missed, passed-all, unasked, asked-shown, asked-missed}

@@ -1,16 +1,15 @@
 -- `effects::plan_statement` meets its contract, kind by kind.
 use borrow.Author.Needs.{needs}
-use mathlib.Core.Path.{refl, sym}
 use native.Mathlib.Omega.{arith}
-use Rattle.facts.specs.StoreLaws.{plain-in-range}
-use Rattle.rules.specs.FactRules.{factsAfter}
-use Rattle.rules.specs.BoundsRules.{effect}
-use Rattle.effects.specs.Applied.{applied}
+use Rattle.rules.specs.Stored.{factsAfter, effect}
+use Rattle.effects.specs.Applied.{applied, planned}
 use Rattle.effects.proofs.plan_statement.Statement.{statement}
 use Rattle.effects.proofs.plan_statement.Tie as tie
+use Rattle.rules.specs.FactRules as factRules
+use Rattle.rules.specs.BoundsRules as boundsRules
 
 pub plan-statement-spec : {M : Type 1} → statement M
-unfolding applied factsAfter effect
+unfolding planned applied factRules.factsAfter boundsRules.effect
 plan-statement-spec =
     tie.close
     (tie.spec
@@ -25,13 +24,13 @@ plan-statement-spec =
     (λ c. search needs) (λ c κs. search needs) (λ c κs. search needs) (λ c. search needs) (λ c κs. search needs) (λ c. search needs)
     (λ c κs. search needs) (λ c. search needs)
     (λ c κs. rw (c .before .simple9 .given .1) at (c .before .before .before .pre))
-    (λ c f r. simp (c .before .before .simple .given .1, c .range .ensures f))
-    (λ c f r. simp (c .before .before .simple2 .given .1) (c .add-constant .ensures f (rw (c .before .before .simple2 .given .1) at r)))
-    (λ c f r. simp (c .before .before .simple3 .given .1, c .forget .ensures f))
-    (λ c f r. simp (c .before .before .simple4 .given .1, c .range2 .ensures f))
-    (λ c f r. simp (c .before .before .before .simple5 .given .1, c .length-at .ensures, c .before .range3 .ensures f))
-    (λ c f r. simp (c .before .before .simple6 .given .1) (c .add-offset .ensures f (sym (plain-in-range f 0 _ refl))))
-    (λ c f r. simp (c .before .before .before .simple7 .given .1, c .index-effect .ensures, c .before .range4 .ensures f))
-    (λ c f r. simp (c .before .before .simple8 .given .1, c .forget2 .ensures f))
-    (λ c f r. simp (c .before .enum-told .given .1, c .keep .ensures f))
-    (λ c f r. simp (c .before .before .simple9 .given .1, c .assume .ensures f)))
+    (λ c f. simp (c .before .before .simple .given .1, c .range .ensures f))
+    (λ c f. simp (c .before .before .simple2 .given .1) (c .add-constant .ensures f))
+    (λ c f. simp (c .before .before .simple3 .given .1, c .forget .ensures f))
+    (λ c f. simp (c .before .before .simple4 .given .1, c .range2 .ensures f))
+    (λ c f. simp (c .before .before .before .simple5 .given .1, c .length-at .ensures, c .before .range3 .ensures f))
+    (λ c f. simp (c .before .before .simple6 .given .1) (c .add-offset .ensures f))
+    (λ c f. simp (c .before .before .before .simple7 .given .1, c .index-effect .ensures, c .before .range4 .ensures f))
+    (λ c f. simp (c .before .before .simple8 .given .1, c .forget2 .ensures f))
+    (λ c f. simp (c .before .enum-told .given .1, c .keep .ensures f))
+    (λ c f. simp (c .before .before .simple9 .given .1, c .assume .ensures f)))

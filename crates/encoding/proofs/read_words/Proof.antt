@@ -6,7 +6,7 @@ use borrow.Author.Needs.{needs}
 use lib.ListN.{length}
 use mir.Syntax.{w32}
 use mir.Facts.{toZ-ofZ}
-use Rattle.arrays.specs.Tabulate.{Filled, filled-none, filled-more}
+use Rattle.arrays.specs.TabulateLaws.{Filled, filled-none, filled-more}
 use Rattle.encoding.specs.Words.{wordAt}
 use Rattle.encoding.specs.WordLaws.{words-read}
 use Rattle.encoding.proofs.read_words.Statement.{statement}

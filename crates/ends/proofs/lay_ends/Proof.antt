@@ -4,7 +4,7 @@ use mathlib.Core.Path.{_≡_, ap, _∙_}
 use native.Mathlib.Omega.{arith}
 use borrow.Author.Needs.{needs}
 use lib.ListN.{length, getD}
-use Rattle.arrays.specs.Tabulate.{any-default, Filled, filled-none, filled-more, filled-whole, length-under}
+use Rattle.arrays.specs.TabulateLaws.{any-default, Filled, filled-none, filled-more, filled-whole, length-under}
 use Rattle.rules.specs.BoundsRules.{nothingKnown}
 use Rattle.rules.specs.declared.Bounds.{Bounds}
 use Rattle.ends.specs.Ends.{boundsNumber, endsOf}

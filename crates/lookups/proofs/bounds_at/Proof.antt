@@ -2,7 +2,7 @@
 use borrow.Author.Needs.{needs}
 use mathlib.Core.Path.{sym}
 use lib.ListN.{List·getD-eq-default}
-use Rattle.arrays.specs.Tabulate.{any-default, length-under}
+use Rattle.arrays.specs.TabulateLaws.{any-default, length-under}
 use Rattle.rules.specs.BoundsRules.{nothingKnown}
 use Rattle.lookups.proofs.bounds_at.Statement.{statement}
 use Rattle.lookups.proofs.bounds_at.Tie as tie

@@ -6,7 +6,7 @@ use mathlib.Core.Bool.{false}
 use mathlib.Core.Logic.{⊎-elim}
 use native.Mathlib.Omega.{arith}
 use lib.ListN.{getD}
-use Rattle.rules.specs.FactRules.{droppedEach}
+use Rattle.rules.specs.Stored.{droppedEach}
 use Rattle.loops.specs.MarkLaws.{dropped-none, drop-marked, drop-unmarked, drop-done}
 use Rattle.loops.proofs.drop_marked.Statement.{statement}
 use Rattle.loops.proofs.drop_marked.Tie as tie

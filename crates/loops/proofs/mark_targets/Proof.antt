@@ -4,7 +4,7 @@ use Prim.Native.Nat.{_+_}
 use mathlib.Core.Path.{_≡_, refl, sym, _∙_}
 use Rattle.loops.specs.Marks.{noMarks, marked}
 use Rattle.loops.specs.MarkLaws.{mark-more, mark-none}
-use Rattle.flow.specs.Shape.{targetsFrom}
+use Rattle.flow.specs.Targets.{targetsFrom}
 use Rattle.loops.proofs.mark_targets.Statement.{statement}
 use Rattle.loops.proofs.mark_targets.Tie as tie
 

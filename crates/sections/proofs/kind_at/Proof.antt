@@ -2,8 +2,8 @@ use borrow.Author.Needs.{needs}
 use native.Mathlib.Omega.{arith}
 use Prim.Native.Nat.{_<_}
 use mathlib.Core.Path.{_∙_, sym}
-use Rattle.sections.specs.Sections.{kindAt}
-use Rattle.sections.specs.SectionsLaws.{Limits, variable-limits}
+use Rattle.sections.specs.Sections.{kindAt, Limits}
+use Rattle.sections.specs.SectionsLaws.{variable-limits}
 use Rattle.sections.proofs.kind_at.Statement.{statement}
 use Rattle.sections.proofs.kind_at.Tie as tie
 

@@ -4,7 +4,7 @@ use mathlib.Core.Path.{_≡_, sym}
 use native.Mathlib.Omega.{arith}
 use mathlib.Core.Bool.{true, false}
 use lib.ListN.{length, List·getD-eq-default}
-use Rattle.arrays.specs.Tabulate.{any-default}
+use Rattle.arrays.specs.TabulateLaws.{any-default}
 use Rattle.touched.proofs.may_be_named.Statement.{statement}
 use Rattle.touched.proofs.may_be_named.Tie as tie
 

@@ -1,7 +1,7 @@
 -- `touched::named_in` meets its contract: each turn fills one more flag.
 use borrow.Author.Needs.{needs}
 use Prim.Native.Nat.{_-_}
-use Rattle.arrays.specs.Tabulate.{Filled, filled-none, filled-more, filled-whole}
+use Rattle.arrays.specs.TabulateLaws.{Filled, filled-none, filled-more, filled-whole}
 use Rattle.rules.specs.declared.Effect.the-variants.{Forget}
 use Rattle.touched.specs.Touched.{touched, namedIn}
 use Rattle.touched.proofs.named_in.Statement.{statement}

@@ -2,7 +2,7 @@
 use borrow.Author.Needs.{needs}
 use Prim.Native.Nat.{_-_}
 use mathlib.Core.Path.{_≡_, sym, _∙_}
-use Rattle.arrays.specs.Tabulate.{length-under}
+use Rattle.arrays.specs.TabulateLaws.{length-under}
 use Rattle.rules.specs.declared.Effect.{Effect}
 use Rattle.stays.specs.Stays.{changedBy, replacedBy}
 use Rattle.stays.specs.StaysLaws.{stays-read}

@@ -1,11 +1,12 @@
 -- `transfer::shift_bounds` meets its contract.
 use borrow.Author.Needs.{needs}
-use Rattle.rules.specs.BoundsRules.{shiftBounds}
+use Rattle.rules.specs.Stored.{shiftBounds}
+use Rattle.rules.specs.BoundsRules as boundsRules
 use Rattle.transfer.proofs.shift_bounds.Statement.{statement}
 use Rattle.transfer.proofs.shift_bounds.Tie as tie
 
 pub shift-bounds-spec : {M : Type 1} → statement M
-unfolding shiftBounds
+unfolding boundsRules.shiftBounds
 shift-bounds-spec =
     tie.close
     (tie.spec

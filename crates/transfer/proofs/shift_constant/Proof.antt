@@ -1,7 +1,7 @@
 -- `transfer::shift_constant` meets its contract.
 use borrow.Author.Needs.{needs}
 use borrow.Author.Tests.{lt-ltb, le-ltb, le-leb, lt-leb}
-use Rattle.rules.specs.BoundsRules.{shiftConstant}
+use Rattle.rules.specs.Stored.{shiftConstant}
 use Rattle.transfer.proofs.shift_constant.Statement.{statement}
 use Rattle.transfer.proofs.shift_constant.Tie as tie
 

@@ -1,12 +1,13 @@
 -- `transfer::shift_end` meets its contract.
 use borrow.Author.Needs.{needs}
 use mathlib.Core.Path.{sym, _∙_}
-use Rattle.rules.specs.BoundsRules.{shiftEnd}
+use Rattle.rules.specs.Stored.{shiftEnd}
+use Rattle.rules.specs.BoundsRules as boundsRules
 use Rattle.transfer.proofs.shift_end.Statement.{statement}
 use Rattle.transfer.proofs.shift_end.Tie as tie
 
 pub shift-end-spec : {M : Type 1} → statement M
-unfolding shiftEnd
+unfolding boundsRules.shiftEnd
 shift-end-spec =
     tie.close
     (tie.spec

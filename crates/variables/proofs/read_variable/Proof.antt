@@ -1,7 +1,7 @@
 use native.Mathlib.Omega.{arith}
 use Prim.Native.Nat.{_<_}
-use Rattle.sections.specs.Sections.{isVariable}
-use Rattle.sections.specs.SectionsLaws.{Limits, variable-limits}
+use Rattle.sections.specs.Sections.{isVariable, Limits}
+use Rattle.sections.specs.SectionsLaws.{variable-limits}
 use Rattle.variables.specs.Variables.{variableAt}
 use Rattle.variables.proofs.read_variable.Statement.{statement}
 use Rattle.variables.proofs.read_variable.Tie as tie

@@ -1,12 +1,13 @@
 -- `declared::ends::end_at_most` meets its contract.
 use borrow.Author.Needs.{needs}
 use mathlib.Core.Path.{sym, _∙_}
-use Rattle.rules.specs.BoundsRules.{endAtMost}
+use Rattle.rules.specs.Stored.{endAtMost}
 use Rattle.declared.proofs.ends.end_at_most.Statement.{statement}
 use Rattle.declared.proofs.ends.end_at_most.Tie as tie
+use Rattle.rules.specs.BoundsRules as boundsRules
 
 pub end-at-most-spec : {M : Type 1} → statement M
-unfolding endAtMost
+unfolding boundsRules.endAtMost
 end-at-most-spec =
     tie.close
     (tie.spec

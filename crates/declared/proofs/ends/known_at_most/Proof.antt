@@ -1,11 +1,12 @@
 -- `declared::ends::known_at_most` meets its contract.
 use borrow.Author.Needs.{needs}
-use Rattle.rules.specs.BoundsRules.{knownAtMost}
+use Rattle.rules.specs.Stored.{knownAtMost}
 use Rattle.declared.proofs.ends.known_at_most.Statement.{statement}
 use Rattle.declared.proofs.ends.known_at_most.Tie as tie
+use Rattle.rules.specs.BoundsRules as boundsRules
 
 pub known-at-most-spec : {M : Type 1} → statement M
-unfolding knownAtMost
+unfolding boundsRules.knownAtMost
 known-at-most-spec =
     tie.close
     (tie.spec

@@ -12,10 +12,10 @@ use Rattle.entry.proofs.entry.check_values.Statement.{statement}
 use Rattle.entry.proofs.entry.check_values.Tie as tie
 
 abbrev Inv-loop : tie.InvT-loop
-Inv-loop sections environment directory values origins count v₀ v = (failures (entryRight sections environment directory values origins) EntryValue count 0 ≡ failures (entryRight sections environment directory values origins) EntryValue (count - v) v) × (v ≤ count)
+Inv-loop environment directory values origins count v₀ v = (failures (entryRight environment directory values origins) EntryValue count 0 ≡ failures (entryRight environment directory values origins) EntryValue (count - v) v) × (v ≤ count)
 
 abbrev μ-loop : tie.MeasureT-loop
-μ-loop sections environment directory values origins count v₀ v = count - v
+μ-loop environment directory values origins count v₀ v = count - v
 
 pub check-values-spec : {M : Type 1} → statement M
 check-values-spec =

@@ -12,7 +12,7 @@ use lib.ListN.{length}
 use lib.Dec.{lit<}
 use Rattle.facts.specs.declared.rows.Row.{Row}
 use Rattle.facts.specs.declared.FactSet.{FactSet}
-use Rattle.arrays.specs.Tabulate.{Filled, filled-none, filled-more, filled-next, filled-whole, length-under}
+use Rattle.arrays.specs.TabulateLaws.{Filled, filled-none, filled-more, filled-next, filled-whole, length-under}
 use Rattle.sums.specs.Sums.{concatenated}
 use Rattle.facts.specs.Store.{noRow, inRow, reroutedRow, rerouted, anew}
 use Rattle.facts.specs.Masks.{masks, merged-rerouted}

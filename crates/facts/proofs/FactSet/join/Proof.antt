@@ -5,7 +5,7 @@ use mathlib.Core.Bool.{false}
 use borrow.Author.Needs.{needs}
 use lib.ListN.{getD}
 use Rattle.sums.specs.Numbers.{zeroVar}
-use Rattle.arrays.specs.Tabulate.{Filled, filled-none, filled-more, filled-last, length-under}
+use Rattle.arrays.specs.TabulateLaws.{Filled, filled-none, filled-more, filled-last, length-under}
 use Rattle.facts.specs.Store.{rowAt, setOf, joinedRow}
 use Rattle.facts.specs.StoreLaws.{joined-first, joined-second, joined-both}
 use Rattle.facts.specs.StoreLoops.{zero-joined, row-joined}

@@ -2,7 +2,7 @@
 use Prim.Native.Nat.{_-_}
 use mathlib.Core.Path.{_≡_, ap₂}
 use borrow.Author.Needs.{needs}
-use Rattle.arrays.specs.Tabulate.{Filled, filled-none, filled-more, filled-whole}
+use Rattle.arrays.specs.TabulateLaws.{Filled, filled-none, filled-more, filled-whole}
 use Rattle.facts.specs.Store.{newRow, newSet, setOf}
 use Rattle.facts.proofs.FactSet.new.Statement.{statement}
 use Rattle.facts.proofs.FactSet.new.Tie as tie

@@ -3,7 +3,7 @@ use Prim.Native.Nat.{ℕ, _-_, max}
 use mathlib.Core.Path.{ap}
 use mathlib.Core.List.{List}
 use borrow.Author.Needs.{needs}
-use Rattle.arrays.specs.Tabulate.{Filled, filled-none, filled-more, filled-whole}
+use Rattle.arrays.specs.TabulateLaws.{Filled, filled-none, filled-more, filled-whole}
 use Rattle.facts.specs.Store.{inRow}
 use Rattle.facts.specs.Rows.{greatestRow}
 use Rattle.facts.proofs.rows.greatest_row.Statement.{statement}

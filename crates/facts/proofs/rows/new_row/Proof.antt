@@ -3,7 +3,7 @@ use Prim.Native.Nat.{ℕ, _-_}
 use mathlib.Core.Path.{ap}
 use mathlib.Core.List.{List}
 use borrow.Author.Needs.{needs}
-use Rattle.arrays.specs.Tabulate.{Filled, filled-none, filled-more, filled-whole}
+use Rattle.arrays.specs.TabulateLaws.{Filled, filled-none, filled-more, filled-whole}
 use Rattle.facts.specs.Store.{newSum, newRow}
 use Rattle.facts.proofs.rows.new_row.Statement.{statement}
 use Rattle.facts.proofs.rows.new_row.Tie as tie

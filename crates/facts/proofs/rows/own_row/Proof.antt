@@ -1,18 +1,19 @@
 -- `facts::rows::own_row` meets its contract: each turn fills one more sum.
+use mathlib.Core.Bool.{cond}
 use Prim.Native.Nat.{ℕ, _-_}
 use mathlib.Core.Path.{ap}
 use mathlib.Core.List.{List}
 use borrow.Author.Needs.{needs}
 use lib.Dec.{eqb}
 use Rattle.sums.specs.Numbers.{bias}
-use Rattle.arrays.specs.Tabulate.{Filled, filled-none, filled-more, filled-whole}
-use Rattle.sums.specs.Sums.{pick, concatenated}
+use Rattle.arrays.specs.TabulateLaws.{Filled, filled-none, filled-more, filled-whole}
+use Rattle.sums.specs.Sums.{concatenated}
 use Rattle.facts.specs.Store.{inRow, ownRow}
 use Rattle.facts.proofs.rows.own_row.Statement.{statement}
 use Rattle.facts.proofs.rows.own_row.Tie as tie
 
 abbrev Inv-loop : tie.InvT-loop
-Inv-loop x up base next₀ j₀ next j = Filled (next .sums) (next₀ .sums) 17 (λ n. pick (eqb n x) bias (concatenated up (inRow base n))) j
+Inv-loop x up base next₀ j₀ next j = Filled (next .sums) (next₀ .sums) 17 (λ n. cond (eqb n x) bias (concatenated up (inRow base n))) j
 
 abbrev μ-loop : tie.MeasureT-loop
 μ-loop x up base next₀ j₀ next j = 17 - j

@@ -2,7 +2,7 @@
 use borrow.Author.Needs.{needs}
 use Prim.Native.Nat.{_-_}
 use mathlib.Core.Path.{ap, _∙_}
-use Rattle.arrays.specs.Tabulate.{Filled, filled-none, filled-more, filled-whole}
+use Rattle.arrays.specs.TabulateLaws.{Filled, filled-none, filled-more, filled-whole}
 use Rattle.variables.specs.Variables.{variableAt}
 use Rattle.variables.specs.declared.VariableRead.{VariableRead}
 use Rattle.rules.specs.Verdict.{boundsOf}

@@ -1,0 +1,73 @@
+-- The verdict in the paper's own words. What is known is told by the operations that were done (a history), and each question is answered by a decider of
+-- the paper's sentence about chains. Nothing here speaks of sums or rows.
+use Prim.Native.Nat.{ℕ, _+_, _-_}
+use mathlib.Core.Path.{_≡_}
+use mathlib.Core.Logic.{_↔_}
+use mathlib.Core.Bool.{Bool, true}
+use mathlib.Core.List.{List}
+use lib.IntN.{ℤ}
+use Rattle.sums.specs.Numbers.{bias}
+use Rattle.chains.specs.Facts.{Variables, Node, Shown, EndShown, Contradiction}
+use Rattle.chains.specs.History.{History, new, add, drop, range, shift, join, known, Legal}
+use Rattle.sections.specs.Sections.{Limits}
+use Rattle.sections.specs.declared.Sections.{Sections}
+use Rattle.table.specs.Form.{formOf}
+use Rattle.table.specs.declared.Form.the-variants as form
+use Rattle.rules.specs.FactSets.{FactSets}
+use Rattle.rules.specs.BoundsRules.{isPointer}
+use Rattle.rules.specs.Rules.{Fault}
+use Rattle.rules.specs.Verdict.{environmentOf, faults, Answers}
+use Rattle.rules.specs.declared.KnownEnd.the-variants.{Known}
+use Rattle.rules.specs.declared.Verdict.{Verdict}
+
+-- Answers to the questions about what is known after a history.
+pub record Decider : Type 0 where
+  pub contradictory : History → Bool
+  pub shown : History → ℕ → ℕ → ℕ → Bool
+  pub endShown : History → ℕ → ℕ → ℕ → ℕ → ℕ → ℕ → Bool
+
+-- The decider says yes exactly where the paper's sentence about chains of the known facts is true.
+-- (What it says after histories that no routine has, or of numbers that no variable has, is left open: no verdict depends on it.)
+pub record Decides (vars : Variables) (d : Decider) : Type 0 where
+  pub contradictory : (h : History) → Legal vars h → (d .contradictory h ≡ true) ↔ Contradiction (known vars h)
+  pub shown : (h : History) → Legal vars h → (x y k : ℕ) → Node vars x → Node vars y → (d .shown h x y k ≡ true) ↔ Shown (known vars h) x y k
+  pub endShown : (h : History) → Legal vars h → (q n k r m j : ℕ) → Node vars q → Node vars n → Node vars r → Node vars m
+      → (d .endShown h q n k r m j ≡ true) ↔ EndShown (known vars h) q n k r m j
+
+-- The paper's facts, for the rules: an operation is put on record, a question is decided, and an end's constant is a whole number.
+abbrev pub byChains : Decider → FactSets
+byChains d = record {
+  Facts = History;
+  new = new;
+  added = add;
+  dropped = drop;
+  ranged = range;
+  shifted = shift;
+  joined = λ pointer h g. join h g;
+  contradictory = d .contradictory;
+  shown = d .shown;
+  endShown = d .endShown;
+  endLess = λ k e. Known (record { pointer = e .pointer; integer = e .integer; constant = e .constant + bias - k });
+}
+
+-- The variables that a table declares.
+abbrev pub variables : List ℤ → (h : Sections) → Limits h → Variables
+variables T h w = record { count = h .variables; some = w .some; few = w .variables; pointer = isPointer (environmentOf T h) }
+
+-- It decides the sentences about the variables of the table, where causes 1 to 5 leave one.
+abbrev pub DecidesTable : List ℤ → Decider → Type 0
+DecidesTable T d = (h : Sections) (w : Limits h) → formOf T ≡ form.WellFormed h → Decides (variables T h w) d
+
+-- What is so of a table by the paper's chains: there is a decider of its sentences, and by each such decider it is so.
+pub record Decided (T : List ℤ) (P : Decider → Type 0) : Type 0 where
+  pub decider : Decider
+  pub decides : DecidesTable T decider
+  pub by-each : (d : Decider) → DecidesTable T d → P d
+
+-- All faults of a table by the paper's rules, its facts and its chains.
+abbrev pub chainFaults : Decider → List ℤ → List Fault
+chainFaults d = faults (byChains d)
+
+-- THE VERDICT ON A TABLE: it answers the first fault.
+unfoldable pub Judged : List ℤ → Verdict → Type 0
+Judged T v = Decided T (λ d. Answers (chainFaults d T) v)

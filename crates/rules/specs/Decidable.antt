@@ -1,0 +1,88 @@
+-- There is a decider of the paper's sentences about a table, the store's; and the verdict by the store is the one by the paper's chains.
+use Prim.Native.Nat.{ℕ, _+_, _≤_}
+use mathlib.Core.Path.{_≡_, refl}
+use mathlib.Core.Logic.{_↔_}
+use mathlib.Core.Bool.{Bool, true, false, cond}
+use mathlib.Core.List.{List}
+use native.Mathlib.Omega.{arith}
+use borrow.Author.Tests.{leb-true, le-leb}
+use lib.Dec.{leb}
+use lib.IntN.{ℤ}
+use Rattle.sums.specs.Numbers.{bias}
+use Rattle.facts.specs.Store.{sumAt, shown, contradictory}
+use Rattle.facts.specs.declared.FactSet.{FactSet}
+use Rattle.chains.specs.Facts.{Variables, Node, Known, ChainWithin, EndShown}
+use Rattle.chains.specs.LeastSums.{LeastSums}
+use Rattle.chains.specs.Chains.{sinks}
+use Rattle.chains.specs.Exact.{Exact}
+use Rattle.chains.specs.History.{known}
+use Rattle.chains.specs.HistoryLaws.{made, exact, shows-exactly, contradicts-exactly}
+use Rattle.table.specs.Form.{formOf}
+use Rattle.table.specs.declared.Form.{Form}
+use Rattle.table.specs.declared.Form.the-variants as form
+use Rattle.rules.specs.BoundsRules.{isPointer}
+use Rattle.rules.specs.Verdict.{environmentOf, faults, Answers}
+use Rattle.rules.specs.Stored.{store}
+use Rattle.rules.specs.ByChains.{Decider, Decides, variables, DecidesTable, Decided, chainFaults, Judged}
+use Rattle.rules.specs.Agreement.{same-sym, same-answers, faults-agree}
+use Rattle.rules.specs.declared.Verdict.{Verdict}
+
+-- Two least sums and a constant, by plain addition, whatever the constant.
+abbrev endTest : FactSet → ℕ → ℕ → ℕ → ℕ → ℕ → ℕ → Bool
+endTest f q n k r m j = cond (contradictory f) true (leb (sumAt f q r + sumAt f n m + k) (j + (bias + bias)))
+
+end-test : (vars : Variables) (f : FactSet) (K : Known) → Exact vars f K → (q n k r m j : ℕ) → Node vars q → Node vars n → Node vars r → Node vars m
+    → (endTest f q n k r m j ≡ true) ↔ EndShown K q n k r m j
+end-test vars f K h q n k r m j hq hn hr hm = go (f .contradiction) refl
+  where
+    two : {p₁ m₁ p₂ m₂ : ℕ} → ChainWithin K q r p₁ m₁ → ChainWithin K n m p₂ m₂ → p₁ + p₂ + k ≤ j + (m₁ + m₂) → EndShown K q n k r m j
+    two a b l = record { up₁ = a .up; down₁ = a .down; first = a .chain; up₂ = b .up; down₂ = b .down; second = b .chain; within = omega arith }
+
+    go : (b : Bool) → f .contradiction ≡ b → (cond b true (leb (sumAt f q r + sumAt f n m + k) (j + (bias + bias))) ≡ true) ↔ EndShown K q n k r m j
+    go true e = ((λ s. two (sinks vars K (h .sane) (h .clash e) q r k hq hr) (sinks vars K (h .sane) (h .clash e) n m 0 hn hm) (omega arith)), (λ s. refl))
+    go false e =
+        let l : LeastSums vars (sumAt f) K = h .least e in (
+          (λ s. two (l .attained q r hq hr) (l .attained n m hn hm) (omega (arith, leb-true (sumAt f q r + sumAt f n m + k) (j + (bias + bias)) s))),
+          (λ t. le-leb (sumAt f q r + sumAt f n m + k) (j + (bias + bias)) (omega (arith, l .lowest hq hr (t .first), l .lowest hn hm (t .second), t .within))),
+        )
+
+abbrev storeDecider : (ℕ → Bool) → Decider
+storeDecider pointer = record {
+  contradictory = λ h. contradictory (made pointer h);
+  shown = λ h. shown (made pointer h);
+  endShown = λ h. endTest (made pointer h);
+}
+
+stored-decides : (vars : Variables) → Decides vars (storeDecider (vars .pointer))
+stored-decides vars = record {
+  contradictory = contradicts-exactly vars;
+  shown = shows-exactly vars;
+  endShown = λ h l. end-test vars (made (vars .pointer) h) (known vars h) (exact vars h l);
+}
+
+decider-of : List ℤ → Form → Decider
+decider-of T (form.Refused r) = storeDecider (λ v. false)
+decider-of T (form.WellFormed h) = storeDecider (isPointer (environmentOf T h))
+
+-- A decider of the paper's sentences about a table.
+pub decider : List ℤ → Decider
+decider T = decider-of T (formOf T)
+
+pub decider-decides : (T : List ℤ) → DecidesTable T (decider T)
+unfolding decider decider-of
+decider-decides T h w e = rw e (stored-decides (variables T h w))
+
+-- What is so by each decider of a table's sentences is so by the paper's chains: there is one.
+pub decided : (T : List ℤ) (P : Decider → Type 0) → ((d : Decider) → DecidesTable T d → P d) → Decided T P
+decided T P each = record { decider = decider T; decides = decider-decides T; by-each = each }
+
+-- The rules over the store say of a verdict what the paper says of it.
+pub judged : (T : List ℤ) (v : Verdict) → Answers (faults store T) v → Judged T v
+unfolding Judged
+judged T v a = decided T (λ d. Answers (chainFaults d T) v) (λ d r. same-answers (faults store T) (chainFaults d T) v (faults-agree T d r) a)
+
+pub stored-answers : (T : List ℤ) (v : Verdict) → Judged T v → Answers (faults store T) v
+unfolding Judged
+stored-answers T v j =
+    same-answers (chainFaults (decider T) T) (faults store T) v (same-sym (faults store T) (chainFaults (decider T) T) (faults-agree T (decider T) (decider-decides T)))
+    (j .by-each (decider T) (decider-decides T))

@@ -1,0 +1,27 @@
+-- What the rules use of facts and of known ends, and nothing else: sets of facts, what is done to them, what is asked of them; and an end moved by a constant.
+-- The rules are written once, over this. `byChains` (ByChains.antt) has the paper's facts and chains; `store` (Stored.antt) has the sums that the code holds.
+use Prim.Native.Nat.{ℕ}
+use mathlib.Core.Bool.{Bool}
+use Rattle.variables.specs.declared.End.{End}
+use Rattle.rules.specs.declared.KnownEnd.{KnownEnd}
+
+pub record FactSets : Type 1 where
+  pub Facts : Type 0
+  -- What is always known.
+  pub new : Facts
+  -- added f x y k: the fact x <= y + k besides, with the bias in k.
+  pub added : Facts → ℕ → ℕ → ℕ → Facts
+  pub dropped : Facts → ℕ → Facts
+  -- ranged f x low high: x dropped, then low <= x <= high.
+  pub ranged : Facts → ℕ → ℕ → ℕ → Facts
+  -- shifted f x k: x is raised by k.
+  pub shifted : Facts → ℕ → ℕ → Facts
+  -- What both sides show; which variables are pointers.
+  pub joined : (ℕ → Bool) → Facts → Facts → Facts
+  pub contradictory : Facts → Bool
+  -- shown f x y k: x <= y + k
+  pub shown : Facts → ℕ → ℕ → ℕ → Bool
+  -- endShown f q n k r m j: the end (q, n, k) is at most the end (r, m, j).
+  pub endShown : Facts → ℕ → ℕ → ℕ → ℕ → ℕ → ℕ → Bool
+  -- endLess k e: the end e less k, with the bias in k.
+  pub endLess : ℕ → End → KnownEnd

@@ -1,0 +1,181 @@
+-- The ends that the rules compare are in range: they name variables, and their constants are those of a table or an object's length, moved at most 16 times.
+use Prim.Native.Nat.{ℕ, _+_, _-_, _*_, _^_, _≤_, _<_}
+use mathlib.Core.Path.{_≡_, refl}
+use mathlib.Core.Logic.{inl, inr}
+use mathlib.Core.Bool.{Bool, true, false, _&&_, cond}
+use mathlib.Core.List.{List}
+use native.Mathlib.Omega.{arith}
+use borrow.Author.Tests.{lt-ltb, le-leb, ltb-true, ltb-false}
+use lib.Dec.{eqb, ltb}
+use lib.IntN.{ℤ}
+use lib.ListN.{length, getD, List·getD-eq-default}
+use Rattle.sums.specs.Numbers.{bias}
+use Rattle.arrays.specs.Choice.{cond-either}
+use Rattle.arrays.specs.Tabulate.{tabulate}
+use Rattle.arrays.specs.TabulateLaws.{length-tabulate, getD-tabulate}
+use Rattle.facts.specs.Store.{inRange}
+use Rattle.chains.specs.Facts.{Variables, Node}
+use Rattle.facts.specs.declared.FactSet.{FactSet}
+use Rattle.sections.specs.Typed.{IsIndex, missing, given, IsSmall}
+use Rattle.sections.specs.declared.Sections.{Sections}
+use Rattle.statements.specs.Typed.{SimpleTyped}
+use Rattle.statements.specs.declared.Simple.{Simple}
+use Rattle.statements.specs.declared.Simple.the-variants.{Literal, AddConstant, Arithmetic, Null, Address, PointerOffset, PointerIndex, Load, Store, Check}
+use Rattle.variables.specs.Variables.{variableAt, objectAt}
+use Rattle.variables.specs.VariableLaws.{variable-read-typed}
+use Rattle.variables.specs.Typed.{EndTyped}
+use Rattle.variables.specs.declared.End.{End}
+use Rattle.variables.specs.declared.Variable.the-variants.{Integer, Pointer}
+use Rattle.variables.specs.declared.VariableRead.{VariableRead}
+use Rattle.variables.specs.declared.VariableRead.the-variants.{Read, Unread}
+use Rattle.table.specs.FormLaws.{Formed}
+use Rattle.rules.specs.BoundsRules.{nothingKnown, known, names, objectLength, forgetEnd, forgetBounds, objectBounds, effect}
+use Rattle.rules.specs.Verdict.{boundsOf, environmentOf}
+use Rattle.rules.specs.Stored.{store, shiftConstant, shiftEnd, shiftBounds, effectOn, boundsAfter}
+use Rattle.rules.specs.BoundsRules as boundsRules
+use Rattle.rules.specs.ByChains.{variables}
+use Rattle.rules.specs.declared.KnownEnd.{KnownEnd}
+use Rattle.rules.specs.declared.KnownEnd.the-variants.{Known, Unknown}
+use Rattle.rules.specs.declared.Bounds.{Bounds}
+use Rattle.rules.specs.declared.Effect.{Effect}
+use Rattle.rules.specs.declared.Effect.the-variants.{Keep, Forget, Shift, Copy, Object}
+
+-- An end after at most n statements: it names variables, and its constant is that of a table or an object's length, moved n times.
+pub record FairEnd (vars : Variables) (n : ℕ) (e : End) : Type 0 where
+  pub pointer : Node vars (e .pointer)
+  pub integer : Node vars (e .integer)
+  pub low : bias ≤ e .constant + 65536 + n * 65536
+  pub high : e .constant ≤ bias + 1000000 + n * 65536
+
+abbrev pub FairKnown : Variables → ℕ → KnownEnd → Type 0
+FairKnown vars n Unknown = Unit
+FairKnown vars n (Known e) = FairEnd vars n e
+
+pub record FairBounds (vars : Variables) (n : ℕ) (b : Bounds) : Type 0 where
+  pub lower : FairKnown vars n (b .lower)
+  pub upper : FairKnown vars n (b .upper)
+
+-- The known bounds of every pointer.
+abbrev pub FairAll : Variables → ℕ → List Bounds → Type 0
+FairAll vars n K = (p : ℕ) → FairBounds vars n (known K p)
+
+module _ (vars : Variables) where
+  nothing-fair : (n : ℕ) → FairBounds vars n nothingKnown
+  nothing-fair n = record { lower = tt; upper = tt }
+
+  -- ---- effects keep ends in range
+
+  later-end : (n m : ℕ) (e : KnownEnd) → n ≤ m → FairKnown vars n e → FairKnown vars m e
+  later-end n m Unknown l p = tt
+  later-end n m (Known e) l p = record { pointer = p .pointer; integer = p .integer; low = omega (arith, p .low); high = omega (arith, p .high) }
+
+  pub later : (n m : ℕ) (b : Bounds) → n ≤ m → FairBounds vars n b → FairBounds vars m b
+  later n m b l p = record { lower = later-end n m (b .lower) l (p .lower); upper = later-end n m (b .upper) l (p .upper) }
+
+  more : (n : ℕ) (e : KnownEnd) → FairKnown vars n e → FairKnown vars (n + 1) e
+  more n e p = later-end n (n + 1) e (omega arith) p
+
+  forgotten : (n v : ℕ) (e : KnownEnd) → FairKnown vars n e → FairKnown vars (n + 1) (forgetEnd v e)
+  unfolding forgetEnd
+  forgotten n v Unknown p = tt
+  forgotten n v (Known e) p = go (names e v)
+    where
+      go : (b : Bool) → FairKnown vars (n + 1) (cond b Unknown (Known e))
+      go true = tt
+      go false = more n (Known e) p
+
+  -- The constant of an end in range is moved as the paper says: the tests of `shiftConstant` hold.
+  pub constant-moved : (n k : ℕ) (e : End) → n ≤ 16 → FairEnd vars n e → IsSmall k
+      → shiftConstant k e ≡ Known (record { pointer = e .pointer; integer = e .integer; constant = e .constant + bias - k })
+  unfolding shiftConstant
+  constant-moved n k e l p s = rw (lt-ltb (e .constant) (2 ^ 40) (omega (arith, p .high)), le-leb k (e .constant + bias) (omega (arith, p .low, s .high)))
+
+  moved : (n v k : ℕ) (e : KnownEnd) → n ≤ 16 → IsSmall k → FairKnown vars n e → FairKnown vars (n + 1) (shiftEnd v k e)
+  unfolding boundsRules.shiftEnd
+  moved n v k Unknown l s p = tt
+  moved n v k (Known e) l s p = go (names e v)
+    where
+      go : (b : Bool) → FairKnown vars (n + 1) (cond b (shiftConstant k e) (Known e))
+      go true = rw (constant-moved n k e l p s) (record { pointer = p .pointer; integer = p .integer; low = omega (arith, p .low, s .high); high = omega (arith, p .high, s .low) })
+      go false = more n (Known e) p
+
+  abbrev pub FairEffect : Effect → Type 0
+  FairEffect Keep = Unit
+  FairEffect (Forget v) = Unit
+  FairEffect (Shift v k) = IsSmall k
+  FairEffect (Copy v q) = Unit
+  FairEffect (Object v m) = (v < vars .count) × (m ≤ 1000000)
+
+  forget-fair : (n v : ℕ) {b : Bounds} → FairBounds vars n b → FairBounds vars (n + 1) (forgetBounds v b)
+  unfolding forgetBounds
+  forget-fair n v p = record { lower = forgotten n v _ (p .lower); upper = forgotten n v _ (p .upper) }
+
+  object-fair : (n v m : ℕ) → v < vars .count → m ≤ 1000000 → FairBounds vars n (objectBounds v m)
+  unfolding objectBounds
+  object-fair n v m h l = record {
+    lower = record { pointer = inr h; integer = inl refl; low = omega arith; high = omega arith };
+    upper = record { pointer = inr h; integer = inl refl; low = omega arith; high = omega arith };
+  }
+
+  effect-fair : (n : ℕ) (e : Effect) (L : List Bounds) → n ≤ 16 → FairEffect e → FairAll vars n L → (p : ℕ) → FairBounds vars (n + 1) (effectOn e L p)
+  unfolding boundsRules.effectOn boundsRules.shiftBounds
+  effect-fair n Keep L l g a p = record { lower = more n (known L p .lower) (a p .lower); upper = more n (known L p .upper) (a p .upper) }
+  effect-fair n (Forget v) L l g a p = forget-fair n v (a p)
+  effect-fair n (Shift v k) L l g a p = record { lower = moved n v k _ l g (a p .lower); upper = moved n v k _ l g (a p .upper) }
+  effect-fair n (Copy v q) L l g a p = forget-fair n v (cond-either (FairBounds vars n) (eqb p v) _ _ (a q) (a p))
+  effect-fair n (Object v m) L l g a p = cond-either (FairBounds vars (n + 1)) (eqb p v) _ _ (object-fair (n + 1) v m (g .0) (g .1)) (forget-fair n v (a p))
+
+  pub after-fair : (n : ℕ) (e : Effect) (L : List Bounds) → n ≤ 16 → FairEffect e → FairAll vars n L → FairAll vars (n + 1) (boundsAfter e L)
+  unfolding boundsRules.boundsAfter
+  after-fair n e L l g a p = go (ltb p 16) refl
+    where
+      go : (b : Bool) → ltb p 16 ≡ b → FairBounds vars (n + 1) (getD (tabulate 16 (effectOn e L)) p nothingKnown)
+      go true q = rw (getD-tabulate 16 (effectOn e L) p nothingKnown (ltb-true p 16 q)) (effect-fair n e L l g a p)
+      go false q =
+          let i : length (tabulate 16 (effectOn e L)) ≤ p = omega (arith, length-tabulate 16 (effectOn e L), ltb-false p 16 q) in
+          rw (List·getD-eq-default (tabulate 16 (effectOn e L)) nothingKnown {n = p} i) (nothing-fair (n + 1))
+
+-- ---- the bounds of a well-formed table
+
+module _ (T : List ℤ) (h : Sections) (w : Formed T h) where
+  abbrev vars : Variables
+  vars = variables T h (w .limits)
+
+  index-node : {v : ℕ} → IsIndex T h v → Node vars v
+  index-node (missing e) = inl e
+  index-node (given i) = inr (i .below)
+
+  end-fair : {e : End} → EndTyped T h e → FairEnd vars 0 e
+  end-fair t = record { pointer = inr (t .pointer .below); integer = index-node (t .integer); low = omega (arith, t .constant .low); high = omega (arith, t .constant .high) }
+
+  read-fair : (v : ℕ) (r : VariableRead) → variableAt T h v ≡ r → FairBounds vars 0 (boundsOf r)
+  read-fair v (Read (Pointer l u)) e = let t = variable-read-typed T h v (Pointer l u) e in record { lower = end-fair (t .lower); upper = end-fair (t .upper) }
+  read-fair v (Read Integer) e = nothing-fair vars 0
+  read-fair v Unread e = nothing-fair vars 0
+
+  pub declared-fair : FairAll vars 0 (environmentOf T h .declared)
+  unfolding environmentOf
+  declared-fair p = go (ltb p 16) refl
+    where
+      go : (b : Bool) → ltb p 16 ≡ b → FairBounds vars 0 (getD (tabulate 16 (λ v. boundsOf (variableAt T h v))) p nothingKnown)
+      go true q = rw (getD-tabulate 16 (λ v. boundsOf (variableAt T h v)) p nothingKnown (ltb-true p 16 q)) (read-fair p (variableAt T h p) refl)
+      go false q =
+          let i : length (tabulate 16 (λ v. boundsOf (variableAt T h v))) ≤ p = omega (arith, length-tabulate 16 (λ v. boundsOf (variableAt T h v)), ltb-false p 16 q) in
+          rw (List·getD-eq-default (tabulate 16 (λ v. boundsOf (variableAt T h v))) nothingKnown {n = p} i) (nothing-fair vars 0)
+
+  length-fair : (o : ℕ) → o < h .objects → objectLength (environmentOf T h) o ≤ 1000000
+  unfolding environmentOf
+  length-fair o l = rw (getD-tabulate 16 (objectAt T h) o 0 (omega (arith, w .limits .objects))) (w .objects o l .1)
+
+  pub statement-fair : (f : FactSet) (s : Simple) → SimpleTyped T h s → FairEffect vars (effect store (environmentOf T h) f s)
+  unfolding effect
+  statement-fair f (Literal x k) s = tt
+  statement-fair f (AddConstant x y k) s = cond-either (FairEffect vars) (inRange f y k && eqb x y) (Shift x k) (Forget x) (s .constant) tt
+  statement-fair f (Arithmetic x y z op) s = tt
+  statement-fair f (Null p) s = tt
+  statement-fair f (Address p o) s = (s .target .below, length-fair o (s .object))
+  statement-fair f (PointerOffset p q k) s = cond-either (FairEffect vars) (eqb p q) (Shift p k) (Copy p q) (s .constant) tt
+  statement-fair f (PointerIndex p q i) s = cond-either (FairEffect vars) (eqb p q) (Forget p) (Copy p q) tt tt
+  statement-fair f (Load x p i k) s = tt
+  statement-fair f (Store p i k x) s = tt
+  statement-fair f (Check c) s = tt

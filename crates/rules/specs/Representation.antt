@@ -1,0 +1,298 @@
+-- Each rule does to the store what it tells of the paper's facts: the fact set of the store is made by the history that the rule tells, and its operations are legal.
+use Prim.Native.Nat.{ℕ, zero, suc, _+_, _-_, _^_, _≤_, _<_}
+use mathlib.Core.Path.{_≡_, refl, sym, ap, ap₂, _∙_}
+use mathlib.Core.Logic.{_⊎_, inl, inr, ⊎-elim, _↔_}
+use mathlib.Core.Bool.{Bool, true, false, _||_, _&&_, false≢true, cond}
+use mathlib.Core.List.{List, [], _∷_, _++_}
+use native.Mathlib.Omega.{arith}
+use borrow.Author.Tests.{eqb-true, ne-eqb}
+use lib.Dec.{eqb}
+use lib.IntN.{ℤ}
+use Rattle.sums.specs.Numbers.{bias, maxValue, zeroVar}
+use Rattle.sums.specs.Sums.{roomAbove}
+use Rattle.arrays.specs.TabulateLaws.{getD-tabulate}
+use Rattle.facts.specs.Store.{contradictory, shown, endShown, newSet, added, dropped, ranged, shifted, joined}
+use Rattle.facts.specs.StoreLaws.{mark-dropped}
+use Rattle.chains.specs.Facts.{Variables, Node, Comparable, same-kind, from-zero, to-zero, Known, empty, EndShown, Contradiction}
+use Rattle.chains.specs.Exact.{Exact, end-exact}
+use Rattle.chains.specs.History.{History, new, add, drop, range, shift, join, known, Legal, Another, Slight}
+use Rattle.chains.specs.HistoryLaws.{made, exact, shows-exactly, contradicts-exactly}
+use Rattle.facts.specs.declared.FactSet.{FactSet}
+use Rattle.sections.specs.Sections.{kindAt, integerAt, pointerAt, Limits}
+use Rattle.sections.specs.SectionsLaws.{both}
+use Rattle.sections.specs.Typed.{IsInteger, IsPointer, IsSmall}
+use Rattle.sections.specs.declared.Sections.{Sections}
+use Rattle.conditions.specs.Negation.{negatedOf}
+use Rattle.conditions.specs.Typed.{Sides, integers, pointers, literal, null}
+use Rattle.conditions.specs.declared.Condition.{Condition}
+use Rattle.statements.specs.Statements.{statementAt}
+use Rattle.statements.specs.StatementLaws.{read-typed}
+use Rattle.statements.specs.Typed.{SimpleTyped}
+use Rattle.statements.specs.declared.Simple.{Simple}
+use Rattle.statements.specs.declared.Simple.the-variants.{Literal, AddConstant, Arithmetic, Null, Address, PointerOffset, PointerIndex, Load, Store, Check}
+use Rattle.statements.specs.declared.Statement.the-variants.{Plain, If, While, Bundle}
+use Rattle.statements.specs.declared.StatementRead.{StatementRead}
+use Rattle.statements.specs.declared.StatementRead.the-variants.{Read, Unread}
+use Rattle.flow.specs.Targets.{targetOf, targetsFrom}
+use Rattle.blocks.specs.Tree.{target}
+use Rattle.rules.specs.FactRules.{among, inRange, equated, positive, differs, relationFacts, conditionFacts, sumFacts, offsetFacts, factsAfter, droppedEach, loopFacts}
+use Rattle.rules.specs.Stored.{store}
+use Rattle.rules.specs.ByChains.{Decider, Decides, byChains, variables}
+use Rattle.rules.specs.Verdict.{environmentOf}
+
+-- Two tests of one sentence.
+same-test : (a b : Bool) {X : Type 0} → (a ≡ true) ↔ X → (b ≡ true) ↔ X → a ≡ b
+same-test true true p q = refl
+same-test true false p q = sym (q .1 (p .0 refl))
+same-test false true p q = p .1 (q .0 refl)
+same-test false false p q = refl
+
+-- The same end is at most itself, by two empty chains.
+same-end : {K : Known} (p n k r m j : ℕ) (b : Bool) → (b ≡ true) ↔ EndShown K p n k r m j → ((eqb p r && eqb n m && eqb k j || b) ≡ true) ↔ EndShown K p n k r m j
+same-end {K} p n k r m j b i = ((λ s. from (eqb p r && eqb n m && eqb k j) refl s), (λ s. back (eqb p r && eqb n m && eqb k j) (i .1 s)))
+  where
+    same : (eqb p r && eqb n m && eqb k j) ≡ true → EndShown K p n k r m j
+    same s =
+        let a = both (eqb p r && eqb n m) (eqb k j) s in
+        let c = both (eqb p r) (eqb n m) (a .0) in
+        let e₁ : p ≡ r = eqb-true p r (c .0) in
+        let e₂ : n ≡ m = eqb-true n m (c .1) in
+        let e₃ : k ≡ j = eqb-true k j (a .1) in
+        rw (e₁, e₂) (record { up₁ = 0; down₁ = 0; first = empty; up₂ = 0; down₂ = 0; second = empty; within = omega arith })
+
+    from : (x : Bool) → (eqb p r && eqb n m && eqb k j) ≡ x → (x || b) ≡ true → EndShown K p n k r m j
+    from true e s = same e
+    from false e s = i .0 s
+
+    back : (x : Bool) → b ≡ true → (x || b) ≡ true
+    back true s = refl
+    back false s = s
+
+-- The fact set f is what the operations of the history make, and these are legal.
+pub record Represents (vars : Variables) (H : History) (f : FactSet) : Type 0 where
+  pub legal : Legal vars H
+  pub same : made (vars .pointer) H ≡ f
+
+module _ (vars : Variables) where
+  represents-exact : {H : History} {f : FactSet} → Represents vars H f → Exact vars f (known vars H)
+  represents-exact {H} t = let e = t .same in rw e at (exact vars H (t .legal))
+
+  pub represents-new : Represents vars new newSet
+  represents-new = record { legal = tt; same = refl }
+
+  represents-pick : (b : Bool) {H G : History} {f g : FactSet} → Represents vars H f → Represents vars G g → Represents vars (cond b H G) (cond b f g)
+  represents-pick true t u = t
+  represents-pick false t u = u
+
+  pub represents-join : {H G : History} {f g : FactSet} → Represents vars H f → Represents vars G g → Represents vars (join H G) (joined (vars .pointer) f g)
+  represents-join {H} {G} {f} {g} t u = record { legal = (t .legal, u .legal); same = ap₂ (joined (vars .pointer)) (t .same) (u .same) }
+
+  module _ {H : History} {f : FactSet} (t : Represents vars H f) where
+    represents-add : (x y k : ℕ) → Comparable vars x y → Represents vars (add H x y k) (added f x y k)
+    represents-add x y k r = record { legal = (t .legal, r); same = ap (λ (s : FactSet). added s x y k) (t .same) }
+
+    represents-shift : (x k : ℕ) → x < vars .count → Slight k → Represents vars (shift H x k) (shifted f x k)
+    represents-shift x k h s = record { legal = (t .legal, h, s); same = ap (λ (s : FactSet). shifted s x k) (t .same) }
+
+    module _ (calm : contradictory f ≡ false) where
+      consistent : (x : ℕ) → Contradiction (known vars H) → Another vars x
+      consistent x c =
+          let e : made (vars .pointer) H .contradiction ≡ f .contradiction = ap (λ (s : FactSet). s .contradiction) (t .same) in
+          absurd (false≢true (sym calm ∙ (sym e ∙ contradicts-exactly vars H (t .legal) .1 c)))
+
+      represents-drop : (x : ℕ) → x < vars .count → Represents vars (drop H x) (dropped f x)
+      represents-drop x h = record { legal = (t .legal, h, consistent x); same = ap (λ (s : FactSet). dropped s x) (t .same) }
+
+      represents-range : (x bottom top : ℕ) → x < vars .count → bottom ≤ top → top ≤ maxValue → Represents vars (range H x bottom top) (ranged f x bottom top)
+      represents-range x bottom top h l m = record { legal = (t .legal, h, consistent x, l, m); same = ap (λ (s : FactSet). ranged s x bottom top) (t .same) }
+
+  -- ---- the rules over the paper's facts
+
+  module _ (q : Decider) (right : Decides vars q) where
+    -- What is asked.
+    module _ {H : History} {f : FactSet} (t : Represents vars H f) where
+      pub contradictory-represented : contradictory f ≡ q .contradictory H
+      contradictory-represented = let e = t .same in rw e at (same-test (contradictory (made (vars .pointer) H)) (q .contradictory H) (contradicts-exactly vars H (t .legal)) (right .contradictory H (t .legal)))
+
+      pub shown-represented : (x y k : ℕ) → Node vars x → Node vars y → shown f x y k ≡ q .shown H x y k
+      shown-represented x y k hx hy =
+          let e = t .same in
+          rw e at (same-test (shown (made (vars .pointer) H) x y k) (q .shown H x y k) (shows-exactly vars H (t .legal) x y k hx hy) (right .shown H (t .legal) x y k hx hy))
+
+      pub end-represented : (p n k r m j : ℕ) → Node vars p → Node vars n → Node vars r → Node vars m → k < 2 ^ 40 → store .endShown f p n k r m j ≡ q .endShown H p n k r m j
+      end-represented p n k r m j hp hn hr hm l =
+          same-test (store .endShown f p n k r m j) (q .endShown H p n k r m j)
+          (same-end p n k r m j (endShown f p n k r m j) (end-exact vars f (known vars H) (represents-exact t) p n k r m j hp hn hr hm l)) (right .endShown H (t .legal) p n k r m j hp hn hr hm)
+
+      pub range-represented : (y k : ℕ) → Node vars y → inRange store f y k ≡ inRange (byChains q) H y k
+      range-represented y k h =
+          ap₂ (λ (a b : Bool). eqb k bias || a && b) (shown-represented zeroVar y k (inl refl) h) (shown-represented y zeroVar (roomAbove k) h (inl refl))
+
+    -- x = y + k
+    represents-equated : {H : History} {f : FactSet} → Represents vars H f → (x y k : ℕ) → Comparable vars x y → Comparable vars y x → Represents vars (equated (byChains q) H x y k) (equated store f x y k)
+    unfolding equated
+    represents-equated t x y k r s = represents-add (represents-add t x y k r) y x (bias + bias - k) s
+
+    represents-positive : {H : History} {f : FactSet} → Represents vars H f → (x : ℕ) → x < vars .count → Represents vars (positive (byChains q) H x) (positive store f x)
+    unfolding positive
+    represents-positive t x h = represents-add t zeroVar x (bias - 1) (from-zero h)
+
+    -- A condition between x and y.
+    module _ {H : History} {f : FactSet} (t : Represents vars H f) (x y k : ℕ) (h : x < vars .count) (r : Comparable vars x y) (s : Comparable vars y x) where
+      represents-relation : (n : ℕ) → Represents vars (relationFacts (byChains q) n H x y k) (relationFacts store n f x y k)
+      unfolding relationFacts differs
+      represents-relation zero = represents-add t x y (bias + k - 1) r
+      represents-relation (suc zero) = represents-add t y x (bias - k) s
+      represents-relation (suc (suc zero)) = represents-add t y x (bias - k - 1) s
+      represents-relation (suc (suc (suc zero))) = represents-add t x y (bias + k) r
+      represents-relation (suc (suc (suc (suc zero)))) = represents-equated t x y (bias + k) r s
+      represents-relation (suc (suc (suc (suc (suc n))))) = represents-pick (eqb y zeroVar && eqb k 0) (represents-positive t x h) t
+
+    -- Variables dropped before a loop.
+    record Calm (H : History) (f : FactSet) : Type 0 where
+      represents : Represents vars H f
+      calm : contradictory f ≡ false
+
+    calm-pick : (b : Bool) {H : History} {f : FactSet} (n : ℕ) → (b ≡ true → n < vars .count) → Calm H f → Calm (cond b (drop H n) H) (cond b (dropped f n) f)
+    calm-pick true {H} {f} n h c = record { represents = represents-drop (c .represents) (c .calm) n (h refl); calm = mark-dropped f n ∙ c .calm }
+    calm-pick false n h c = c
+
+    calm-dropped : (n : ℕ) (lost : ℕ → Bool) {H : History} {f : FactSet} → ((v : ℕ) → lost v ≡ true → v < vars .count) → Calm H f → Calm (droppedEach (byChains q) n lost H) (droppedEach store n lost f)
+    unfolding droppedEach
+    calm-dropped zero lost h c = c
+    calm-dropped (suc n) lost h c = calm-pick (lost n) n (h n) (calm-dropped n lost h c)
+
+    represents-loop : {H : History} {f : FactSet} (xs : List ℕ) → ((v : ℕ) → among v xs ≡ true → v < vars .count) → Represents vars H f → contradictory f ≡ false
+        → Represents vars (loopFacts (byChains q) xs H) (loopFacts store xs f)
+    unfolding loopFacts
+    represents-loop xs h t c = calm-dropped 16 (λ v. among v xs) h (record { represents = t; calm = c }) .represents
+
+-- ---- the variables of a table
+
+module _ (T : List ℤ) (h : Sections) (w : Limits h) where
+  abbrev vars : Variables
+  vars = variables T h w
+
+  kind-of : (v : ℕ) → v < h .variables → vars .pointer v ≡ pointerAt T h v
+  unfolding environmentOf
+  kind-of v b = getD-tabulate 17 (pointerAt T h) v false (omega (arith, w .variables))
+
+  pointer-kind : {v : ℕ} → IsPointer T h v → vars .pointer v ≡ true
+  pointer-kind {v} p = kind-of v (p .below) ∙ p .kind
+
+  integer-kind : {v : ℕ} → IsInteger T h v → vars .pointer v ≡ false
+  unfolding pointerAt integerAt
+  integer-kind {v} p = kind-of v (p .below) ∙ ne-eqb (kindAt T h v) (bias + 1) (omega (arith, eqb-true (kindAt T h v) bias (p .kind)))
+
+  two-integers : {x y : ℕ} → IsInteger T h x → IsInteger T h y → Comparable vars x y
+  two-integers a b = same-kind (a .below) (b .below) (integer-kind a ∙ sym (integer-kind b))
+
+  two-pointers : {x y : ℕ} → IsPointer T h x → IsPointer T h y → Comparable vars x y
+  two-pointers a b = same-kind (a .below) (b .below) (pointer-kind a ∙ sym (pointer-kind b))
+
+  slight : {k : ℕ} → IsSmall k → Slight k
+  slight s = record { floor = omega (arith, s .low); ceiling = omega (arith, s .high) }
+
+  -- ---- conditions and statements
+
+  record Compared (x y : ℕ) : Type 0 where
+    first : x < h .variables
+    there : Comparable vars x y
+    back : Comparable vars y x
+
+  zero-compared : {x y : ℕ} → x < h .variables → y ≡ zeroVar → Compared x y
+  zero-compared l e = rw e (record { first = l; there = to-zero l; back = from-zero l })
+
+  compared : {x y k : ℕ} → Sides T h x y k → Compared x y
+  compared (integers a b e) = record { first = a .below; there = two-integers a b; back = two-integers b a }
+  compared (pointers a b e) = record { first = a .below; there = two-pointers a b; back = two-pointers b a }
+  compared (literal a b e) = zero-compared (a .below) b
+  compared (null a b e) = zero-compared (a .below) b
+
+  -- ---- the targets of a loop's body are variables
+
+  among-append : (v : ℕ) (xs ys : List ℕ) → among v (xs ++ ys) ≡ true → (among v xs ≡ true) ⊎ (among v ys ≡ true)
+  unfolding among
+  among-append v [] ys e = inr e
+  among-append v (x ∷ xs) ys e = go (eqb v x) e (λ p. among-append v xs ys p)
+    where
+      go : (b : Bool) → (b || among v (xs ++ ys)) ≡ true → (among v (xs ++ ys) ≡ true → (among v xs ≡ true) ⊎ (among v ys ≡ true)) → ((b || among v xs) ≡ true) ⊎ (among v ys ≡ true)
+      go true e ih = inl refl
+      go false e ih = ih e
+
+  one : {v x : ℕ} → x < h .variables → among v (x ∷ []) ≡ true → v < h .variables
+  unfolding among
+  one {v} {x} l e = go (eqb v x) refl e
+    where
+      go : (b : Bool) → eqb v x ≡ b → (b || false) ≡ true → v < h .variables
+      go true q e = omega (arith, eqb-true v x q)
+      go false q e = absurd (false≢true e)
+
+  none : {v : ℕ} → among v [] ≡ true → v < h .variables
+  unfolding among
+  none e = absurd (false≢true e)
+
+  target-below : (v : ℕ) (s : Simple) → SimpleTyped T h s → among v (target s) ≡ true → v < h .variables
+  target-below v (Literal x k) s e = one (s .target .below) e
+  target-below v (AddConstant x y k) s e = one (s .target .below) e
+  target-below v (Arithmetic x y z op) s e = one (s .target .below) e
+  target-below v (Null p) s e = one (s .below) e
+  target-below v (Address p o) s e = one (s .target .below) e
+  target-below v (PointerOffset p q k) s e = one (s .target .below) e
+  target-below v (PointerIndex p q i) s e = one (s .target .below) e
+  target-below v (Load x p i k) s e = one (s .value .below) e
+  target-below v (Store p i k x) s e = none e
+  target-below v (Check c) s e = none e
+
+  read-below : (v a : ℕ) (r : StatementRead) → statementAt T h a ≡ r → among v (targetOf r) ≡ true → v < h .variables
+  read-below v a Unread q e = none e
+  read-below v a (Read (Plain s)) q e = target-below v s (read-typed T h a (Plain s) q) e
+  read-below v a (Read (If c n m)) q e = none e
+  read-below v a (Read (While c n)) q e = none e
+  read-below v a (Read (Bundle n)) q e = none e
+
+  targets-below : (v a n : ℕ) → among v (targetsFrom T h a n) ≡ true → v < h .variables
+  unfolding targetsFrom
+  targets-below v a zero e = none e
+  targets-below v a (suc n) e =
+      ⊎-elim (λ (p : among v (targetOf (statementAt T h a)) ≡ true). read-below v a (statementAt T h a) refl p)
+      (λ (p : among v (targetsFrom T h (a + 1) n) ≡ true). targets-below v (a + 1) n p)
+      (among-append v (targetOf (statementAt T h a)) (targetsFrom T h (a + 1) n) e)
+
+  -- ---- conditions and statements
+
+  module _ (q : Decider) (right : Decides vars q) where
+    pub condition-represented : {H : History} {f : FactSet} → Represents vars H f → (c : Condition) → Sides T h (c .left) (c .right) (c .offset) → Represents vars (conditionFacts (byChains q) H c) (conditionFacts store f c)
+    unfolding conditionFacts
+    condition-represented t c s = let p = compared s in represents-relation vars q right t (c .left) (c .right) (c .offset) (p .first) (p .there) (p .back) (c .relation)
+
+    pub negated-represented : {H : History} {f : FactSet} → Represents vars H f → (c : Condition) → Sides T h (c .left) (c .right) (c .offset)
+        → Represents vars (conditionFacts (byChains q) H (negatedOf c)) (conditionFacts store f (negatedOf c))
+    unfolding negatedOf
+    negated-represented t c s = condition-represented t (negatedOf c) s
+
+    pub after-represented : {H : History} {f : FactSet} → Represents vars H f → contradictory f ≡ false → (s : Simple) → SimpleTyped T h s → Represents vars (factsAfter (byChains q) s H) (factsAfter store s f)
+    unfolding factsAfter sumFacts offsetFacts
+    after-represented t c (Literal x k) s = represents-range vars t c x k k (s .target .below) (omega arith) (omega (arith, s .value))
+    after-represented {H} {f} t c (AddConstant x y k) s =
+        let d = represents-drop vars t c x (s .target .below) in
+        let e : inRange store f y k ≡ inRange (byChains q) H y k = range-represented vars q right t y k (inr (s .source .below)) in
+        rw (← e) (represents-pick vars (inRange store f y k)
+        (represents-pick vars (eqb x y) (represents-shift vars t x k (s .target .below) (slight (s .constant)))
+        (represents-equated vars q right d x y k (two-integers (s .target) (s .source)) (two-integers (s .source) (s .target))))
+        d)
+    after-represented t c (Arithmetic x y z op) s = represents-drop vars t c x (s .target .below)
+    after-represented t c (Null p) s = represents-range vars t c p 0 0 (s .below) (omega arith) (omega arith)
+    after-represented t c (Address p o) s = represents-range vars t c p 1 maxValue (s .target .below) (omega arith) (omega arith)
+    after-represented t c (PointerOffset p r k) s =
+        let moved = represents-pick vars (eqb p r) (represents-shift vars t p k (s .target .below) (slight (s .constant)))
+        (represents-equated vars q right (represents-drop vars t c p (s .target .below)) p r k (two-pointers (s .target) (s .source)) (two-pointers (s .source) (s .target))) in
+        represents-pick vars (eqb k bias) moved (represents-positive vars q right moved p (s .target .below))
+    after-represented t c (PointerIndex p r i) s = represents-range vars t c p 1 maxValue (s .target .below) (omega arith) (omega arith)
+    after-represented t c (Load x p i k) s = represents-drop vars t c x (s .value .below)
+    after-represented t c (Store p i k x) s = t
+    after-represented t c (Check d) s = condition-represented t d (s .sides)
+
+    pub body-represented : {H : History} {f : FactSet} → Represents vars H f → contradictory f ≡ false → (a n : ℕ)
+        → Represents vars (loopFacts (byChains q) (targetsFrom T h a n) H) (loopFacts store (targetsFrom T h a n) f)
+    body-represented t c a n = represents-loop vars q right (targetsFrom T h a n) (λ v e. targets-below v a n e) t c

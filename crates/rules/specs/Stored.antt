@@ -1,0 +1,152 @@
+-- The rules over the fact store: what the code computes with.
+use Prim.Native.Nat.{ℕ, _+_, _-_, _^_}
+use mathlib.Core.Bool.{Bool, _&&_, _||_, cond}
+use mathlib.Core.List.{List}
+use lib.IntN.{ℤ}
+use lib.Dec.{leb, ltb, eqb}
+use Rattle.sums.specs.Numbers.{bias}
+use Rattle.facts.specs.Store as sets
+use Rattle.facts.specs.declared.FactSet.{FactSet}
+use Rattle.sections.specs.declared.Sections.{Sections}
+use Rattle.conditions.specs.declared.Condition.{Condition}
+use Rattle.statements.specs.declared.Simple.{Simple}
+use Rattle.variables.specs.declared.End.{End}
+use Rattle.table.specs.declared.Form.{Form}
+use Rattle.blocks.specs.Tree.{Block}
+use Rattle.rules.specs.FactSets.{FactSets}
+use Rattle.rules.specs.FactRules as facts
+use Rattle.rules.specs.BoundsRules as bounds
+use Rattle.rules.specs.Rules as walk
+use Rattle.rules.specs.Rules.{Fault}
+use Rattle.rules.specs.Verdict as verdict
+use Rattle.rules.specs.declared.KnownEnd.{KnownEnd}
+use Rattle.rules.specs.declared.KnownEnd.the-variants.{Known, Unknown}
+use Rattle.rules.specs.declared.Bounds.{Bounds}
+use Rattle.rules.specs.declared.Environment.{Environment}
+use Rattle.rules.specs.declared.Effect.{Effect}
+
+abbrev pub sameEnd : End → End → Bool
+sameEnd e g = eqb (e .pointer) (g .pointer) && eqb (e .integer) (g .integer) && eqb (e .constant) (g .constant)
+
+-- Sums of 64 bits hold the constants that arise; any other end is unknown.
+unfoldable pub shiftConstant : ℕ → End → KnownEnd
+shiftConstant k e =
+    cond (ltb (e .constant) (2 ^ 40) && leb k (e .constant + bias))
+    (Known (record { pointer = e .pointer; integer = e .integer; constant = e .constant + bias - k })) Unknown
+
+abbrev pub store : FactSets
+store = record {
+  Facts = FactSet;
+  new = sets.newSet;
+  added = sets.added;
+  dropped = sets.dropped;
+  ranged = sets.ranged;
+  shifted = sets.shifted;
+  joined = sets.joined;
+  contradictory = sets.contradictory;
+  shown = sets.shown;
+  -- The same end is at most itself, by two empty chains: the facts need not be asked.
+  endShown = λ f q n k r m j. eqb q r && eqb n m && eqb k j || sets.endShown f q n k r m j;
+  endLess = shiftConstant;
+}
+
+-- ---- facts
+
+abbrev pub equated : FactSet → ℕ → ℕ → ℕ → FactSet
+equated = facts.equated store
+
+abbrev pub positive : FactSet → ℕ → FactSet
+positive = facts.positive store
+
+abbrev pub differs : FactSet → ℕ → ℕ → ℕ → FactSet
+differs = facts.differs store
+
+abbrev pub relationFacts : ℕ → FactSet → ℕ → ℕ → ℕ → FactSet
+relationFacts = facts.relationFacts store
+
+abbrev pub conditionFacts : FactSet → Condition → FactSet
+conditionFacts = facts.conditionFacts store
+
+abbrev pub sumFacts : Bool → Bool → FactSet → ℕ → ℕ → ℕ → FactSet
+sumFacts = facts.sumFacts store
+
+abbrev pub offsetFacts : Bool → Bool → FactSet → ℕ → ℕ → ℕ → FactSet
+offsetFacts = facts.offsetFacts store
+
+abbrev pub factsAfter : Simple → FactSet → FactSet
+factsAfter = facts.factsAfter store
+
+abbrev pub droppedEach : ℕ → (ℕ → Bool) → FactSet → FactSet
+droppedEach = facts.droppedEach store
+
+abbrev pub loopFacts : List ℕ → FactSet → FactSet
+loopFacts = facts.loopFacts store
+
+-- ---- bounds
+
+abbrev pub shiftEnd : ℕ → ℕ → KnownEnd → KnownEnd
+shiftEnd = bounds.shiftEnd store
+
+abbrev pub shiftBounds : ℕ → ℕ → Bounds → Bounds
+shiftBounds = bounds.shiftBounds store
+
+abbrev pub effectOn : Effect → List Bounds → ℕ → Bounds
+effectOn = bounds.effectOn store
+
+abbrev pub boundsAfter : Effect → List Bounds → List Bounds
+boundsAfter = bounds.boundsAfter store
+
+abbrev pub effect : Environment → FactSet → Simple → Effect
+effect = bounds.effect store
+
+abbrev pub endAtMost : FactSet → End → End → Bool
+endAtMost = bounds.endAtMost store
+
+abbrev pub knownAtMost : FactSet → KnownEnd → KnownEnd → Bool
+knownAtMost = bounds.knownAtMost store
+
+abbrev pub boundsShown : FactSet → ℕ → Bounds → Bounds → Bool
+boundsShown = bounds.boundsShown store
+
+abbrev pub unshownFrom : Environment → FactSet → List Bounds → ℕ → ℕ → List ℕ
+unshownFrom = bounds.unshownFrom store
+
+abbrev pub unshown : Environment → FactSet → List Bounds → List ℕ
+unshown = bounds.unshown store
+
+abbrev pub accessShown : Environment → FactSet → List Bounds → Simple → Bool
+accessShown = bounds.accessShown store
+
+-- ---- the walk
+
+abbrev pub contradictionAt : FactSet → ℕ → List Fault
+contradictionAt = walk.contradictionAt store
+
+abbrev pub bundleFacts : List Simple → FactSet → FactSet
+bundleFacts = walk.bundleFacts store
+
+abbrev pub bundleBounds : Environment → List Simple → FactSet → List Bounds → List Bounds
+bundleBounds = walk.bundleBounds store
+
+abbrev pub bundleFaults : Environment → ℕ → List Simple → FactSet → List Bounds → List Fault
+bundleFaults = walk.bundleFaults store
+
+abbrev pub sidesJoined : List ℤ → Sections → Environment → FactSet → FactSet → FactSet
+sidesJoined = walk.sidesJoined store
+
+abbrev pub blockFacts : List ℤ → Sections → Environment → Block → FactSet → FactSet
+blockFacts = walk.blockFacts store
+
+abbrev pub blockFaults : List ℤ → Sections → Environment → Block → FactSet → List Fault
+blockFaults = walk.blockFaults store
+
+-- ---- the verdict
+
+abbrev pub sectionFaults : List ℤ → Sections → List Fault
+sectionFaults = verdict.sectionFaults store
+
+abbrev pub formFaults : List ℤ → Form → List Fault
+formFaults = verdict.formFaults store
+
+abbrev pub faults : List ℤ → List Fault
+faults = verdict.faults store
