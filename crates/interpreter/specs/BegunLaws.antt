@@ -2,7 +2,7 @@
 use Prim.Native.Nat.{ℕ, zero, suc, _+_, _*_, _≤_, _<_}
 use mathlib.Core.Path.{_≡_, refl}
 use mathlib.Core.Logic.{_≢_}
-use mathlib.Core.Bool.{Bool, true, false, not, _&&_, cond}
+use mathlib.Core.Bool.{Bool, true, false, _&&_}
 use mathlib.Core.List.{List}
 use native.Mathlib.Omega.{arith}
 use native.Mathlib.Decide.{ℕ-discrete}
@@ -16,7 +16,7 @@ use Rattle.rules.specs.declared.Environment.{Environment}
 use Rattle.machine.specs.Machine.{value, boundsTrue}
 use Rattle.entry.specs.Entry.{endBefore, pairRight, entryRight}
 use Rattle.machine.specs.Soundness.{Placed, Begun}
-use Rattle.interpreter.specs.StartLaws.{Admitted}
+use Rattle.interpreter.specs.StartLaws.{Admitted, origin-inside}
 
 three : (a b c : Bool) → (a && b && c) ≡ true → (a ≡ true) × (b ≡ true) × (c ≡ true)
 three true true c e = (refl, refl, e)
@@ -60,6 +60,7 @@ module _ (h : Sections) (E : Environment) (D cs vs os : List ℕ) (A : Admitted 
     values-small = small-values;
     cells-small = small-cells;
     bounds = λ p q. go p q (ℕ-discrete (value vs p) 0);
+    origins = origin-inside h E D cs vs os A;
   }
     where
       go : (p : ℕ) → isPointer E p ≡ true → Dec (value vs p ≡ 0) → boundsTrue E D vs os p ≡ true

@@ -29,8 +29,10 @@ use Rattle.rules.specs.declared.Verdict.the-variants as verdict
 use Rattle.rules.specs.declared.Environment.{Environment}
 use Rattle.statements.specs.Statements.{statementAt}
 use Rattle.machine.specs.Machine.{Status, going, stopped, stuck, fails, Point, start, pointAfter}
-use Rattle.machine.specs.Points.{Access, no-access, access, accessFrom}
+use Rattle.machine.specs.Points.{Access, no-access, access, accessFrom, Outside}
 use Rattle.machine.specs.Soundness.{Begun, Sound, AccessAllowed}
+use Rattle.machine.specs.Frame.{Own}
+use Rattle.machine.specs.FrameLaws.{run-framed, own-names, own-origins, outside-own}
 use Rattle.machine.specs.RunSound.{sound}
 use Rattle.stops.specs.Checks.{checkNumber, checkStatement, checkOf}
 use Rattle.stops.specs.declared.Check.{Check}
@@ -121,7 +123,7 @@ module _ (T : List ℤ) (h : Sections) (formed : formOf T ≡ WellFormed h) (acc
   abbrev point : ℕ → Point
   point t = pointAfter T h E D t first
 
-  right : (t : ℕ) → Sound T h E D cs (point t)
+  right : (t : ℕ) → Sound T h E D (length cs) (point t)
   right = sound T h formed accepts D cs vs os begun
 
   unstuck : (t : ℕ) → point t .status ≢ stuck
@@ -135,9 +137,10 @@ module _ (T : List ℤ) (h : Sections) (formed : formOf T ≡ WellFormed h) (acc
   unfolding start
   none-yet = refl
 
-  first-cells : point 0 .cells ≡ cs
+  -- The frame law, with all objects of the routine.
+  untouched : (t i : ℕ) → Outside D (h .objects) i → getD (point t .cells) i 0 ≡ getD (point 0 .cells) i 0
   unfolding start pointAfter
-  first-cells = refl
+  untouched t i o = run-framed T h E D (Own h) (own-names T h) t first (own-origins h os (begun .origins)) .elsewhere i (outside-own h D i o)
 
   counted : (t : ℕ) → point t .status ≡ going → point t .due < h .statements → point t .steps ≡ t
   counted = steps-counted T h E D first unstuck none-yet
@@ -227,7 +230,7 @@ module _ (T : List ℤ) (h : Sections) (formed : formOf T ≡ WellFormed h) (acc
   at-point limit t r e l = rw e (record {
     bounds = right t .bounds;
     accesses = λ s b. allowed-inside D (length (point s .cells)) (accessFrom T h E (point s .status) (point s)) (right s .access-allowed);
-    untouched = λ i o. right t .outside i o ∙ ap (λ (l : List ℕ). getD l i 0) (sym first-cells);
+    untouched = untouched t;
     has-step = unstuck t;
     counted = counted t;
     finished = finished limit t l;

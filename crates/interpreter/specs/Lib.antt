@@ -8,3 +8,5 @@ pub mod NumberLaws
 pub mod Claim
 pub mod StepLaws
 pub mod ClaimLaws
+pub mod TwoRuns
+pub mod TwoRunsLaws

@@ -145,7 +145,7 @@ module _ (T : List ℤ) (h : Sections) (D cs vs os w : List ℕ)
       }
 
   module _ (unstuck : (t : ℕ) → pointAfter T h E D t (start T h E D cs vs os) .status ≡ stuck → ⊥) where
-    start-runnable : Runnable T h E D W S (start T h E D cs vs os)
+    pub start-runnable : Runnable T h E D W S (start T h E D cs vs os)
     unfolding start
     start-runnable =
         record {

@@ -57,9 +57,9 @@ into : {A B C : Type 0} → B ⊎ C → (A ⊎ B) ⊎ C
 into (inl b) = inl (inr b)
 into (inr c) = inr c
 
-module _ (T : List ℤ) (h : Sections) (E : Environment) (D cs : List ℕ) (S : Setting T h E D cs) where
+module _ (T : List ℤ) (h : Sections) (E : Environment) (D : List ℕ) (room : ℕ) (S : Setting T h E D room) where
   abbrev GoodAt : FactSet → List Bounds → Memory → Type 0
-  GoodAt F K m = Good h E D cs F K m
+  GoodAt F K m = Good h E D room F K m
 
   pub ready-inside : (s : Simple) (F : FactSet) (K : List Bounds) (m : Memory) → SimpleTyped T h s → accessShown E F K s ≡ true → GoodAt F K m → Ready E D (h .objects) s m
   unfolding boundsRules.accessShown
@@ -71,9 +71,9 @@ module _ (T : List ℤ) (h : Sections) (E : Environment) (D cs : List ℕ) (S : 
   ready-inside (PointerOffset p q k) F K m t e g = tt
   ready-inside (PointerIndex p q i) F K m t e g = tt
   ready-inside (Load x p i k) F K m t e g =
-      let q = S .declares .pointer p (t .pointer) in shown-true T h E D cs S F m p (known K p) q (g .steady) (g .facts) e (g .bounds p q)
+      let q = S .declares .pointer p (t .pointer) in shown-true T h E D room S F m p (known K p) q (g .steady) (g .facts) e (g .bounds p q)
   ready-inside (Store p i k x) F K m t e g =
-      let q = S .declares .pointer p (t .pointer) in shown-true T h E D cs S F m p (known K p) q (g .steady) (g .facts) e (g .bounds p q)
+      let q = S .declares .pointer p (t .pointer) in shown-true T h E D room S F m p (known K p) q (g .steady) (g .facts) e (g .bounds p q)
   ready-inside (Check c) F K m t e g = tt
 
   pub ready-outside : (s : Simple) (F : FactSet) (m : Memory) → SimpleTyped T h s → GoodAt F (E .declared) m → Ready E D (h .objects) s m
@@ -89,26 +89,26 @@ module _ (T : List ℤ) (h : Sections) (E : Environment) (D cs : List ℕ) (S : 
   ready-outside (Check c) F m t g = tt
 
   -- The facts at the head of a loop, from the values that held before it.
-  framed-head : (A : List ℕ) (F : FactSet) (m : Memory) → Framed T h E D cs A F m → InRange (value (m .values)) → Holds (loopFacts A F) (value (m .values))
+  framed-head : (A : List ℕ) (F : FactSet) (m : Memory) → Framed T h E D room A F m → InRange (value (m .values)) → Holds (loopFacts A F) (value (m .values))
   framed-head A F m w r = loop-facts-hold A F (w .old) (value (m .values)) (w .range) r (w .held) (w .agree)
 
   module _ (f : ℕ → Successors) where
     -- Arriving at a block: at its first statement, or at what follows an empty one.
     pub enter : (b : Block) (F : FactSet) (after d : ℕ) (m : Memory) → Linked T h f b after → d ≡ entry b after → GoodAt F (E .declared) m
-        → At T h E D cs b F d m ⊎ Stands T h E D cs after (blockFacts T h E b F) (E .declared) d m
+        → At T h E D room b F d m ⊎ Stands T h E D room after (blockFacts T h E b F) (E .declared) d m
     unfolding entry walkRules.blockFacts
     enter nil F after d m l e g = inr (e, g)
     enter (plain a s r) F after d m l e g = inl (inl (e, g))
     enter (branch a c t u r) F after d m l e g = inl (inl (e, g))
     enter (loop a c n t r) F after d m l e g =
         let A = targetsFrom T h (a + 1) n in
-        let w : Framed T h E D cs A F m = record { old = value (m .values); held = g .facts; range = g .steady .range; agree = λ z q. refl } in
-        inl (inl (w, inl (e, with-facts h E D cs F (loopFacts A F) (E .declared) m g (framed-head A F m w (g .steady .range)))))
+        let w : Framed T h E D room A F m = record { old = value (m .values); held = g .facts; range = g .steady .range; agree = λ z q. refl } in
+        inl (inl (w, inl (e, with-facts h E D room F (loopFacts A F) (E .declared) m g (framed-head A F m w (g .steady .range)))))
     enter (bundle a ss r) F after d m l e g = inl (inl (e, g))
     enter (unread a) F after d m l e g = absurd l
 
     enter-line : (a : ℕ) (ss : List Simple) (F : FactSet) (K : List Bounds) (after d : ℕ) (m : Memory) → d ≡ lead a (length ss) after → GoodAt F K m
-        → AtLine T h E D cs a ss F K d m ⊎ Stands T h E D cs after (bundleFacts ss F) (bundleBounds E ss F K) d m
+        → AtLine T h E D room a ss F K d m ⊎ Stands T h E D room after (bundleFacts ss F) (bundleBounds E ss F K) d m
     unfolding lead walkRules.bundleFacts walkRules.bundleBounds
     enter-line a [] F K after d m e g = inr (e, g)
     enter-line a (s ∷ ss) F K after d m e g = inl (inl (e, g))
@@ -120,16 +120,16 @@ module _ (T : List ℤ) (h : Sections) (E : Environment) (D cs : List ℕ) (S : 
     step-at P a r s d e q = rw (d, e, q)
 
     abbrev Goal : Block → FactSet → ℕ → Memory → ℕ → Memory → Type 0
-    Goal b F after m d n = (At T h E D cs b F d n ⊎ Stands T h E D cs after (blockFacts T h E b F) (E .declared) d n) × Agree (assigned b) (value (m .values)) (value (n .values))
+    Goal b F after m d n = (At T h E D room b F d n ⊎ Stands T h E D room after (blockFacts T h E b F) (E .declared) d n) × Agree (assigned b) (value (m .values)) (value (n .values))
 
     abbrev GoalLine : ℕ → List Simple → FactSet → List Bounds → ℕ → Memory → ℕ → Memory → Type 0
     GoalLine a ss F K after m d n =
-        (AtLine T h E D cs a ss F K d n ⊎ Stands T h E D cs after (bundleFacts ss F) (bundleBounds E ss F K) d n) × Agree (targets ss) (value (m .values)) (value (n .values))
+        (AtLine T h E D room a ss F K d n ⊎ Stands T h E D room after (bundleFacts ss F) (bundleBounds E ss F K) d n) × Agree (targets ss) (value (m .values)) (value (n .values))
 
     -- ---- bundles
 
     line-step : (a : ℕ) (ss : List Simple) (F : FactSet) (K : List Bounds) (after : ℕ) (P : Point) → LinkedLine T h f a ss after → bundleFaults E a ss F K ≡ []
-        → AtLine T h E D cs a ss F K (P .due) (memoryOf P) → Fine (GoalLine a ss F K after (memoryOf P)) P (step P)
+        → AtLine T h E D room a ss F K (P .due) (memoryOf P) → Fine (GoalLine a ss F K after (memoryOf P)) P (step P)
     unfolding walkRules.bundleFaults walkRules.bundleFacts walkRules.bundleBounds targets statementStep
     line-step a [] F K after P l q i = absurd i
     line-step a (s ∷ ss) F K after P l q (inl i) =
@@ -141,7 +141,7 @@ module _ (T : List ℤ) (h : Sections) (E : Environment) (D cs : List ℕ) (S : 
         (λ e.
         done-map
         (λ n w. (into (enter-line (a + 1) ss (factsAfter s F) (boundsAfter (effect E F s) K) after next n refl (w .good)), λ z r. w .agree z (among-left z (target s) (targets ss) r)))
-        (performed D s (memoryOf P)) (performed-good T h E D cs S F K (memoryOf P) (i .1) s typed (ready-inside s F K (memoryOf P) typed shown (i .1)) e)))
+        (performed D s (memoryOf P)) (performed-good T h E D room S F K (memoryOf P) (i .1) s typed (ready-inside s F K (memoryOf P) typed shown (i .1)) e)))
     line-step a (s ∷ ss) F K after P l q (inr i) =
         fine-map (λ d n w. (into (w .0), λ z r. w .1 z (among-right z (target s) (targets ss) r)))
         (line-step (a + 1) ss (factsAfter s F) (boundsAfter (effect E F s) K) after P (l .2) (no-rest _ _ (no-rest _ _ q)) i)
@@ -149,12 +149,12 @@ module _ (T : List ℤ) (h : Sections) (E : Environment) (D cs : List ℕ) (S : 
     -- The end of a bundle: all declared bounds are shown.
     bundle-out : (a : ℕ) (ss : List Simple) (r : Block) (F : FactSet) (after d : ℕ) (m : Memory) → Linked T h f r after
         → unshown E (bundleFacts ss F) (bundleBounds E ss F (E .declared)) ≡ []
-        → AtLine T h E D cs (a + 1) ss F (E .declared) d m ⊎ Stands T h E D cs (entry r after) (bundleFacts ss F) (bundleBounds E ss F (E .declared)) d m
-        → At T h E D cs (bundle a ss r) F d m ⊎ Stands T h E D cs after (blockFacts T h E (bundle a ss r) F) (E .declared) d m
+        → AtLine T h E D room (a + 1) ss F (E .declared) d m ⊎ Stands T h E D room (entry r after) (bundleFacts ss F) (bundleBounds E ss F (E .declared)) d m
+        → At T h E D room (bundle a ss r) F d m ⊎ Stands T h E D room after (blockFacts T h E (bundle a ss r) F) (E .declared) d m
     unfolding walkRules.blockFacts
     bundle-out a ss r F after d m l q (inl x) = inl (inr (inl x))
     bundle-out a ss r F after d m l q (inr x) =
-        into (into (enter r (bundleFacts ss F) after d m l (x .0) (redeclared T h E D cs S (bundleFacts ss F) (bundleBounds E ss F (E .declared)) m q (x .1))))
+        into (into (enter r (bundleFacts ss F) after d m l (x .0) (redeclared T h E D room S (bundleFacts ss F) (bundleBounds E ss F (E .declared)) m q (x .1))))
 
     -- ---- ifs
 
@@ -166,28 +166,28 @@ module _ (T : List ℤ) (h : Sections) (E : Environment) (D cs : List ℕ) (S : 
       elseFacts = blockFacts T h E e (conditionFacts F (negatedOf c))
 
       -- Where the sides meet.
-      join-out : (d : ℕ) (m : Memory) → Stands T h E D cs (entry r after) (sidesJoined T h E thenFacts elseFacts) (E .declared) d m
-          → At T h E D cs (branch a c t e r) F d m ⊎ Stands T h E D cs after (blockFacts T h E (branch a c t e r) F) (E .declared) d m
+      join-out : (d : ℕ) (m : Memory) → Stands T h E D room (entry r after) (sidesJoined T h E thenFacts elseFacts) (E .declared) d m
+          → At T h E D room (branch a c t e r) F d m ⊎ Stands T h E D room after (blockFacts T h E (branch a c t e r) F) (E .declared) d m
       unfolding walkRules.blockFacts
       join-out d m x = into (into (into (enter r (sidesJoined T h E thenFacts elseFacts) after d m (l .4) (x .0) (x .1))))
 
-      then-out : (d : ℕ) (m : Memory) → At T h E D cs t (conditionFacts F c) d m ⊎ Stands T h E D cs (entry r after) thenFacts (E .declared) d m
-          → At T h E D cs (branch a c t e r) F d m ⊎ Stands T h E D cs after (blockFacts T h E (branch a c t e r) F) (E .declared) d m
+      then-out : (d : ℕ) (m : Memory) → At T h E D room t (conditionFacts F c) d m ⊎ Stands T h E D room (entry r after) thenFacts (E .declared) d m
+          → At T h E D room (branch a c t e r) F d m ⊎ Stands T h E D room after (blockFacts T h E (branch a c t e r) F) (E .declared) d m
       then-out d m (inl x) = inl (inr (inl x))
       then-out d m (inr x) =
           join-out d m (
             x .0,
-            with-facts h E D cs thenFacts (sidesJoined T h E thenFacts elseFacts) (E .declared) m (x .1)
+            with-facts h E D room thenFacts (sidesJoined T h E thenFacts elseFacts) (E .declared) m (x .1)
                 (joined-left-holds (isPointer E) thenFacts elseFacts (value (m .values)) (x .1 .steady .range) (x .1 .facts)),
           )
 
-      else-out : (d : ℕ) (m : Memory) → At T h E D cs e (conditionFacts F (negatedOf c)) d m ⊎ Stands T h E D cs (entry r after) elseFacts (E .declared) d m
-          → At T h E D cs (branch a c t e r) F d m ⊎ Stands T h E D cs after (blockFacts T h E (branch a c t e r) F) (E .declared) d m
+      else-out : (d : ℕ) (m : Memory) → At T h E D room e (conditionFacts F (negatedOf c)) d m ⊎ Stands T h E D room (entry r after) elseFacts (E .declared) d m
+          → At T h E D room (branch a c t e r) F d m ⊎ Stands T h E D room after (blockFacts T h E (branch a c t e r) F) (E .declared) d m
       else-out d m (inl x) = inl (inr (inr (inl x)))
       else-out d m (inr x) =
           join-out d m (
             x .0,
-            with-facts h E D cs elseFacts (sidesJoined T h E thenFacts elseFacts) (E .declared) m (x .1)
+            with-facts h E D room elseFacts (sidesJoined T h E thenFacts elseFacts) (E .declared) m (x .1)
                 (joined-right-holds (isPointer E) thenFacts elseFacts (value (m .values)) (x .1 .steady .range) (x .1 .facts)),
           )
 
@@ -197,7 +197,7 @@ module _ (T : List ℤ) (h : Sections) (E : Environment) (D cs : List ℕ) (S : 
           leads (entry t (entry r after)) (memoryOf P) (
             then-out (entry t (entry r after)) (memoryOf P)
                 (enter t (conditionFacts F c) (entry r after) (entry t (entry r after)) (memoryOf P) (l .2) refl
-                (with-facts h E D cs F (conditionFacts F c) (E .declared) (memoryOf P) g (condition-holds F (P .values) (g .steady .range) (g .facts) c q))),
+                (with-facts h E D room F (conditionFacts F c) (E .declared) (memoryOf P) g (condition-holds F (P .values) (g .steady .range) (g .facts) c q))),
             λ z n. refl,
           )
       branch-head P g false q =
@@ -205,7 +205,7 @@ module _ (T : List ℤ) (h : Sections) (E : Environment) (D cs : List ℕ) (S : 
           leads (entry e (entry r after)) (memoryOf P) (
             else-out (entry e (entry r after)) (memoryOf P)
                 (enter e (conditionFacts F (negatedOf c)) (entry r after) (entry e (entry r after)) (memoryOf P) (l .3) refl
-                (with-facts h E D cs F (conditionFacts F (negatedOf c)) (E .declared) (memoryOf P) g
+                (with-facts h E D room F (conditionFacts F (negatedOf c)) (E .declared) (memoryOf P) g
                 (negated-holds F (P .values) (g .steady .range) (g .facts) c (typed .condition .relation) q))),
             λ z n. refl,
           )
@@ -220,34 +220,34 @@ module _ (T : List ℤ) (h : Sections) (E : Environment) (D cs : List ℕ) (S : 
       head = loopFacts dropped F
 
       -- The end of the body makes the while due: all that the body changed was dropped at the head.
-      loop-out : (d : ℕ) (m : Memory) → Framed T h E D cs dropped F m
-          → At T h E D cs t (conditionFacts head c) d m ⊎ Stands T h E D cs a (blockFacts T h E t (conditionFacts head c)) (E .declared) d m
-          → At T h E D cs (loop a c k t r) F d m ⊎ Stands T h E D cs after (blockFacts T h E (loop a c k t r) F) (E .declared) d m
+      loop-out : (d : ℕ) (m : Memory) → Framed T h E D room dropped F m
+          → At T h E D room t (conditionFacts head c) d m ⊎ Stands T h E D room a (blockFacts T h E t (conditionFacts head c)) (E .declared) d m
+          → At T h E D room (loop a c k t r) F d m ⊎ Stands T h E D room after (blockFacts T h E (loop a c k t r) F) (E .declared) d m
       loop-out d m w (inl x) = inl (inl (w, inr x))
       loop-out d m w (inr x) =
-          inl (inl (w, inl (x .0, with-facts h E D cs (blockFacts T h E t (conditionFacts head c)) head (E .declared) m (x .1) (framed-head dropped F m w (x .1 .steady .range)))))
+          inl (inl (w, inl (x .0, with-facts h E D room (blockFacts T h E t (conditionFacts head c)) head (E .declared) m (x .1) (framed-head dropped F m w (x .1 .steady .range)))))
 
-      loop-head : (P : Point) → Framed T h E D cs dropped F (memoryOf P) → GoodAt head (E .declared) (memoryOf P) → (b : Bool) → conditionHolds (P .values) c ≡ b
+      loop-head : (P : Point) → Framed T h E D room dropped F (memoryOf P) → GoodAt head (E .declared) (memoryOf P) → (b : Bool) → conditionHolds (P .values) c ≡ b
           → Fine (Goal (loop a c k t r) F after (memoryOf P)) P (branched b P (successors a (entry t a) (entry r after)))
       unfolding walkRules.blockFacts
       loop-head P w g true q =
           leads (entry t a) (memoryOf P) (
             loop-out (entry t a) (memoryOf P) w
                 (enter t (conditionFacts head c) a (entry t a) (memoryOf P) (l .3) refl
-                (with-facts h E D cs head (conditionFacts head c) (E .declared) (memoryOf P) g (condition-holds head (P .values) (g .steady .range) (g .facts) c q))),
+                (with-facts h E D room head (conditionFacts head c) (E .declared) (memoryOf P) g (condition-holds head (P .values) (g .steady .range) (g .facts) c q))),
             λ z n. refl,
           )
       loop-head P w g false q =
           let typed = read-typed T h a (While c (size t)) (l .0) in
           leads (entry r after) (memoryOf P) (
             into (enter r (conditionFacts head (negatedOf c)) after (entry r after) (memoryOf P) (l .4) refl
-                (with-facts h E D cs head (conditionFacts head (negatedOf c)) (E .declared) (memoryOf P) g
+                (with-facts h E D room head (conditionFacts head (negatedOf c)) (E .declared) (memoryOf P) g
                 (negated-holds head (P .values) (g .steady .range) (g .facts) c (typed .condition .relation) q))),
             λ z n. refl,
           )
 
       -- A step in the body keeps what was dropped apart from what was not.
-      framed-step : (m n : Memory) → Framed T h E D cs dropped F m → Agree (assigned t) (value (m .values)) (value (n .values)) → Framed T h E D cs dropped F n
+      framed-step : (m n : Memory) → Framed T h E D room dropped F m → Agree (assigned t) (value (m .values)) (value (n .values)) → Framed T h E D room dropped F n
       framed-step m n w u =
           let same : assigned t ≡ dropped = l .2 in
           let v : Agree dropped (value (m .values)) (value (n .values)) = rw same at u in
@@ -255,7 +255,7 @@ module _ (T : List ℤ) (h : Sections) (E : Environment) (D cs : List ℕ) (S : 
 
     -- ---- every block
 
-    pub block-step : (b : Block) (F : FactSet) (after : ℕ) (P : Point) → Linked T h f b after → blockFaults T h E b F ≡ [] → At T h E D cs b F (P .due) (memoryOf P)
+    pub block-step : (b : Block) (F : FactSet) (after : ℕ) (P : Point) → Linked T h f b after → blockFaults T h E b F ≡ [] → At T h E D room b F (P .due) (memoryOf P)
         → Fine (Goal b F after (memoryOf P)) P (step P)
     unfolding walkRules.blockFaults walkRules.blockFacts assigned statementStep
     block-step nil F after P l q i = absurd i
@@ -267,10 +267,10 @@ module _ (T : List ℤ) (h : Sections) (E : Environment) (D cs : List ℕ) (S : 
         (λ e.
         done-map
         (λ n w. (
-          into (enter r (factsAfter s F) after (entry r after) n (l .2) refl (redeclared T h E D cs S (factsAfter s F) (boundsAfter (effect E F s) (E .declared)) n shown (w .good))),
+          into (enter r (factsAfter s F) after (entry r after) n (l .2) refl (redeclared T h E D room S (factsAfter s F) (boundsAfter (effect E F s) (E .declared)) n shown (w .good))),
           λ z u. w .agree z (among-left z (target s) (assigned r) u),
         ))
-        (performed D s (memoryOf P)) (performed-good T h E D cs S F (E .declared) (memoryOf P) (i .1) s typed (ready-outside s F (memoryOf P) typed (i .1)) e)))
+        (performed D s (memoryOf P)) (performed-good T h E D room S F (E .declared) (memoryOf P) (i .1) s typed (ready-outside s F (memoryOf P) typed (i .1)) e)))
     block-step (plain a s r) F after P l q (inr i) =
         fine-map (λ d n w. (into (w .0), λ z u. w .1 z (among-right z (target s) (assigned r) u)))
         (block-step r (factsAfter s F) after P (l .2) (no-rest _ _ (no-rest _ _ q)) i)
@@ -297,10 +297,10 @@ module _ (T : List ℤ) (h : Sections) (E : Environment) (D cs : List ℕ) (S : 
           loop-out a c k t r F after l d n (framed-step a c k t r F after l (memoryOf P) n w (x .1)) (x .0),
           λ z u. x .1 z (among-left z (assigned t) (assigned r) u),
         ))
-        (block-step t (conditionFacts (headFacts T h E D cs a k F) c) a P (l .3) (no-first _ _ (no-rest _ _ q)) i)
+        (block-step t (conditionFacts (headFacts T h E D room a k F) c) a P (l .3) (no-first _ _ (no-rest _ _ q)) i)
     block-step (loop a c k t r) F after P l q (inr i) =
         fine-map (λ d n w. (into (w .0), λ z u. w .1 z (among-right z (assigned t) (assigned r) u)))
-        (block-step r (conditionFacts (headFacts T h E D cs a k F) (negatedOf c)) after P (l .4) (no-rest _ _ (no-rest _ _ q)) i)
+        (block-step r (conditionFacts (headFacts T h E D room a k F) (negatedOf c)) after P (l .4) (no-rest _ _ (no-rest _ _ q)) i)
     block-step (bundle a ss r) F after P l q (inl i) =
         let next = lead (a + 1) (length ss) (entry r after) in
         let shown = bounds-passed a _ (no-first _ _ (no-rest _ _ (no-rest _ _ q))) in

@@ -1,7 +1,7 @@
 -- The paper's test of the bounds of a pointer says what the proofs carry; and what holds where a run is begun.
 use Prim.Native.Nat.{ℕ, zero, suc, _+_, _*_, _≤_, _<_}
 use mathlib.Core.Path.{_≡_, refl}
-use mathlib.Core.Logic.{_≢_, inl, inr}
+use mathlib.Core.Logic.{inl, inr}
 use mathlib.Core.Bool.{Bool, true, false, _||_, _&&_, false≢true}
 use mathlib.Core.List.{List}
 use native.Mathlib.Omega.{arith}
@@ -74,7 +74,7 @@ module _ (T : List ℤ) (h : Sections) (E : Environment) (D cs vs os : List ℕ)
       let short : length vs ≤ zeroVar = omega (arith, b .values-long, declares .few) in
       record { zero-is = List·getD-eq-default vs 0 short; below = b .values-small }
 
-  pub begun-good : Good h E D cs newSet (E .declared) (record { cells = cs; values = vs; origins = os })
+  pub begun-good : Good h E D (length cs) newSet (E .declared) (record { cells = cs; values = vs; origins = os })
   begun-good =
       record {
         facts = new-holds (value vs) begun-range;
@@ -86,6 +86,5 @@ module _ (T : List ℤ) (h : Sections) (E : Environment) (D cs vs os : List ℕ)
               origins-long = b .origins-long;
               cells-long = refl;
               cells-small = b .cells-small;
-              outside = λ i o. refl;
             };
       }

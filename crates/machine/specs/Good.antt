@@ -26,17 +26,16 @@ use Rattle.rules.specs.declared.Effect.{Effect}
 use Rattle.rules.specs.declared.Environment.{Environment}
 use Rattle.machine.specs.Machine.{value, low, high, Memory}
 use Rattle.machine.specs.Soundness.{Placed}
-use Rattle.machine.specs.Points.{Outside}
 
 -- What stays the same in a run of an accepted routine: the table is laid out and its walk has no fault, the environment is the table's, and each object
--- is placed in a memory as long as cs.
-pub record Setting (T : List ℤ) (h : Sections) (E : Environment) (D cs : List ℕ) : Type 0 where
+-- is placed in a memory of `room` cells.
+pub record Setting (T : List ℤ) (h : Sections) (E : Environment) (D : List ℕ) (room : ℕ) : Type 0 where
   pub laid : layout T h ≡ []
   pub walked : blockFaults T h E (tree T h) newSet ≡ []
   pub declares : Declares T h E
   pub pairs : length D ≡ 2 * h .objects
-  pub placed : (o : ℕ) → o < h .objects → Placed E D (length cs) o
-  pub memory : length cs ≤ 2 ^ 24
+  pub placed : (o : ℕ) → o < h .objects → Placed E D room o
+  pub memory : room ≤ 2 ^ 24
 
 -- The bounds b lie in the object of the origin.
 pub record InObject (D : List ℕ) (objects origin : ℕ) (b : Bounds) (v : ℕ → ℕ) : Type 0 where
@@ -49,21 +48,20 @@ pub record InObject (D : List ℕ) (objects origin : ℕ) (b : Bounds) (v : ℕ 
 abbrev pub TrueOf : List ℕ → ℕ → Memory → ℕ → Bounds → Type 0
 TrueOf D objects m p b = (value (m .values) p ≡ 0) ⊎ InObject D objects (getD (m .origins) p 0) b (value (m .values))
 
--- What no statement changes, from the memory cs at the start on.
-pub record Steady (h : Sections) (D cs : List ℕ) (m : Memory) : Type 0 where
+-- What no statement changes.
+pub record Steady (h : Sections) (room : ℕ) (m : Memory) : Type 0 where
   pub range : InRange (value (m .values))
   pub values-long : length (m .values) ≡ h .variables
   pub origins-long : length (m .origins) ≡ h .variables
-  pub cells-long : length (m .cells) ≡ length cs
+  pub cells-long : length (m .cells) ≡ room
   pub cells-small : (i : ℕ) → getD (m .cells) i 0 ≤ maxValue
-  pub outside : (i : ℕ) → Outside D (h .objects) i → getD (m .cells) i 0 ≡ getD cs i 0
 
-module _ (h : Sections) (E : Environment) (D cs : List ℕ) where
+module _ (h : Sections) (E : Environment) (D : List ℕ) (room : ℕ) where
   -- The facts F are true of the values, and the known bounds K of each pointer.
   pub record Good (F : FactSet) (K : List Bounds) (m : Memory) : Type 0 where
     pub facts : Holds F (value (m .values))
     pub bounds : (p : ℕ) → isPointer E p ≡ true → TrueOf D (h .objects) m p (known K p)
-    pub steady : Steady h D cs m
+    pub steady : Steady h room m
 
   pub with-facts : (F G : FactSet) (K : List Bounds) (m : Memory) → Good F K m → Holds G (value (m .values)) → Good G K m
   with-facts F G K m g f = record { facts = f; bounds = g .bounds; steady = g .steady }
@@ -98,9 +96,9 @@ assigned vs x a g l few r =
     below z true e = rw (eqb-true z x e) (rw same r)
     below z false e = rw (other z (eqb-false z x e)) (g .below z)
 
-module _ (T : List ℤ) (h : Sections) (E : Environment) (D cs : List ℕ) (S : Setting T h E D cs) where
-  pub steady-values : (m : Memory) (x a : ℕ) (os : List ℕ) → Steady h D cs m → InRange (value (set (m .values) x a)) → length os ≡ h .variables
-      → Steady h D cs (record { cells = m .cells; values = set (m .values) x a; origins = os })
+module _ (T : List ℤ) (h : Sections) (E : Environment) (D : List ℕ) (room : ℕ) (S : Setting T h E D room) where
+  pub steady-values : (m : Memory) (x a : ℕ) (os : List ℕ) → Steady h room m → InRange (value (set (m .values) x a)) → length os ≡ h .variables
+      → Steady h room (record { cells = m .cells; values = set (m .values) x a; origins = os })
   steady-values m x a os s g l =
       record {
         range = g;
@@ -108,7 +106,6 @@ module _ (T : List ℤ) (h : Sections) (E : Environment) (D cs : List ℕ) (S : 
         origins-long = l;
         cells-long = s .cells-long;
         cells-small = s .cells-small;
-        outside = s .outside;
       }
 
   module _ (F G : FactSet) (K : List Bounds) (e : Effect) (m : Memory) (x a : ℕ) (os : List ℕ) where
@@ -122,12 +119,12 @@ module _ (T : List ℤ) (h : Sections) (E : Environment) (D cs : List ℕ) (S : 
     memoryAfter = record { cells = m .cells; values = set (m .values) x a; origins = os }
 
     -- The variable x gets the value a, and the origins become os.
-    pub set-good : Good h E D cs F K m → x < h .variables → a ≤ maxValue → length os ≡ h .variables
+    pub set-good : Good h E D room F K m → x < h .variables → a ≤ maxValue → length os ≡ h .variables
         → ((r : ℕ) → r ≢ x → getD os r 0 ≡ getD (m .origins) r 0)
         → (Assigned before after x a → Holds G after)
         → (Assigned before after x a → (r l u : ℕ) → r ≢ x → BoundsHold l u (known K r) before → BoundsHold l u (effectOn e K r) after)
         → (Assigned before after x a → isPointer E x ≡ true → TrueOf D (h .objects) memoryAfter x (effectOn e K x))
-        → Good h E D cs G (boundsAfter e K) memoryAfter
+        → Good h E D room G (boundsAfter e K) memoryAfter
     set-good g l small long same facts others own =
         record {
           facts = facts is;
@@ -146,8 +143,8 @@ module _ (T : List ℤ) (h : Sections) (E : Environment) (D cs : List ℕ) (S : 
 
 -- ---- all declared bounds are shown, and become the known ones
 
-module _ (T : List ℤ) (h : Sections) (E : Environment) (D cs : List ℕ) (S : Setting T h E D cs) where
-  pub shown-true : (F : FactSet) (m : Memory) (p : ℕ) (b : Bounds) → isPointer E p ≡ true → Steady h D cs m → Holds F (value (m .values))
+module _ (T : List ℤ) (h : Sections) (E : Environment) (D : List ℕ) (room : ℕ) (S : Setting T h E D room) where
+  pub shown-true : (F : FactSet) (m : Memory) (p : ℕ) (b : Bounds) → isPointer E p ≡ true → Steady h room m → Holds F (value (m .values))
       → boundsShown F p b (declared E p) ≡ true → TrueOf D (h .objects) m p b → TrueOf D (h .objects) m p (declared E p)
   shown-true F m p b t s f q (inl z) = inl z
   shown-true F m p b t s f q (inr i) = go (shown-holds F (value (m .values)) f (s .range) _ _ p b (declared E p) below lower upper q (i .bounds))
@@ -168,7 +165,7 @@ module _ (T : List ℤ) (h : Sections) (E : Environment) (D cs : List ℕ) (S : 
       go (inl z) = inl z
       go (inr d) = inr (record { object = i .object; origin-is = i .origin-is; exists = i .exists; bounds = d })
 
-  pub redeclared : (F : FactSet) (K : List Bounds) (m : Memory) → unshown E F K ≡ [] → Good h E D cs F K m → Good h E D cs F (E .declared) m
+  pub redeclared : (F : FactSet) (K : List Bounds) (m : Memory) → unshown E F K ≡ [] → Good h E D room F K m → Good h E D room F (E .declared) m
   redeclared F K m e g =
       record {
         facts = g .facts;

@@ -1,6 +1,9 @@
 pub mod Machine
 pub mod Points
 pub mod Soundness
+pub mod Reach
+pub mod Frame
+pub mod FrameLaws
 pub mod Good
 pub mod ConditionSound
 pub mod AccessSound

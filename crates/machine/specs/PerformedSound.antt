@@ -9,7 +9,6 @@ use borrow.Author.Tests.{leb-false, ltb-false, eqb-true, eqb-false, not-false}
 use lib.Dec.{leb, ltb, eqb}
 use lib.IntN.{ℤ}
 use lib.ListN.{getD, set, length-set}
-use lib.Seq.{getD-set-other}
 use Rattle.facts.specs.Store.{inRange}
 use Rattle.sums.specs.Numbers.{bias, maxValue}
 use Rattle.chains.specs.Sound.{Holds}
@@ -20,7 +19,7 @@ use Rattle.statements.specs.Typed.{SimpleTyped}
 use Rattle.statements.specs.declared.Simple.{Simple}
 use Rattle.statements.specs.declared.Simple.the-variants.{Literal, AddConstant, Arithmetic, Null, Address, PointerOffset, PointerIndex, Load, Store, Check}
 use Rattle.blocks.specs.Tree.{target}
-use Rattle.rules.specs.Stored.{factsAfter, conditionFacts, effect, effectOn, boundsAfter}
+use Rattle.rules.specs.Stored.{conditionFacts, effectOn, boundsAfter}
 use Rattle.rules.specs.FactsTrue.{neither}
 use Rattle.rules.specs.BoundsRules.{declared}
 use Rattle.rules.specs.BoundsTrue.{known-after}
@@ -56,10 +55,10 @@ cells-below (x ∷ l) zero a (suc j) p q = q
 cells-below (x ∷ l) (suc i) a zero p q = q
 cells-below (x ∷ l) (suc i) a (suc j) p q = cells-below l i a j p q
 
-module _ (T : List ℤ) (h : Sections) (E : Environment) (D cs : List ℕ) (S : Setting T h E D cs) (F : FactSet) (K : List Bounds) (m : Memory) (g : Good h E D cs F K m) where
+module _ (T : List ℤ) (h : Sections) (E : Environment) (D : List ℕ) (room : ℕ) (S : Setting T h E D room) (F : FactSet) (K : List Bounds) (m : Memory) (g : Good h E D room F K m) where
   -- Values and origins stay.
-  keep-good : (G : FactSet) (cells : List ℕ) → Holds G (value (m .values)) → Steady h D cs (record { cells = cells; values = m .values; origins = m .origins })
-      → Good h E D cs G (boundsAfter Keep K) (record { cells = cells; values = m .values; origins = m .origins })
+  keep-good : (G : FactSet) (cells : List ℕ) → Holds G (value (m .values)) → Steady h room (record { cells = cells; values = m .values; origins = m .origins })
+      → Good h E D room G (boundsAfter Keep K) (record { cells = cells; values = m .values; origins = m .origins })
   unfolding boundsRules.effectOn
   keep-good G cells f s =
       record { facts = f; bounds = λ p t. rw (known-after Keep K p (omega (arith, S .declares .few, S .declares .below p t))) (g .bounds p t); steady = s }
@@ -68,7 +67,7 @@ module _ (T : List ℤ) (h : Sections) (E : Environment) (D cs : List ℕ) (S : 
   pointer-inside p a i e t = access-inside E D (h .objects) m p (S .declares .ends p (S .declares .pointer p i)) a e t
 
   store-steady : (a x : ℕ) (origin : ℕ) → Inside D (h .objects) origin a
-      → Steady h D cs (record { cells = set (m .cells) (a - bias) (value (m .values) x); values = m .values; origins = m .origins })
+      → Steady h room (record { cells = set (m .cells) (a - bias) (value (m .values) x); values = m .values; origins = m .origins })
   store-steady a x origin i =
       record {
         range = g .steady .range;
@@ -76,25 +75,21 @@ module _ (T : List ℤ) (h : Sections) (E : Environment) (D cs : List ℕ) (S : 
         origins-long = g .steady .origins-long;
         cells-long = length-set (m .cells) (a - bias) (value (m .values) x) ∙ g .steady .cells-long;
         cells-small = λ j. cells-below (m .cells) (a - bias) (value (m .values) x) j (g .steady .range .below x) (g .steady .cells-small j);
-        outside =
-            λ j o.
-            getD-set-other (m .cells) (a - bias) j (value (m .values) x) 0 (λ q. o (i .object) (i .exists) (omega (arith, i .above)) (omega (arith, i .below)))
-            ∙ g .steady .outside j o;
       }
 
   -- p := q + k, by whether it is a plain copy.
   offset-done : (p q k : ℕ) → SimpleTyped T h (PointerOffset p q k) → (b : Bool) → eqb k bias ≡ b
       → firstUnless b (arithmeticFailing (value (m .values) q) (value (m .values) q + k)) ≡ none
-      → Left T h E D cs S F K (PointerOffset p q k) m (derivedSet m p q (value (m .values) q + k - bias))
+      → Left T h E D room S F K (PointerOffset p q k) m (derivedSet m p q (value (m .values) q + k - bias))
   unfolding factRules.factsAfter boundsRules.effect
   offset-done p q k t true c e =
       let same : k ≡ bias = eqb-true k bias c in
       let small : value (m .values) q + k - bias ≤ maxValue = omega (arith, g .steady .range .below q) in
       record {
         good =
-            offset-left T h E D cs S F K m g p q (value (m .values) q + k - bias) (t .target) (t .source) small (λ z. omega arith) k (omega arith)
+            offset-left T h E D room S F K m g p q (value (m .values) q + k - bias) (t .target) (t .source) small (λ z. omega arith) k (omega arith)
             (λ n. absurd (false≢true (sym n ∙ c))) (eqb p q) (eqb k bias) refl refl;
-        agree = pointer-agree T h E D cs S F K m g p (value (m .values) q + k - bias) (getD (m .origins) q 0) (t .target) small;
+        agree = pointer-agree T h E D room S F K m g p (value (m .values) q + k - bias) (getD (m .origins) q 0) (t .target) small;
       }
   offset-done p q k t false c e =
       let r = moves (value (m .values) q) (value (m .values) q + k) e in
@@ -103,13 +98,13 @@ module _ (T : List ℤ) (h : Sections) (E : Environment) (D cs : List ℕ) (S : 
       let small : value (m .values) q + k - bias ≤ maxValue = omega arith in
       record {
         good =
-            offset-left T h E D cs S F K m g p q (value (m .values) q + k - bias) (t .target) (t .source) small (λ z. absurd (r .some z)) k (omega arith) (λ n. omega arith) (eqb p q)
+            offset-left T h E D room S F K m g p q (value (m .values) q + k - bias) (t .target) (t .source) small (λ z. absurd (r .some z)) k (omega arith) (λ n. omega arith) (eqb p q)
             (eqb k bias) refl refl;
-        agree = pointer-agree T h E D cs S F K m g p (value (m .values) q + k - bias) (getD (m .origins) q 0) (t .target) small;
+        agree = pointer-agree T h E D room S F K m g p (value (m .values) q + k - bias) (getD (m .origins) q 0) (t .target) small;
       }
 
   index-done : (p q i : ℕ) → SimpleTyped T h (PointerIndex p q i) → arithmeticFailing (value (m .values) q) (value (m .values) q + value (m .values) i + bias) ≡ none
-      → Left T h E D cs S F K (PointerIndex p q i) m (derivedSet m p q (value (m .values) q + value (m .values) i))
+      → Left T h E D room S F K (PointerIndex p q i) m (derivedSet m p q (value (m .values) q + value (m .values) i))
   unfolding factRules.factsAfter boundsRules.effect
   index-done p q i t e =
       let r = moves (value (m .values) q) (value (m .values) q + value (m .values) i + bias) e in
@@ -117,29 +112,29 @@ module _ (T : List ℤ) (h : Sections) (E : Environment) (D cs : List ℕ) (S : 
       let below : value (m .values) q + value (m .values) i + bias ≤ bias + maxValue = r .below in
       let small : value (m .values) q + value (m .values) i ≤ maxValue = omega arith in
       record {
-        good = index-left T h E D cs S F K m g p q (value (m .values) q + value (m .values) i) (t .target) (t .source) small (λ z. absurd (r .some z)) (omega arith) (eqb p q) refl;
-        agree = pointer-agree T h E D cs S F K m g p (value (m .values) q + value (m .values) i) (getD (m .origins) q 0) (t .target) small;
+        good = index-left T h E D room S F K m g p q (value (m .values) q + value (m .values) i) (t .target) (t .source) small (λ z. absurd (r .some z)) (omega arith) (eqb p q) refl;
+        agree = pointer-agree T h E D room S F K m g p (value (m .values) q + value (m .values) i) (getD (m .origins) q 0) (t .target) small;
       }
 
-  pub performed-good : (s : Simple) → SimpleTyped T h s → Ready E D (h .objects) s m → failing E (m .values) s ≡ none → Done (Left T h E D cs S F K s m) (performed D s m)
+  pub performed-good : (s : Simple) → SimpleTyped T h s → Ready E D (h .objects) s m → failing E (m .values) s ≡ none → Done (Left T h E D room S F K s m) (performed D s m)
   unfolding performed failing factRules.factsAfter boundsRules.effect
   performed-good (Literal x k) t r e =
       let small : k ≤ maxValue = omega (arith, t .value) in
-      record { good = literal-left T h E D cs S F K m g x k (t .target) small; agree = integer-agree T h E D cs S F K m g x k (t .target) small }
+      record { good = literal-left T h E D room S F K m g x k (t .target) small; agree = integer-agree T h E D room S F K m g x k (t .target) small }
   performed-good (AddConstant x y k) t r e =
       let a = (value (m .values) y + k) % 2 ^ 32 in
       record {
-        good = sum-left T h E D cs S F K m g x y k (t .target) (t .source) (inRange F y k) (eqb x y) refl refl;
-        agree = integer-agree T h E D cs S F K m g x a (t .target) (remainder-small (value (m .values) y + k));
+        good = sum-left T h E D room S F K m g x y k (t .target) (t .source) (inRange F y k) (eqb x y) refl refl;
+        agree = integer-agree T h E D room S F K m g x a (t .target) (remainder-small (value (m .values) y + k));
       }
   performed-good (Arithmetic x y z op) t r e =
       let a = combined op (value (m .values) y) (value (m .values) z) in
       let small = combined-small op (value (m .values) y) (value (m .values) z) in
-      record { good = integer-dropped T h E D cs S F K m g x a (t .target) small; agree = integer-agree T h E D cs S F K m g x a (t .target) small }
-  performed-good (Null p) t r e = record { good = null-left T h E D cs S F K m g p t; agree = pointer-agree T h E D cs S F K m g p 0 0 t (omega arith) }
+      record { good = integer-dropped T h E D room S F K m g x a (t .target) small; agree = integer-agree T h E D room S F K m g x a (t .target) small }
+  performed-good (Null p) t r e = record { good = null-left T h E D room S F K m g p t; agree = pointer-agree T h E D room S F K m g p 0 0 t (omega arith) }
   performed-good (Address p o) t r e =
       let small : low D o ≤ maxValue = omega (arith, S .placed o (t .object) .inside, S .memory) in
-      record { good = address-left T h E D cs S F K m g p o (t .target) (t .object); agree = pointer-agree T h E D cs S F K m g p (low D o) (o + 1) (t .target) small }
+      record { good = address-left T h E D room S F K m g p o (t .target) (t .object); agree = pointer-agree T h E D room S F K m g p (low D o) (o + 1) (t .target) small }
   performed-good (PointerOffset p q k) t r e = offset-done p q k t (eqb k bias) refl e
   performed-good (PointerIndex p q i) t r e = index-done p q i t e
   performed-good (Load x p i k) t r e =
@@ -147,7 +142,7 @@ module _ (T : List ℤ) (h : Sections) (E : Environment) (D cs : List ℕ) (S : 
       let b = getD (m .cells) (a - bias) 0 in
       let small = g .steady .cells-small (a - bias) in
       rw (inside-origin D (h .objects) (getD (m .origins) p 0) a (pointer-inside p a (t .pointer) e r))
-      (record { good = integer-dropped T h E D cs S F K m g x b (t .value) small; agree = integer-agree T h E D cs S F K m g x b (t .value) small })
+      (record { good = integer-dropped T h E D room S F K m g x b (t .value) small; agree = integer-agree T h E D room S F K m g x b (t .value) small })
   performed-good (Store p i k x) t r e =
       let a = address (m .values) p i k in
       let inside = pointer-inside p a (t .pointer) e r in

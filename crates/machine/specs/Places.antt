@@ -75,10 +75,10 @@ module _ (T : List ℤ) (h : Sections) (f : ℕ → Successors) where
 
 -- ---- the places
 
-module _ (T : List ℤ) (h : Sections) (E : Environment) (D cs : List ℕ) where
+module _ (T : List ℤ) (h : Sections) (E : Environment) (D : List ℕ) (room : ℕ) where
   -- The statement a is due, and F and K are true.
   abbrev pub Stands : ℕ → FactSet → List Bounds → ℕ → Memory → Type 0
-  Stands a F K d m = (d ≡ a) × Good h E D cs F K m
+  Stands a F K d m = (d ≡ a) × Good h E D room F K m
 
   -- At one of the statements of a bundle, the first of which is a.
   abbrev pub AtLine : ℕ → List Simple → FactSet → List Bounds → ℕ → Memory → Type 0

@@ -43,14 +43,14 @@ use Rattle.machine.specs.BlockSound.{Fine, leads, stops, enter, block-st
 use Rattle.machine.specs.Standing.{Standing, standing}
 use Rattle.machine.specs.EntrySound.{true-test, begun-good}
 
-module _ (T : List ℤ) (h : Sections) (E : Environment) (D cs : List ℕ) where
+module _ (T : List ℤ) (h : Sections) (E : Environment) (D : List ℕ) (room : ℕ) where
   -- What the proof carries from point to point: the place in the tree with its facts and bounds, or the end of the table.
   pub record Invariant (P : Point) : Type 0 where
     pub has-step : P .status ≢ stuck
-    pub place : At T h E D cs (tree T h) newSet (P .due) (memoryOf P)
-        ⊎ Stands T h E D cs (h .statements) (blockFacts T h E (tree T h) newSet) (E .declared) (P .due) (memoryOf P)
+    pub place : At T h E D room (tree T h) newSet (P .due) (memoryOf P)
+        ⊎ Stands T h E D room (h .statements) (blockFacts T h E (tree T h) newSet) (E .declared) (P .due) (memoryOf P)
 
-  module _ (S : Setting T h E D cs) where
+  module _ (S : Setting T h E D room) where
     links : Linked T h (successorsOf T h E D) (tree T h) (h .statements)
     links =
         let l = table-laid T h (S .laid) in
@@ -60,7 +60,7 @@ module _ (T : List ℤ) (h : Sections) (E : Environment) (D cs : List ℕ) where
 
     abbrev Next : Memory → ℕ → Memory → Type 0
     Next m d n =
-        (At T h E D cs (tree T h) newSet d n ⊎ Stands T h E D cs (h .statements) (blockFacts T h E (tree T h) newSet) (E .declared) d n)
+        (At T h E D room (tree T h) newSet d n ⊎ Stands T h E D room (h .statements) (blockFacts T h E (tree T h) newSet) (E .declared) d n)
         × Agree (assigned (tree T h)) (value (m .values)) (value (n .values))
 
     fine-kept : (P Q : Point) → Invariant P → Fine (Next (memoryOf P)) P Q → Invariant Q
@@ -71,9 +71,9 @@ module _ (T : List ℤ) (h : Sections) (E : Environment) (D cs : List ℕ) where
     due-kept P i false q = i
     due-kept P i true q = go (i .place)
       where
-        go : At T h E D cs (tree T h) newSet (P .due) (memoryOf P) ⊎ Stands T h E D cs (h .statements) (blockFacts T h E (tree T h) newSet) (E .declared) (P .due) (memoryOf P)
+        go : At T h E D room (tree T h) newSet (P .due) (memoryOf P) ⊎ Stands T h E D room (h .statements) (blockFacts T h E (tree T h) newSet) (E .declared) (P .due) (memoryOf P)
             → Invariant (statementStep E D (statementAt T h (P .due)) (successorsOf T h E D (P .due)) P)
-        go (inl x) = fine-kept P _ i (block-step T h E D cs S (successorsOf T h E D) (tree T h) newSet (h .statements) P links (S .walked) x)
+        go (inl x) = fine-kept P _ i (block-step T h E D room S (successorsOf T h E D) (tree T h) newSet (h .statements) P links (S .walked) x)
         go (inr x) = absurd (omega (arith, ltb-true (P .due) (h .statements) q, x .0))
 
     pub next-kept : (P : Point) (s : Status) → Invariant P → Invariant (nextPoint T h E D s P)
@@ -88,28 +88,28 @@ module _ (T : List ℤ) (h : Sections) (E : Environment) (D cs : List ℕ) where
     point-kept zero P i = i
     point-kept (suc t) P i = next-kept (pointAfter T h E D t P) (pointAfter T h E D t P .status) (point-kept t P i)
 
-    pub start-kept : (vs os : List ℕ) → Good h E D cs newSet (E .declared) (record { cells = cs; values = vs; origins = os }) → Invariant (start T h E D cs vs os)
+    pub start-kept : (cs vs os : List ℕ) → Good h E D room newSet (E .declared) (record { cells = cs; values = vs; origins = os }) → Invariant (start T h E D cs vs os)
     unfolding start tableEntry
-    start-kept vs os g =
+    start-kept cs vs os g =
         record {
           has-step = λ e. let z : _≡_ {A = ℕ} 0 1 = cc in omega arith;
-          place = enter T h E D cs S (successorsOf T h E D) (tree T h) newSet (h .statements) _ (record { cells = cs; values = vs; origins = os }) links refl g;
+          place = enter T h E D room S (successorsOf T h E D) (tree T h) newSet (h .statements) _ (record { cells = cs; values = vs; origins = os }) links refl g;
         }
 
     -- ---- what the invariant says
 
     abbrev Somewhere : Point → Type 0
-    Somewhere P = Standing T h E D cs (tree T h) (P .due) (memoryOf P) ⊎ ((P .due ≡ h .statements) × Good h E D cs (blockFacts T h E (tree T h) newSet) (E .declared) (memoryOf P))
+    Somewhere P = Standing T h E D room (tree T h) (P .due) (memoryOf P) ⊎ ((P .due ≡ h .statements) × Good h E D room (blockFacts T h E (tree T h) newSet) (E .declared) (memoryOf P))
 
     somewhere : (P : Point) → Invariant P → Somewhere P
     somewhere P i = go (i .place)
       where
-        go : At T h E D cs (tree T h) newSet (P .due) (memoryOf P) ⊎ Stands T h E D cs (h .statements) (blockFacts T h E (tree T h) newSet) (E .declared) (P .due) (memoryOf P)
+        go : At T h E D room (tree T h) newSet (P .due) (memoryOf P) ⊎ Stands T h E D room (h .statements) (blockFacts T h E (tree T h) newSet) (E .declared) (P .due) (memoryOf P)
             → Somewhere P
-        go (inl x) = inl (standing T h E D cs S (successorsOf T h E D) (tree T h) newSet (h .statements) (P .due) (memoryOf P) links (S .walked) x)
+        go (inl x) = inl (standing T h E D room S (successorsOf T h E D) (tree T h) newSet (h .statements) (P .due) (memoryOf P) links (S .walked) x)
         go (inr x) = inr x
 
-    steady-of : (P : Point) → Somewhere P → Steady h D cs (memoryOf P)
+    steady-of : (P : Point) → Somewhere P → Steady h room (memoryOf P)
     steady-of P (inl w) = w .good .steady
     steady-of P (inr w) = w .1 .steady
 
@@ -122,7 +122,7 @@ module _ (T : List ℤ) (h : Sections) (E : Environment) (D cs : List ℕ) where
     bounds-of P (inr w) e p t = true-test E D (h .objects) (S .pairs) (memoryOf P) p (S .declares .ends p t) (w .1 .bounds p t)
 
     -- The access of a statement that is due, where no check fails.
-    access-right : (m : Memory) (origin a : ℕ) → Steady h D cs m → Inside D (h .objects) origin a → AccessRight D (length (m .cells)) a origin
+    access-right : (m : Memory) (origin a : ℕ) → Steady h room m → Inside D (h .objects) origin a → AccessRight D (length (m .cells)) a origin
     access-right m origin a s i =
         let placed = S .placed (i .object) (i .exists) in
         record {
@@ -131,7 +131,7 @@ module _ (T : List ℤ) (h : Sections) (E : Environment) (D cs : List ℕ) where
           last = omega (arith, placed .inside, i .below, s .cells-long);
         }
 
-    simple-allowed : (s : Simple) (a : ℕ) (m : Memory) → Steady h D cs m → statementAt T h a ≡ Read (Plain s) → Ready E D (h .objects) s m → failing E (m .values) s ≡ none
+    simple-allowed : (s : Simple) (a : ℕ) (m : Memory) → Steady h room m → statementAt T h a ≡ Read (Plain s) → Ready E D (h .objects) s m → failing E (m .values) s ≡ none
         → AccessAllowed D (length (m .cells)) (simpleAccess s m)
     unfolding failing
     simple-allowed (Literal x k) a m w r y e = tt
@@ -180,7 +180,7 @@ module _ (T : List ℤ) (h : Sections) (E : Environment) (D cs : List ℕ) where
     from-allowed P (stopped n) i = tt
     from-allowed P stuck i = tt
 
-    pub invariant-sound : (P : Point) → Invariant P → Sound T h E D cs P
+    pub invariant-sound : (P : Point) → Invariant P → Sound T h E D room P
     invariant-sound P i =
         let w = somewhere P i in
         let s = steady-of P w in
@@ -194,11 +194,10 @@ module _ (T : List ℤ) (h : Sections) (E : Environment) (D cs : List ℕ) where
           origins-long = s .origins-long;
           cells-small = s .cells-small;
           values-small = s .range .below;
-          outside = s .outside;
         }
 
     -- A run that goes on from any point where the invariant holds.
-    pub sound-from : (t : ℕ) (P : Point) → Invariant P → Sound T h E D cs (pointAfter T h E D t P)
+    pub sound-from : (t : ℕ) (P : Point) → Invariant P → Sound T h E D room (pointAfter T h E D t P)
     sound-from t P i = invariant-sound (pointAfter T h E D t P) (point-kept t P i)
 
 -- ---- the theorem
@@ -207,15 +206,15 @@ module _ (T : List ℤ) (h : Sections) (formed : formOf T ≡ WellFormed h) (acc
   declares : Declares T h (environmentOf T h)
   declares = environment-declares T h (well-formed T h formed)
 
-  pub begun-setting : Setting T h (environmentOf T h) D cs
+  pub begun-setting : Setting T h (environmentOf T h) D (length cs)
   begun-setting =
       let a = clear T h formed accepts in
       record { laid = a .laid; walked = a .walked; declares = declares; pairs = begun .pairs; placed = begun .placed; memory = begun .memory }
 
   -- The invariant holds at the start.
-  pub begun-invariant : Invariant T h (environmentOf T h) D cs (start T h (environmentOf T h) D cs vs os)
-  begun-invariant = start-kept T h (environmentOf T h) D cs begun-setting vs os (begun-good T h (environmentOf T h) D cs vs os declares begun)
+  pub begun-invariant : Invariant T h (environmentOf T h) D (length cs) (start T h (environmentOf T h) D cs vs os)
+  begun-invariant = start-kept T h (environmentOf T h) D (length cs) begun-setting cs vs os (begun-good T h (environmentOf T h) D cs vs os declares begun)
 
   -- Of a table that the checker accepts and a run that is begun, the claim holds at every point: after any number t of steps.
-  pub sound : (t : ℕ) → Sound T h (environmentOf T h) D cs (pointAfter T h (environmentOf T h) D t (start T h (environmentOf T h) D cs vs os))
-  sound t = sound-from T h (environmentOf T h) D cs begun-setting t (start T h (environmentOf T h) D cs vs os) begun-invariant
+  pub sound : (t : ℕ) → Sound T h (environmentOf T h) D (length cs) (pointAfter T h (environmentOf T h) D t (start T h (environmentOf T h) D cs vs os))
+  sound t = sound-from T h (environmentOf T h) D (length cs) begun-setting t (start T h (environmentOf T h) D cs vs os) begun-invariant

@@ -8,7 +8,7 @@ use native.Mathlib.Omega.{arith}
 use borrow.Author.Tests.{eqb-true, eqb-false, eq-eqb, ne-eqb}
 use lib.Dec.{eqb}
 use lib.IntN.{ℤ}
-use lib.ListN.{length, getD, set, length-set}
+use lib.ListN.{getD, set, length-set}
 use lib.Seq.{getD-set-same, getD-set-other}
 use Rattle.sums.specs.Numbers.{bias, maxValue}
 use Rattle.facts.specs.Store.{inRange, dropped, ranged, shifted}
@@ -67,10 +67,10 @@ pointerSet m p a o = record { cells = m .cells; values = set (m .values) p a; or
 abbrev pub derivedSet : Memory → ℕ → ℕ → ℕ → Memory
 derivedSet m p q a = pointerSet m p a (getD (m .origins) q 0)
 
-module _ (T : List ℤ) (h : Sections) (E : Environment) (D cs : List ℕ) (S : Setting T h E D cs) where
+module _ (T : List ℤ) (h : Sections) (E : Environment) (D : List ℕ) (room : ℕ) (S : Setting T h E D room) where
   -- What the statement s leaves.
   pub record Left (F : FactSet) (K : List Bounds) (s : Simple) (m n : Memory) : Type 0 where
-    pub good : Good h E D cs (factsAfter s F) (boundsAfter (effect E F s) K) n
+    pub good : Good h E D room (factsAfter s F) (boundsAfter (effect E F s) K) n
     pub agree : Agree (target s) (value (m .values)) (value (n .values))
 
   others-forget : (K : List Bounds) (v w : ℕ → ℕ) (x a : ℕ) → Assigned v w x a → (r l u : ℕ) → r ≢ x → BoundsHold l u (known K r) v → BoundsHold l u (effectOn (Forget x) K r) w
@@ -90,7 +90,7 @@ module _ (T : List ℤ) (h : Sections) (E : Environment) (D cs : List ℕ) (S : 
   unfolding boundsRules.effectOn
   others-object K v w x k a is r l u n b = rw (ne-eqb r x n) (forget-holds v w x (is .except) l u (known K r) b)
 
-  module _ (F : FactSet) (K : List Bounds) (m : Memory) (g : Good h E D cs F K m) where
+  module _ (F : FactSet) (K : List Bounds) (m : Memory) (g : Good h E D room F K m) where
     abbrev v : ℕ → ℕ
     v = value (m .values)
 
@@ -105,12 +105,12 @@ module _ (T : List ℤ) (h : Sections) (E : Environment) (D cs : List ℕ) (S : 
 
       integer-good : (G : FactSet) (e : Effect) → (Assigned v w x a → Holds G w)
           → (Assigned v w x a → (r l u : ℕ) → r ≢ x → BoundsHold l u (known K r) v → BoundsHold l u (effectOn e K r) w)
-          → Good h E D cs G (boundsAfter e K) (integerSet m x a)
+          → Good h E D room G (boundsAfter e K) (integerSet m x a)
       integer-good G e facts others =
-          set-good T h E D cs S F G K e m x a (m .origins) g (i .below) small (g .steady .origins-long) (λ r n. refl) facts others
+          set-good T h E D room S F G K e m x a (m .origins) g (i .below) small (g .steady .origins-long) (λ r n. refl) facts others
           (λ is t. absurd (false≢true (sym (S .declares .integer x i) ∙ t)))
 
-      pub integer-dropped : Good h E D cs (dropped F x) (boundsAfter (Forget x) K) (integerSet m x a)
+      pub integer-dropped : Good h E D room (dropped F x) (boundsAfter (Forget x) K) (integerSet m x a)
       integer-dropped =
           integer-good (dropped F x) (Forget x) (λ is. dropped-holds F v w (g .steady .range) (is .range) (g .facts) x (variable-small x (i .below)) (is .except))
           (others-forget K v w x a)
@@ -118,7 +118,7 @@ module _ (T : List ℤ) (h : Sections) (E : Environment) (D cs : List ℕ) (S : 
       pub integer-agree : Agree (x ∷ []) v w
       integer-agree z n = getD-set-other (m .values) x z a 0 (among-one z x n)
 
-    pub literal-left : (x k : ℕ) → IsInteger T h x → k ≤ maxValue → Good h E D cs (ranged F x k k) (boundsAfter (Forget x) K) (integerSet m x k)
+    pub literal-left : (x k : ℕ) → IsInteger T h x → k ≤ maxValue → Good h E D room (ranged F x k k) (boundsAfter (Forget x) K) (integerSet m x k)
     literal-left x k i l =
         integer-good x k i l (ranged F x k k) (Forget x)
         (λ is. ranged-holds F v (valuesSet m x k) (g .steady .range) (is .range) (g .facts) x (variable-small x (i .below)) (is .except) k k (omega (arith, is .value-is)) (omega (arith, is .value-is)))
@@ -129,13 +129,13 @@ module _ (T : List ℤ) (h : Sections) (E : Environment) (D cs : List ℕ) (S : 
       sum = (v y + k) % 2 ^ 32
 
       pub sum-left : (f s : Bool) → inRange F y k ≡ f → eqb x y ≡ s
-          → Good h E D cs (sumFacts f s F x y k) (boundsAfter (cond (f && s) (Shift x k) (Forget x)) K) (integerSet m x sum)
+          → Good h E D room (sumFacts f s F x y k) (boundsAfter (cond (f && s) (Shift x k) (Forget x)) K) (integerSet m x sum)
       unfolding factRules.sumFacts
       sum-left false s p q = integer-dropped x sum i (remainder-small (v y + k))
       sum-left true s p q = in-range s q (sum-in-range F v (g .steady .range) (g .facts) y k (omega (arith, variable-small y (j .below))) p)
         where
           in-range : (s : Bool) → eqb x y ≡ s → (bias ≤ v y + k) × (v y + k ≤ bias + maxValue)
-              → Good h E D cs (cond s (shifted F x k) (equated (dropped F x) x y k)) (boundsAfter (cond s (Shift x k) (Forget x)) K) (integerSet m x sum)
+              → Good h E D room (cond s (shifted F x k) (equated (dropped F x) x y k)) (boundsAfter (cond s (Shift x k) (Forget x)) K) (integerSet m x sum)
           in-range true q r =
               let same : v x ≡ v y = ap v (eqb-true x y q) in
               let raised : sum + bias ≡ v x + k = omega (arith, remainder-same (v y + k) (r .0) (r .1)) in
@@ -157,9 +157,9 @@ module _ (T : List ℤ) (h : Sections) (E : Environment) (D cs : List ℕ) (S : 
       pointer-good : (G : FactSet) (e : Effect) → (Assigned v (valuesSet m p a) p a → Holds G (valuesSet m p a))
           → (Assigned v (valuesSet m p a) p a → (r l u : ℕ) → r ≢ p → BoundsHold l u (known K r) v → BoundsHold l u (effectOn e K r) (valuesSet m p a))
           → (Assigned v (valuesSet m p a) p a → getD (set (m .origins) p o) p 0 ≡ o → TrueOf D (h .objects) (pointerSet m p a o) p (effectOn e K p))
-          → Good h E D cs G (boundsAfter e K) (pointerSet m p a o)
+          → Good h E D room G (boundsAfter e K) (pointerSet m p a o)
       pointer-good G e facts others own =
-          set-good T h E D cs S F G K e m p a (set (m .origins) p o) g (i .below) small (length-set (m .origins) p o ∙ g .steady .origins-long)
+          set-good T h E D room S F G K e m p a (set (m .origins) p o) g (i .below) small (length-set (m .origins) p o ∙ g .steady .origins-long)
           (λ r n. getD-set-other (m .origins) p r o 0 n) facts others
           (λ is t. own is (getD-set-same (m .origins) p o 0 (omega (arith, i .below, g .steady .origins-long))))
 
@@ -171,17 +171,17 @@ module _ (T : List ℤ) (h : Sections) (E : Environment) (D cs : List ℕ) (S : 
       ranged-fact bottom top l u is =
           ranged-holds F v (valuesSet m p a) (g .steady .range) (is .range) (g .facts) p (variable-small p (i .below)) (is .except) bottom top (omega (arith, is .value-is)) (omega (arith, is .value-is))
 
-    pub null-left : (p : ℕ) → IsPointer T h p → Good h E D cs (ranged F p 0 0) (boundsAfter (Forget p) K) (pointerSet m p 0 0)
+    pub null-left : (p : ℕ) → IsPointer T h p → Good h E D room (ranged F p 0 0) (boundsAfter (Forget p) K) (pointerSet m p 0 0)
     null-left p i =
         pointer-good p 0 0 i (omega arith) (ranged F p 0 0) (Forget p) (ranged-fact p 0 0 i (omega arith) 0 0 (omega arith) (omega arith))
         (others-forget K v (valuesSet m p 0) p 0) (λ is e. inl (is .value-is))
 
-    pub address-left : (p o : ℕ) → IsPointer T h p → o < h .objects → Good h E D cs (ranged F p 1 maxValue) (boundsAfter (Object p (objectLength E o)) K) (pointerSet m p (low D o) (o + 1))
+    pub address-left : (p o : ℕ) → IsPointer T h p → o < h .objects → Good h E D room (ranged F p 1 maxValue) (boundsAfter (Object p (objectLength E o)) K) (pointerSet m p (low D o) (o + 1))
     unfolding boundsRules.effectOn
     address-left p o i l =
         let placed = S .placed o l in
         let long : getD D (2 * o + 1) 0 ≡ objectLength E o = placed .long in
-        let inside : high D o ≤ length cs = placed .inside in
+        let inside : high D o ≤ room = placed .inside in
         let small : low D o ≤ maxValue = omega (arith, S .memory) in
         pointer-good p (low D o) (o + 1) i small (ranged F p 1 maxValue) (Object p (objectLength E o))
         (ranged-fact p (low D o) (o + 1) i small 1 maxValue (placed .first) small)
@@ -199,7 +199,7 @@ module _ (T : List ℤ) (h : Sections) (E : Environment) (D cs : List ℕ) (S : 
         own is =
             let placed = S .placed o l in
             let long : getD D (2 * o + 1) 0 ≡ objectLength E o = placed .long in
-            let inside : high D o ≤ length cs = placed .inside in
+            let inside : high D o ≤ room = placed .inside in
             let b = object-holds (low D o) (objectLength E o) p (valuesSet m p (low D o)) (is .range) (variable-small p (i .below)) (omega (arith, S .memory)) (is .value-is) in
             rw (eq-eqb p p refl, long) b
 
@@ -210,21 +210,21 @@ module _ (T : List ℤ) (h : Sections) (E : Environment) (D cs : List ℕ) (S : 
       derived-own b is e k = carry D (h .objects) m (derivedSet m p q a) q p (known K q) b (g .bounds q (S .declares .pointer q j)) (λ z. is .value-is ∙ null z) e k
 
       copy-good : (G : FactSet) → (Assigned v (valuesSet m p a) p a → Holds G (valuesSet m p a))
-          → Good h E D cs G (boundsAfter (Copy p q) K) (derivedSet m p q a)
+          → Good h E D room G (boundsAfter (Copy p q) K) (derivedSet m p q a)
       unfolding boundsRules.effectOn
       copy-good G facts =
           pointer-good p a (getD (m .origins) q 0) i small G (Copy p q) facts (others-copy K v (valuesSet m p a) p q a)
           (λ is e. derived-own _ is e (λ l u b. rw (eq-eqb p p refl) (forget-holds v (valuesSet m p a) p (is .except) l u (known K q) b)))
 
       forget-good : (G : FactSet) → p ≡ q → (Assigned v (valuesSet m p a) p a → Holds G (valuesSet m p a))
-          → Good h E D cs G (boundsAfter (Forget p) K) (derivedSet m p q a)
+          → Good h E D room G (boundsAfter (Forget p) K) (derivedSet m p q a)
       unfolding boundsRules.effectOn
       forget-good G s facts =
           pointer-good p a (getD (m .origins) q 0) i small G (Forget p) facts (others-forget K v (valuesSet m p a) p a)
           (λ is e. derived-own _ is e (λ l u b. forget-holds v (valuesSet m p a) p (is .except) l u (known K p) (rw s b)))
 
       shift-good : (k : ℕ) (G : FactSet) → p ≡ q → a + bias ≡ v q + k → (Assigned v (valuesSet m p a) p a → Holds G (valuesSet m p a))
-          → Good h E D cs G (boundsAfter (Shift p k) K) (derivedSet m p q a)
+          → Good h E D room G (boundsAfter (Shift p k) K) (derivedSet m p q a)
       unfolding boundsRules.effectOn
       shift-good k G s r facts =
           let same : v p ≡ v q = ap v s in
@@ -233,7 +233,7 @@ module _ (T : List ℤ) (h : Sections) (E : Environment) (D cs : List ℕ) (S : 
           (λ is e.
           derived-own _ is e (λ l u b. shift-holds v (valuesSet m p a) p (is .except) k (omega (arith, is .value-is)) l u (known K p) (rw s b)))
 
-      pub index-left : 1 ≤ a → (s : Bool) → eqb p q ≡ s → Good h E D cs (ranged F p 1 maxValue) (boundsAfter (cond s (Forget p) (Copy p q)) K) (derivedSet m p q a)
+      pub index-left : 1 ≤ a → (s : Bool) → eqb p q ≡ s → Good h E D room (ranged F p 1 maxValue) (boundsAfter (cond s (Forget p) (Copy p q)) K) (derivedSet m p q a)
       index-left l true e = forget-good (ranged F p 1 maxValue) (eqb-true p q e) (ranged-fact p a (getD (m .origins) q 0) i small 1 maxValue l small)
       index-left l false e = copy-good (ranged F p 1 maxValue) (ranged-fact p a (getD (m .origins) q 0) i small 1 maxValue l small)
 
@@ -253,6 +253,6 @@ module _ (T : List ℤ) (h : Sections) (E : Environment) (D cs : List ℕ) (S : 
         offset-facts s false e d is =
             positive-holds (cond s (shifted F p k) (equated (dropped F p) p q k)) (valuesSet m p a) (is .range) (moved-facts s e is) p (omega (arith, is .value-is, some d))
 
-        pub offset-left : (s z : Bool) → eqb p q ≡ s → eqb k bias ≡ z → Good h E D cs (offsetFacts s z F p q k) (boundsAfter (cond s (Shift p k) (Copy p q)) K) (derivedSet m p q a)
+        pub offset-left : (s z : Bool) → eqb p q ≡ s → eqb k bias ≡ z → Good h E D room (offsetFacts s z F p q k) (boundsAfter (cond s (Shift p k) (Copy p q)) K) (derivedSet m p q a)
         offset-left true z e d = shift-good k (offsetFacts true z F p q k) (eqb-true p q e) moved (offset-facts true z e d)
         offset-left false z e d = copy-good (offsetFacts false z F p q k) (offset-facts false z e d)

@@ -11,8 +11,8 @@ use Rattle.sections.specs.declared.Sections.{Sections}
 use Rattle.blocks.specs.Tree.{tree}
 use Rattle.rules.specs.BoundsRules.{isPointer, objectLength}
 use Rattle.rules.specs.declared.Environment.{Environment}
-use Rattle.machine.specs.Machine.{value, low, high, boundsTrue, inOrigin, stuck, Point}
-use Rattle.machine.specs.Points.{inBundle, Access, no-access, access, accessFrom, Outside}
+use Rattle.machine.specs.Machine.{low, high, boundsTrue, inOrigin, stuck, Point}
+use Rattle.machine.specs.Points.{inBundle, Access, no-access, access, accessFrom}
 
 -- ---- where a run is begun
 
@@ -23,6 +23,7 @@ pub record Placed (E : Environment) (D : List ℕ) (n o : ℕ) : Type 0 where
   pub inside : high D o ≤ n
 
 -- "A run is begun when no cause refuses it": what soundness needs of causes 10 to 12, and of the words of 32 bits.
+-- Every origin is 0 or that of an object; of a pointer that is not null it is not 0, since origin 0 has no true bounds.
 pub record Begun (h : Sections) (E : Environment) (D cs vs os : List ℕ) : Type 0 where
   pub pairs : length D ≡ 2 * h .objects
   pub placed : (o : ℕ) → o < h .objects → Placed E D (length cs) o
@@ -32,6 +33,7 @@ pub record Begun (h : Sections) (E : Environment) (D cs vs os : List ℕ) : Type
   pub values-small : (x : ℕ) → getD vs x 0 ≤ maxValue
   pub cells-small : (i : ℕ) → getD cs i 0 ≤ maxValue
   pub bounds : (p : ℕ) → isPointer E p ≡ true → boundsTrue E D vs os p ≡ true
+  pub origins : (v : ℕ) → getD os v 0 ≤ h .objects
 
 -- ---- what holds at a point
 
@@ -45,8 +47,8 @@ abbrev pub AccessAllowed : List ℕ → ℕ → Access → Type 0
 AccessAllowed D n no-access = Unit {0}
 AccessAllowed D n (access a origin) = AccessRight D n a origin
 
--- The claim for a point P of a run that was begun with the cells cs.
-pub record Sound (T : List ℤ) (h : Sections) (E : Environment) (D cs : List ℕ) (P : Point) : Type 0 where
+-- The claim for a point P of a run that was begun in a memory of `room` cells. (That no cell outside the objects is touched is the frame law.)
+pub record Sound (T : List ℤ) (h : Sections) (E : Environment) (D : List ℕ) (room : ℕ) (P : Point) : Type 0 where
   -- The machine is not without a step: no access that the checks let pass is outside its pointer's origin object.
   pub has-step : P .status ≢ stuck
   -- Outside bundles the declared bounds of every pointer are true; also where nothing is due, and where a check has stopped the run.
@@ -55,10 +57,8 @@ pub record Sound (T : List ℤ) (h : Sections) (E : Environment) (D cs : List �
   pub access-allowed : AccessAllowed D (length (P .cells)) (accessFrom T h E (P .status) P)
   -- The statement due is one of the table, or the number past the last.
   pub due-within : P .due ≤ h .statements
-  pub cells-long : length (P .cells) ≡ length cs
+  pub cells-long : length (P .cells) ≡ room
   pub values-long : length (P .values) ≡ h .variables
   pub origins-long : length (P .origins) ≡ h .variables
   pub cells-small : (i : ℕ) → getD (P .cells) i 0 ≤ maxValue
   pub values-small : (x : ℕ) → getD (P .values) x 0 ≤ maxValue
-  -- Every cell outside the objects keeps its value.
-  pub outside : (i : ℕ) → Outside D (h .objects) i → getD (P .cells) i 0 ≡ getD cs i 0

@@ -34,43 +34,43 @@ use Rattle.machine.specs.BlockSound.{ready-inside, ready-outside}
 use Rattle.machine.specs.Places.{LinkedLine, Linked, AtLine, headFacts, At}
 use Rattle.rules.specs.Rules as walkRules
 
-module _ (T : List ℤ) (h : Sections) (E : Environment) (D cs : List ℕ) where
+module _ (T : List ℤ) (h : Sections) (E : Environment) (D : List ℕ) (room : ℕ) where
   pub record Standing (b : Block) (d : ℕ) (m : Memory) : Type 0 where
     pub facts : FactSet
     pub bounds : List Bounds
-    pub good : Good h E D cs facts bounds m
+    pub good : Good h E D room facts bounds m
     pub within : d < h .statements
     pub ready : (s : Simple) → statementAt T h d ≡ Read (Plain s) → Ready E D (h .objects) s m
-    pub declared : inBundle b d ≡ false → Good h E D cs facts (E .declared) m
+    pub declared : inBundle b d ≡ false → Good h E D room facts (E .declared) m
 
   -- From a part of a block to the block.
   widened : (b c : Block) (d : ℕ) (m : Memory) → (inBundle c d ≡ false → inBundle b d ≡ false) → Standing b d m → Standing c d m
   widened b c d m k s = record { facts = s .facts; bounds = s .bounds; good = s .good; within = s .within; ready = s .ready; declared = λ e. s .declared (k e) }
 
-  module _ (S : Setting T h E D cs) (f : ℕ → Successors) where
+  module _ (S : Setting T h E D room) (f : ℕ → Successors) where
     -- Outside a bundle.
-    standing-here : (b : Block) (a d : ℕ) (s : Statement) (F : FactSet) (m : Memory) → statementAt T h a ≡ Read s → d ≡ a → Good h E D cs F (E .declared) m → Standing b d m
+    standing-here : (b : Block) (a d : ℕ) (s : Statement) (F : FactSet) (m : Memory) → statementAt T h a ≡ Read s → d ≡ a → Good h E D room F (E .declared) m → Standing b d m
     standing-here b a d s F m r e g =
         record {
           facts = F;
           bounds = E .declared;
           good = g;
           within = omega (arith, read-within T h a s r);
-          ready = λ q u. ready-outside T h E D cs S q F m (read-typed T h d (Plain q) u) g;
+          ready = λ q u. ready-outside T h E D room S q F m (read-typed T h d (Plain q) u) g;
           declared = λ u. g;
         }
 
     pub record StandingLine (a n d : ℕ) (m : Memory) : Type 0 where
       pub facts : FactSet
       pub bounds : List Bounds
-      pub good : Good h E D cs facts bounds m
+      pub good : Good h E D room facts bounds m
       pub within : d < h .statements
       pub ready : (s : Simple) → statementAt T h d ≡ Read (Plain s) → Ready E D (h .objects) s m
       pub first : a ≤ d
       pub last : d < a + n
 
     standing-line : (a : ℕ) (ss : List Simple) (F : FactSet) (K : List Bounds) (after d : ℕ) (m : Memory) → LinkedLine T h f a ss after → bundleFaults E a ss F K ≡ []
-        → AtLine T h E D cs a ss F K d m → StandingLine a (length ss) d m
+        → AtLine T h E D room a ss F K d m → StandingLine a (length ss) d m
     unfolding walkRules.bundleFaults
     standing-line a [] F K after d m l q i = absurd i
     standing-line a (s ∷ ss) F K after d m l q (inl i) =
@@ -82,7 +82,7 @@ module _ (T : List ℤ) (h : Sections) (E : Environment) (D cs : List ℕ) where
           bounds = K;
           good = i .1;
           within = omega (arith, read-within T h a (Plain s) (l .0));
-          ready = λ t u. let same : s ≡ t = cc in rw (← same) (ready-inside T h E D cs S s F K m (read-typed T h a (Plain s) (l .0)) shown (i .1));
+          ready = λ t u. let same : s ≡ t = cc in rw (← same) (ready-inside T h E D room S s F K m (read-typed T h a (Plain s) (l .0)) shown (i .1));
           first = omega arith;
           last = omega arith;
         }
@@ -106,7 +106,7 @@ module _ (T : List ℤ) (h : Sections) (E : Environment) (D cs : List ℕ) where
               absurd (false≢true (sym t));
         }
 
-    pub standing : (b : Block) (F : FactSet) (after d : ℕ) (m : Memory) → Linked T h f b after → blockFaults T h E b F ≡ [] → At T h E D cs b F d m → Standing b d m
+    pub standing : (b : Block) (F : FactSet) (after d : ℕ) (m : Memory) → Linked T h f b after → blockFaults T h E b F ≡ [] → At T h E D room b F d m → Standing b d m
     unfolding walkRules.blockFaults inBundle
     standing nil F after d m l q i = absurd i
     standing (plain a s r) F after d m l q (inl i) = standing-here (plain a s r) a d (Plain s) F m (l .0) (i .0) (i .1)
@@ -123,13 +123,13 @@ module _ (T : List ℤ) (h : Sections) (E : Environment) (D cs : List ℕ) where
         (standing r (sidesJoined T h E (blockFacts T h E t (conditionFacts F c)) (blockFacts T h E e (conditionFacts F (negatedOf c)))) after d m (l .4)
         (no-rest _ _ (no-rest _ _ (no-rest _ _ q))) i)
     standing (loop a c k t r) F after d m l q (inl (w, inl i)) =
-        standing-here (loop a c k t r) a d (While c (size t)) (headFacts T h E D cs a k F) m (l .0) (i .0) (i .1)
+        standing-here (loop a c k t r) a d (While c (size t)) (headFacts T h E D room a k F) m (l .0) (i .0) (i .1)
     standing (loop a c k t r) F after d m l q (inl (w, inr i)) =
         widened t (loop a c k t r) d m (λ u. neither (inBundle t d) (inBundle r d) u .0)
-        (standing t (conditionFacts (headFacts T h E D cs a k F) c) a d m (l .3) (no-first _ _ (no-rest _ _ q)) i)
+        (standing t (conditionFacts (headFacts T h E D room a k F) c) a d m (l .3) (no-first _ _ (no-rest _ _ q)) i)
     standing (loop a c k t r) F after d m l q (inr i) =
         widened r (loop a c k t r) d m (λ u. neither (inBundle t d) (inBundle r d) u .1)
-        (standing r (conditionFacts (headFacts T h E D cs a k F) (negatedOf c)) after d m (l .4) (no-rest _ _ (no-rest _ _ q)) i)
+        (standing r (conditionFacts (headFacts T h E D room a k F) (negatedOf c)) after d m (l .4) (no-rest _ _ (no-rest _ _ q)) i)
     standing (bundle a ss r) F after d m l q (inl i) = standing-here (bundle a ss r) a d (Bundle (length ss)) F m (l .0) (i .0) (i .1)
     standing (bundle a ss r) F after d m l q (inr (inl i)) =
         standing-inside a ss r d m (standing-line (a + 1) ss F (E .declared) (entry r after) d m (l .2) (no-first _ _ (no-rest _ _ q)) i)
