@@ -1,12 +1,13 @@
 //! Measurements of the fast forms and of the proved implementation, as ratios in one run.
 
-use crate::answer::{RunAnswer, RunInput};
 use crate::generate::accepted;
-use crate::generate::draft::*;
 use crate::linked::Proved;
 use crate::proved::Implementation;
-use crate::table::decode;
-use crate::{checker, fast_check, fast_run, machine};
+use crate::{fast_check, fast_run};
+use oracle::answer::{RunAnswer, RunInput};
+use oracle::draft::*;
+use oracle::table::decode;
+use oracle::{checker, machine};
 use std::hint::black_box;
 use std::time::Instant;
 
@@ -125,5 +126,18 @@ pub fn run() {
             "run, proved" => println!("run, proved against fast: {:.2}", each / fast),
             _ => {}
         }
+    }
+}
+
+#[cfg(test)]
+mod tests {
+    use super::*;
+
+    #[test]
+    fn the_measured_loop_is_right_in_both_forms() {
+        let table = loop_table();
+        let (mut plain, mut fast) = (loop_input(5_000), loop_input(5_000));
+        assert_eq!(machine::run(&table, &mut plain), fast_run::run(&table, &mut fast));
+        assert_eq!(plain, fast);
     }
 }

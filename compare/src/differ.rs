@@ -1,12 +1,12 @@
 //! The comparison of an implementation with the plain form of this crate.
 
-use crate::answer::{show_check, Refusal, RunAnswer, RunInput};
 use crate::generate::{case, Case};
 use crate::parallel::lowest;
 use crate::proved::{check_agrees, run_agrees, show_check_words, show_run_words, Implementation};
 use crate::shrink::shrink;
-use crate::table::{decode, Routine};
-use crate::{checker, machine};
+use oracle::answer::{show_check, Refusal, RunAnswer, RunInput};
+use oracle::table::{decode, Routine};
+use oracle::{checker, machine};
 use std::fmt::Write;
 
 /// A case and its two runs. The plain form checks the table once, and the buffers are used again at every

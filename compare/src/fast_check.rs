@@ -1,10 +1,10 @@
 //! The checker in its fast form: one decoding, facts only over the variables
 //! that any question can reach, bounds looked at only where they changed.
 
-use crate::answer::{bits, CheckAnswer, Refusal};
-use crate::facts::GREATEST;
 use crate::fast_facts::FastFacts;
-use crate::table::{decode, Condition, Kind, Right, Routine, Statement, Var};
+use oracle::answer::{bits, CheckAnswer, Refusal};
+use oracle::facts::GREATEST;
+use oracle::table::{decode, Condition, Kind, Right, Routine, Statement, Var};
 
 /// Causes 1 to 9 of a table.
 pub fn check(words: &[i32]) -> CheckAnswer {

@@ -1,7 +1,7 @@
 //! The translation for the fast interpreter: instructions that know where the
 //! run goes on, over slots of values.
 
-use crate::table::{Bounds, Condition, End, Operator, Right, Routine, Statement, Var};
+use oracle::table::{Bounds, Condition, End, Operator, Right, Routine, Statement, Var};
 
 /// A value slot: 0 to 15 the variables, `NOTHING` always 0. There is one for
 /// every number a slot can have, so that no index needs a check.

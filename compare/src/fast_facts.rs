@@ -6,8 +6,8 @@
 //! each other: two small matrices with zero in common. They lie in one array,
 //! pointers first, then zero, then integers; the mixed corners stay unused.
 
-use crate::facts::GREATEST;
-use crate::table::Relation;
+use oracle::facts::GREATEST;
+use oracle::table::Relation;
 use std::ops::Range;
 
 const NODES: usize = 17;
@@ -188,3 +188,7 @@ impl FastFacts {
         }
     }
 }
+
+#[cfg(test)]
+#[path = "fast_facts_tests.rs"]
+mod tests;

@@ -2,11 +2,11 @@
 //! instructions that know where the run goes on, and runs without origins.
 //! That is allowed because an accepted routine never leaves an origin object.
 
-use crate::answer::{Check, RunAnswer, RunInput};
 use crate::fast_check::check_routine;
 use crate::fast_code::{translate, Code, FlatEnd, Near, Op, Slot, SLOTS};
-use crate::machine::check_entry;
-use crate::table::{decode, Routine};
+use oracle::answer::{Check, RunAnswer, RunInput};
+use oracle::machine::check_entry;
+use oracle::table::{decode, Routine};
 
 /// Checks the routine and the entry, then runs it in the lent buffers.
 pub fn run(words: &[i32], input: &mut RunInput) -> RunAnswer {

@@ -1,8 +1,8 @@
 //! The proved implementation behind the seam, through the wrapper that Rust programs use.
 
-use crate::answer::RunInput;
 use crate::proved::{CheckWords, Implementation, RunWords};
 use mizzengrape::{Outcome, Refusal, Verdict};
+use oracle::answer::RunInput;
 
 pub struct Proved;
 

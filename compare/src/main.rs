@@ -1,18 +1,14 @@
-//! A second implementation of the routine checker and interpreter, written from
-//! the paper alone, to run beside the proved one.
+//! The proved implementation beside the oracle, a second one written from the papers alone, over vectors and
+//! generated cases; a fast form of the second one; measurements.
 
-mod answer;
 mod bench;
-mod checker;
 mod differ;
-mod facts;
 mod fast_check;
 mod fast_code;
 mod fast_facts;
 mod fast_run;
 mod generate;
 mod linked;
-mod machine;
 #[cfg(test)]
 mod notation;
 mod parallel;
@@ -20,8 +16,6 @@ mod proved;
 mod rng;
 mod shrink;
 mod stats;
-mod syntax;
-mod table;
 mod vectors;
 
 use std::path::Path;

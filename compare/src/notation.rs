@@ -1,7 +1,7 @@
 //! Routines in readable notation beside their words: the files of `routines/`, held against the tables that programs read.
 
-use crate::syntax::*;
-use crate::table::{decode, STATEMENT_WORDS, VARIABLE_WORDS};
+use oracle::syntax::*;
+use oracle::table::{decode, STATEMENT_WORDS, VARIABLE_WORDS};
 
 /// A routine file: its verdict, its variables' names, and its lines of notation and words.
 struct Listing {
@@ -143,8 +143,9 @@ fn write(table: &[i32], names: &[String]) -> Vec<(String, Vec<i32>)> {
 #[cfg(test)]
 mod tests {
     use super::*;
+    use crate::fast_check;
     use crate::proved::{check_words, implementations, show_check_words};
-    use crate::{checker, fast_check};
+    use oracle::checker;
     use std::collections::BTreeSet;
     use std::fs;
     use std::path::{Path, PathBuf};

@@ -2,9 +2,9 @@
 //! implementation (`linked.rs`) and the fast form of this crate are both held
 //! against the plain form.
 
-use crate::answer::{CheckAnswer, Refusal, RunAnswer, RunInput};
 use crate::linked::Proved;
 use crate::{fast_check, fast_run};
+use oracle::answer::{CheckAnswer, Refusal, RunAnswer, RunInput};
 
 /// 0 for accepted, else the number of the refusal; its place; for refusal 8 a
 /// pointer whose declared bounds are not shown there, else 0.
@@ -118,7 +118,7 @@ pub fn show_run_words(words: RunWords) -> String {
 #[cfg(test)]
 mod tests {
     use super::*;
-    use crate::answer::Check;
+    use oracle::answer::Check;
 
     #[test]
     fn refusal_8_may_name_any_pointer_not_shown() {

@@ -1,7 +1,7 @@
 //! Makes a case smaller while a predicate stays true, for short reports.
 
-use crate::generate::draft::{Draft, Record};
 use crate::generate::Case;
+use oracle::draft::{Draft, Record};
 
 /// Gives up after so many trials.
 const TRIALS: usize = 50_000;
@@ -191,9 +191,9 @@ fn without_variable(mut draft: Draft, v: usize) -> Option<Draft> {
 #[cfg(test)]
 mod tests {
     use super::*;
-    use crate::answer::RunAnswer;
     use crate::generate::case;
-    use crate::{checker, machine};
+    use oracle::answer::RunAnswer;
+    use oracle::{checker, machine};
 
     #[test]
     fn keeps_the_predicate_and_gets_small() {

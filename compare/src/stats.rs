@@ -1,9 +1,10 @@
 //! How many generated cases end in which way.
 
-use crate::answer::{CheckAnswer, RunAnswer};
 use crate::generate::case;
-use crate::table::{decode, Statement};
-use crate::{checker, fast_check, fast_run, machine};
+use crate::{fast_check, fast_run};
+use oracle::answer::{CheckAnswer, RunAnswer};
+use oracle::table::{decode, Statement};
+use oracle::{checker, machine};
 use std::collections::BTreeMap;
 
 /// The cases of a seed by their answers; the fast form is held against the

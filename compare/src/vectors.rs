@@ -1,7 +1,8 @@
 //! The reader of the vector files, and the check of this implementation by them.
 
-use crate::answer::{show_check, RunAnswer, RunInput};
-use crate::{checker, fast_check, fast_run, machine};
+use crate::{fast_check, fast_run};
+use oracle::answer::{show_check, RunAnswer, RunInput};
+use oracle::{checker, machine};
 use std::collections::HashMap;
 use std::path::Path;
 
@@ -60,7 +61,7 @@ pub fn read_file(path: &Path) -> Result<Vec<Vector>, String> {
     read(&text)
 }
 
-type CheckForm = fn(&[i32]) -> crate::answer::CheckAnswer;
+type CheckForm = fn(&[i32]) -> oracle::answer::CheckAnswer;
 type RunForm = fn(&[i32], &mut RunInput) -> RunAnswer;
 
 /// The differences of one case, over the plain and the fast form.
@@ -100,6 +101,16 @@ mod tests {
         assert_eq!(cases[0].table, [6, 0, -1]);
         assert_eq!(cases[0].input.allowance, u32::MAX);
         assert!(cases[0].input.directory.is_empty() && cases[0].after_cells.is_none());
+    }
+
+    #[test]
+    fn both_forms_are_right_on_the_files_of_the_repository() {
+        let folder = Path::new(env!("CARGO_MANIFEST_DIR")).join("../vectors");
+        for file in ["named.txt", "random.txt"] {
+            for vector in read_file(&folder.join(file)).unwrap() {
+                assert_eq!(differences(&vector), [""; 0], "{file}");
+            }
+        }
     }
 
     #[test]

@@ -1,8 +1,8 @@
 //! Tables made wrong: one rule of causes 1 to 6 broken, words changed, cut or added.
 
-use super::draft::Draft;
 use crate::rng::Rng;
-use crate::table::VARIABLE_WORDS;
+use oracle::draft::Draft;
+use oracle::table::VARIABLE_WORDS;
 
 const WORDS: [i32; 22] = [
     -1,

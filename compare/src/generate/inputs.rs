@@ -1,10 +1,10 @@
 //! What a run is lent: directories, cells, entries true and untrue, allowances.
 
-use crate::answer::{RunAnswer, RunInput};
 use crate::fast_check::check_routine;
-use crate::machine;
 use crate::rng::Rng;
-use crate::table::{decode, Kind, Routine};
+use oracle::answer::{RunAnswer, RunInput};
+use oracle::machine;
+use oracle::table::{decode, Kind, Routine};
 
 /// A run that needs more steps than this never gets the greatest allowance.
 const LONG: u32 = 20_000;

@@ -1,8 +1,8 @@
 //! Objects and variables of a generated routine: what the bounds hang on.
 
-use super::draft::Draft;
 use crate::rng::Rng;
-use crate::table::VARIABLE_WORDS;
+use oracle::draft::Draft;
+use oracle::table::VARIABLE_WORDS;
 
 /// The names a routine can use, by what they are good for.
 #[derive(Clone, Debug, Default)]

@@ -1,17 +1,16 @@
 //! Generated cases: case `number` of a seed is always the same case, so a
 //! difference is reported as (seed, number).
 
-pub mod draft;
 mod faults;
 mod inputs;
 mod layout;
 mod routine;
 
-use crate::answer::RunInput;
 use crate::fast_check;
 use crate::rng::Rng;
-use crate::table::MAX_STATEMENTS;
-use draft::Draft;
+use oracle::answer::RunInput;
+use oracle::draft::{self, Draft};
+use oracle::table::MAX_STATEMENTS;
 use routine::Writer;
 
 /// A table and what a run of it is lent.
@@ -97,7 +96,7 @@ pub fn accepted(seed: u64, statements: usize, variables: usize) -> Vec<i32> {
 #[cfg(test)]
 mod tests {
     use super::*;
-    use crate::table::decode;
+    use oracle::table::decode;
 
     #[test]
     fn a_case_is_always_the_same() {
@@ -105,21 +104,6 @@ mod tests {
             assert_eq!(case(7, number), case(7, number));
         }
         assert_ne!(case(7, 1), case(8, 1));
-    }
-
-    #[test]
-    fn removal_keeps_the_blocks_right() {
-        let mut draft = Draft { variables: vec![[0; 8]], ..Draft::default() };
-        let check = draft::dynamic_check(draft::with_literal(0, 1, 0));
-        let inner = draft::if_else([0, 4, 1, 0], vec![check, check], vec![check]);
-        draft.statements = draft::while_loop([0, 4, 1, 0], [vec![check], inner, vec![check]].concat());
-        for s in 0..draft.statements.len() {
-            for keep_blocks in [false, true] {
-                let mut smaller = draft.clone();
-                smaller.remove(s, keep_blocks);
-                assert!(decode(&smaller.words()).is_ok(), "statement {s}");
-            }
-        }
     }
 
     #[test]

@@ -1,10 +1,10 @@
 //! The statements of a generated routine: patterns that the checker accepts or
 //! just fails to accept, put together at random.
 
-use super::draft::*;
 use super::layout::{constant, Group, Layout};
 use crate::rng::Rng;
-use crate::table::MAX_DEPTH;
+use oracle::draft::*;
+use oracle::table::MAX_DEPTH;
 
 pub struct Writer<'a> {
     pub rng: &'a mut Rng,

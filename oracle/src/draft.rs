@@ -156,3 +156,24 @@ impl Draft {
 fn to_record<const N: usize>(words: &[i32]) -> [i32; N] {
     words.try_into().expect("an exact chunk")
 }
+
+#[cfg(test)]
+mod tests {
+    use super::*;
+    use crate::table::decode;
+
+    #[test]
+    fn removal_keeps_the_blocks_right() {
+        let mut draft = Draft { variables: vec![[0; 8]], ..Draft::default() };
+        let check = dynamic_check(with_literal(0, GREATER_EQUAL, 0));
+        let inner = if_else([0, EQUAL, 1, 0], vec![check, check], vec![check]);
+        draft.statements = while_loop([0, EQUAL, 1, 0], [vec![check], inner, vec![check]].concat());
+        for s in 0..draft.statements.len() {
+            for keep_blocks in [false, true] {
+                let mut smaller = draft.clone();
+                smaller.remove(s, keep_blocks);
+                assert!(decode(&smaller.words()).is_ok(), "statement {s}");
+            }
+        }
+    }
+}

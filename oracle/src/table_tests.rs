@@ -1,5 +1,5 @@
 use super::*;
-use crate::generate::draft::*;
+use crate::draft::*;
 
 /// Variables: p (0, count(n)), n (1), x (2); object 0 has 10 cells.
 fn draft(statements: Vec<Record>) -> Draft {

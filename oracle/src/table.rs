@@ -134,7 +134,7 @@ struct Names {
     integers: u32,
     pointers: u32,
     objects: i32,
-    /// Gathered on the way, for the fast checker.
+    /// Gathered on the way.
     compared: u16,
 }
 

@@ -1,0 +1,10 @@
+//! A test oracle: the routine checker and interpreter a second time, in plain Rust, written from the papers
+//! alone and close to their words. It is to be read and believed, not to be quick.
+
+pub mod answer;
+pub mod checker;
+pub mod draft;
+pub mod facts;
+pub mod machine;
+pub mod syntax;
+pub mod table;
