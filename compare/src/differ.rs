@@ -1,27 +1,42 @@
 //! The comparison of an implementation with the plain form of this crate.
 
 use crate::generate::{case, Case};
+use crate::noninterference::{Ended, Pair};
 use crate::parallel::lowest;
-use crate::proved::{check_agrees, run_agrees, show_check_words, show_run_words, Implementation};
+use crate::proved::{
+    check_agrees, run_agrees, run_words, show_check_words, show_run_words, Implementation, RunWords,
+};
 use crate::shrink::shrink;
 use oracle::answer::{show_check, Refusal, RunAnswer, RunInput};
 use oracle::table::{decode, Routine};
 use oracle::{checker, machine};
 use std::fmt::Write;
 
-/// A case and its two runs. The plain form checks the table once, and the buffers are used again at every
+/// A case and its runs. The plain form checks the table once, and the buffers are used again at every
 /// limit: each can be 64 MB, and new ones for each run took nearly a third of the time.
 struct Runs<'a> {
     case: &'a Case,
     routine: Result<Routine, Refusal>,
+    /// The second of two runs that must not be told apart; `None` where the entry is refused.
+    pair: Option<Pair>,
     ours: RunInput,
     theirs: RunInput,
+    second: RunInput,
+}
+
+type Run<'a> = &'a dyn Fn(&mut RunInput) -> RunWords;
+
+fn lend(buffers: &mut RunInput, input: &RunInput, allowance: u32) {
+    buffers.copy_from(input);
+    buffers.allowance = allowance;
 }
 
 impl<'a> Runs<'a> {
     fn new(case: &'a Case) -> Runs<'a> {
         let routine = decode(&case.table).and_then(|r| checker::check_routine(&r).map(|_| r));
-        Runs { case, routine, ours: RunInput::default(), theirs: RunInput::default() }
+        let pair = routine.as_ref().ok().and_then(|routine| Pair::new(routine, &case.input));
+        let [ours, theirs, second] = [(); 3].map(|_| RunInput::default());
+        Runs { case, routine, pair, ours, theirs, second }
     }
 
     fn check_difference(&self, other: &dyn Implementation) -> Option<String> {
@@ -33,8 +48,7 @@ impl<'a> Runs<'a> {
 
     fn run_difference(&mut self, allowance: u32, other: &dyn Implementation) -> Option<String> {
         for buffers in [&mut self.ours, &mut self.theirs] {
-            buffers.copy_from(&self.case.input);
-            buffers.allowance = allowance;
+            lend(buffers, &self.case.input, allowance);
         }
         let right = match &self.routine {
             Err(refusal) => RunAnswer::Refused(*refusal),
@@ -45,7 +59,28 @@ impl<'a> Runs<'a> {
             return Some(format!("run: {right} and {}", show_run_words(words)));
         }
         // All buffers: what may not be written must be as it was.
-        (self.ours != self.theirs).then(|| "buffers after the run differ".to_string())
+        if self.ours != self.theirs {
+            return Some("buffers after the run differ".to_string());
+        }
+        self.leak(allowance, words, other)
+    }
+
+    /// What a run lets out of cells out of reach, by a second run of the plain form and of the other; the first
+    /// runs of the two have just ended alike.
+    fn leak(&mut self, allowance: u32, answer: RunWords, other: &dyn Implementation) -> Option<String> {
+        let (Some(pair), Ok(routine)) = (&self.pair, &self.routine) else { return None };
+        let first = Ended { answer, after: &self.ours };
+        let plain = |buffers: &mut RunInput| run_words(&machine::run_routine(routine, buffers));
+        let others = |buffers: &mut RunInput| other.run(&self.case.table, buffers);
+        let forms: [(&str, Run); 2] = [("plain form", &plain), (other.name(), &others)];
+        for (name, run) in forms {
+            lend(&mut self.second, &pair.second, allowance);
+            let second = Ended { answer: run(&mut self.second), after: &self.second };
+            if let Some(what) = pair.leak(&self.case.input.cells, first, second) {
+                return Some(format!("{name}: {what}"));
+            }
+        }
+        None
     }
 }
 
@@ -134,7 +169,7 @@ pub fn vector(case: &Case) -> String {
 #[cfg(test)]
 mod tests {
     use super::*;
-    use crate::proved::{CheckWords, Fast, RunWords};
+    use crate::proved::{CheckWords, Fast};
     use crate::vectors;
 
     /// Wrong on purpose: takes every refusal 9 for accepted.

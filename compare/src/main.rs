@@ -9,6 +9,7 @@ mod fast_facts;
 mod fast_run;
 mod generate;
 mod linked;
+mod noninterference;
 #[cfg(test)]
 mod notation;
 mod parallel;

@@ -2,8 +2,9 @@
 
 use crate::generate::case;
 use crate::{fast_check, fast_run};
-use oracle::answer::{CheckAnswer, RunAnswer};
-use oracle::table::{decode, Statement};
+use oracle::answer::{CheckAnswer, RunAnswer, RunInput};
+use oracle::reach::reachable;
+use oracle::table::{decode, Routine, Statement};
 use oracle::{checker, machine};
 use std::collections::BTreeMap;
 
@@ -20,6 +21,9 @@ pub struct Stats {
     statements: u64,
     heads: [u64; 3],
     steps: u64,
+    /// Runs that are begun, and how many of them have an unreachable object, cells of no object beside cell 0.
+    begun: u64,
+    out_of_reach: [u64; 2],
     pub differences: Vec<String>,
 }
 
@@ -57,6 +61,9 @@ pub fn gather(seed: u64, count: u64) -> Stats {
         if let (Ok(()), Ok(routine)) = (&checked, decode(&case.table)) {
             stats.accepted += 1;
             stats.count_statements(&routine.statements);
+            if !matches!(answer, RunAnswer::Refused(_)) {
+                stats.count_out_of_reach(&routine, &case.input);
+            }
         }
         if let RunAnswer::Done { steps } | RunAnswer::Spent { steps, .. } | RunAnswer::Stopped { steps, .. } =
             answer
@@ -77,6 +84,13 @@ impl Stats {
         self.heads[1] += has(|s| matches!(s, Statement::While { .. }));
         self.heads[2] += has(|s| matches!(s, Statement::Bundle { .. }));
     }
+
+    fn count_out_of_reach(&mut self, routine: &Routine, input: &RunInput) {
+        self.begun += 1;
+        self.out_of_reach[0] += u64::from(reachable(routine, &input.origins).contains(&false));
+        let in_objects: usize = routine.objects.iter().map(|&length| length as usize).sum();
+        self.out_of_reach[1] += u64::from(input.cells.len() > 1 + in_objects);
+    }
 }
 
 impl std::fmt::Display for Stats {
@@ -92,6 +106,14 @@ impl std::fmt::Display for Stats {
         let mean = self.statements as f64 / self.accepted.max(1) as f64;
         let [ifs, whiles, bundles] = self.heads;
         writeln!(f, "accepted tables: {mean:.1} statements each, {ifs} with an if, {whiles} with a while, {bundles} with a bundle")?;
+        let share = |part: u64| 100.0 * part as f64 / self.begun.max(1) as f64;
+        writeln!(
+            f,
+            "runs begun: {}, {:.1} percent with an object out of reach, {:.1} with cells of no object",
+            self.begun,
+            share(self.out_of_reach[0]),
+            share(self.out_of_reach[1])
+        )?;
         for (title, classes) in [("check", &self.check), ("run", &self.run)] {
             for (class, count) in classes {
                 writeln!(f, "{title}  {class:<12} {count:>8}  {:5.1} %", percent(*count))?;
@@ -141,11 +163,13 @@ mod tests {
             assert!(stats.run.contains_key(&format!("stopped {check}")), "check {check}");
         }
         assert!(!stats.run.contains_key("STUCK"));
+        let [objects, cells] = stats.out_of_reach;
+        assert!(3 * objects > stats.begun && 2 * cells > stats.begun, "{stats}");
     }
 
     #[test]
     fn accepted_tables_go_down_to_depth_8() {
-        let accepted = (0..6_000).map(|number| case(22, number).table).filter(|t| checker::check(t).is_ok());
+        let accepted = (0..12_000).map(|number| case(22, number).table).filter(|t| checker::check(t).is_ok());
         let depths: Vec<usize> = accepted.map(|t| depth(&decode(&t).unwrap().statements)).collect();
         assert_eq!(depths.iter().max(), Some(&8));
         assert!(depths.iter().filter(|&&d| d == 8).count() >= 10);

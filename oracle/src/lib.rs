@@ -6,5 +6,6 @@ pub mod checker;
 pub mod draft;
 pub mod facts;
 pub mod machine;
+pub mod reach;
 pub mod syntax;
 pub mod table;

@@ -21,10 +21,11 @@ pub fn choose(rng: &mut Rng, table: &[i32]) -> RunInput {
         };
     };
     let mut input = lend(rng, &routine);
+    let entered = entered(rng, routine.objects.len());
     // Of some entries take the one that goes furthest: dynamic checks stop most.
     let mut furthest = None;
     for _ in 0..rng.pick(&[1, 3, 6]) {
-        fill_values(rng, &routine, &mut input);
+        fill_values(rng, &routine, &entered, &mut input);
         make_true(&routine, &mut input);
         let progress = progress(&routine, &input);
         if furthest.as_ref().is_none_or(|(most, _, _)| progress > *most) {
@@ -79,20 +80,29 @@ fn lend(rng: &mut Rng, routine: &Routine) -> RunInput {
     RunInput { directory, cells, ..RunInput::default() }
 }
 
+/// The objects that entry pointers may have as origin: often not all, so that some are out of reach.
+fn entered(rng: &mut Rng, objects: usize) -> Vec<usize> {
+    let mut entered: Vec<usize> = (0..objects).collect();
+    if rng.chance(60) {
+        rng.shuffle(&mut entered);
+        entered.truncate(1 + rng.below(objects) / 2);
+    }
+    entered
+}
+
 /// Pointers into or near objects, counts that just fit.
-fn fill_values(rng: &mut Rng, routine: &Routine, input: &mut RunInput) {
+fn fill_values(rng: &mut Rng, routine: &Routine, entered: &[usize], input: &mut RunInput) {
     let variables = routine.kinds.len();
     input.values = (0..variables).map(|_| integer(rng)).collect();
     input.origins = vec![0; variables];
-    let objects = routine.objects.len();
     // One object for most pointers, so that bounds shared by several can be true.
-    let favourite = rng.below(objects.max(1));
+    let favourite = rng.pick_any(entered);
     for v in (0..variables).filter(|&v| routine.kinds[v] == Kind::Pointer) {
-        let object = if rng.chance(75) { favourite } else { rng.below(objects.max(1)) };
-        if objects == 0 || rng.chance(15) {
+        let object = if rng.chance(75) { favourite } else { rng.pick_any(entered) };
+        let Some(object) = object.filter(|_| rng.chance(85)) else {
             input.values[v] = 0;
             continue;
-        }
+        };
         let (low, length) = (input.directory[2 * object], input.directory[2 * object + 1]);
         let within = if rng.chance(60) { 0 } else { rng.below(length as usize + 1) as u32 };
         input.values[v] = low + within;

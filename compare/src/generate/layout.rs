@@ -7,7 +7,9 @@ use oracle::table::VARIABLE_WORDS;
 /// The names a routine can use, by what they are good for.
 #[derive(Clone, Debug, Default)]
 pub struct Layout {
+    /// The objects' lengths, and the objects that kind 5 may name.
     pub objects: Vec<i32>,
+    pub named: Vec<i32>,
     pub integers: Vec<i32>,
     pub pointers: Vec<i32>,
     /// Integers that some end names, and those that none does.
@@ -51,14 +53,19 @@ fn object_length(rng: &mut Rng) -> i32 {
 /// Chooses objects and variables. Names are shuffled, so that pointers and
 /// integers come in any order.
 pub fn choose(rng: &mut Rng, draft: &mut Draft) -> Layout {
-    let object_count = rng.pick(&[0, 1, 1, 1, 2, 2, 3, 4, 16]);
+    let object_count = rng.pick(&[0, 1, 1, 2, 2, 2, 3, 3, 4, 16]);
     draft.objects = (0..object_count).map(|_| object_length(rng)).collect();
     let variables = match rng.below(10) {
         0 => rng.pick(&[15, 16]),
         1 => rng.pick(&[1, 2]),
         _ => rng.range(3, 9),
     };
-    with_size(rng, draft, variables as usize)
+    let mut layout = with_size(rng, draft, variables as usize);
+    // Often the routine leaves some objects alone: so they can be out of reach.
+    if rng.chance(60) {
+        layout.named.retain(|_| rng.chance(40));
+    }
+    layout
 }
 
 /// The variables alone, so many of them.
@@ -68,6 +75,7 @@ pub fn with_size(rng: &mut Rng, draft: &mut Draft, variables: usize) -> Layout {
     let pointer_count = (variables * rng.range(25, 65) as usize).div_ceil(100).min(variables);
     let mut layout = Layout {
         objects: draft.objects.clone(),
+        named: (0..draft.objects.len() as i32).collect(),
         pointers: names[..pointer_count].to_vec(),
         integers: names[pointer_count..].to_vec(),
         ..Layout::default()

@@ -86,7 +86,7 @@ impl Writer<'_> {
             let q = if self.rng.chance(50) { v } else { self.pointer()? };
             return Some(match self.rng.below(5) {
                 0 => null(v),
-                1 if !self.layout.objects.is_empty() => address(v, 0),
+                1 => address(v, self.object()?),
                 2 => index_pointer(v, q, self.integer()?),
                 _ => move_pointer(v, q, k),
             });

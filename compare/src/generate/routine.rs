@@ -65,6 +65,11 @@ impl Writer<'_> {
         self.rng.pick_any(&self.layout.pointers)
     }
 
+    /// An object that kind 5 may name.
+    fn object(&mut self) -> Option<i32> {
+        self.rng.pick_any(&self.layout.named)
+    }
+
     fn group(&mut self) -> Option<Group> {
         let groups = self.layout.groups.len();
         (groups > 0).then(|| self.layout.groups[self.rng.below(groups)].clone())
@@ -110,7 +115,6 @@ impl Writer<'_> {
     }
 
     fn try_simple(&mut self) -> Option<Record> {
-        let object = self.rng.below(self.layout.objects.len().max(1)) as i32;
         let index = if self.rng.chance(40) { -1 } else { self.integer().unwrap_or(-1) };
         let k = constant(self.rng);
         Some(match self.rng.range(1, 10) {
@@ -122,7 +126,7 @@ impl Writer<'_> {
             2 => add_constant(self.integer()?, self.integer()?, k),
             3 => operate(self.integer()?, self.integer()?, self.integer()?, self.rng.range(0, 2)),
             4 => null(self.pointer()?),
-            5 if !self.layout.objects.is_empty() => address(self.pointer()?, object),
+            5 => address(self.pointer()?, self.object()?),
             6 => move_pointer(self.pointer()?, self.pointer()?, k),
             7 => index_pointer(self.pointer()?, self.pointer()?, self.integer()?),
             8 => load(self.integer()?, self.pointer()?, index, k),
@@ -214,12 +218,12 @@ impl Writer<'_> {
         let mut least = i32::MAX;
         let mut inner = Chunk::new();
         for &p in &group.pointers {
-            if self.layout.objects.is_empty() || self.rng.chance(15) {
-                inner.push(null(p));
-            } else {
-                let object = self.rng.below(self.layout.objects.len());
-                least = least.min(self.layout.objects[object]);
-                inner.push(address(p, object as i32));
+            match self.object().filter(|_| self.rng.chance(85)) {
+                None => inner.push(null(p)),
+                Some(object) => {
+                    least = least.min(self.layout.objects[object as usize]);
+                    inner.push(address(p, object));
+                }
             }
         }
         let excess = self.rng.pick(&[0, 0, 0, -1, -1, 1]);
