@@ -241,3 +241,17 @@ fn translate_simple(routine: &Routine, directory: &[u32], statement: Statement) 
         Statement::If { .. } | Statement::While { .. } | Statement::Bundle { .. } => Op::Enter,
     }
 }
+
+#[cfg(test)]
+mod tests {
+    use super::*;
+    use oracle::syntax::RELATIONS;
+
+    #[test]
+    fn a_negation_is_satisfied_where_its_relation_is_not() {
+        for relation in RELATIONS {
+            let satisfied = [relation, relation.negated()].map(|r| SATISFIED[r as usize]);
+            assert_eq!(satisfied[0] ^ satisfied[1], 0b111, "{relation:?}");
+        }
+    }
+}

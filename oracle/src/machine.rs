@@ -3,7 +3,7 @@
 
 use crate::answer::{Check, Refusal, RunAnswer, RunInput};
 use crate::checker::check_routine;
-use crate::table::{decode, Condition, End, Kind, Operator, Relation, Right, Routine, Statement, Var};
+use crate::table::{decode, Condition, End, Kind, Operator, Right, Routine, Statement, Var};
 
 pub const MAX_CELLS: usize = 16_777_216;
 pub const MODULUS: i64 = 1 << 32;
@@ -191,14 +191,7 @@ impl<'a> Machine<'a> {
             Right::Variable(v) => self.value(v),
             Right::Literal(literal) => i64::from(literal),
         };
-        match condition.relation {
-            Relation::Less => left < right,
-            Relation::GreaterEqual => left >= right,
-            Relation::Greater => left > right,
-            Relation::LessEqual => left <= right,
-            Relation::Equal => left == right,
-            Relation::NotEqual => left != right,
-        }
+        condition.relation.holds(left, right)
     }
 
     /// Checks 2 and 3 by p's declared ends and the values then; the cell's number.

@@ -38,8 +38,30 @@ use Relation::*;
 
 pub const RELATIONS: [Relation; 6] = [Less, GreaterEqual, Greater, LessEqual, Equal, NotEqual];
 
-/// "The negation of each relation is a table of six."
-const NEGATION: [Relation; 6] = [GreaterEqual, Less, LessEqual, Greater, NotEqual, Equal];
+/// Point 3: "an even relation goes up by one, an odd one down."
+pub fn negation(relation: usize) -> usize {
+    match relation % 2 {
+        0 => relation + 1,
+        _ => relation - 1,
+    }
+}
+
+impl Relation {
+    pub fn negated(self) -> Relation {
+        RELATIONS[negation(self as usize)]
+    }
+
+    pub fn holds(self, left: i64, right: i64) -> bool {
+        match self {
+            Less => left < right,
+            GreaterEqual => left >= right,
+            Greater => left > right,
+            LessEqual => left <= right,
+            Equal => left == right,
+            NotEqual => left != right,
+        }
+    }
+}
 
 #[derive(Clone, Copy, Debug, PartialEq, Eq)]
 pub enum Right {
@@ -56,7 +78,7 @@ pub struct Condition {
 
 impl Condition {
     pub fn negated(self) -> Condition {
-        Condition { relation: NEGATION[self.relation as usize], ..self }
+        Condition { relation: self.relation.negated(), ..self }
     }
 }
 
@@ -172,4 +194,27 @@ pub struct Routine {
     pub statements: Vec<Statement>,
     /// Bit v for each variable that a condition or the right side of kind 2 reads.
     pub compared: u16,
+}
+
+#[cfg(test)]
+mod tests {
+    use super::*;
+
+    #[test]
+    fn the_six_negations() {
+        assert_eq!([0, 1, 2, 3, 4, 5].map(negation), [1, 0, 3, 2, 5, 4]);
+    }
+
+    #[test]
+    fn exactly_one_of_a_relation_and_its_negation_holds() {
+        let values = [0, 1, 2, 9, 65_536, 2_147_483_647, 2_147_483_648, 4_294_967_294, 4_294_967_295];
+        for relation in RELATIONS {
+            for left in values {
+                for right in values {
+                    let negated = relation.negated().holds(left, right);
+                    assert_ne!(relation.holds(left, right), negated, "{left} {relation:?} {right}");
+                }
+            }
+        }
+    }
 }

@@ -7,7 +7,8 @@ use lib.Dec.{leb, ltb, eqb}
 use Rattle.sums.specs.Numbers.{bias, maxValue}
 use Rattle.arrays.specs.TabulateLaws.{getD-tabulate}
 use Rattle.rules.specs.BoundsRules.{nothingKnown}
-use Rattle.machine.specs.Machine.{value, endValue, relates, none, firstOf, accessFailing, arithmeticFailing}
+use Rattle.conditions.specs.Relations.{relates}
+use Rattle.machine.specs.Machine.{value, endValue, none, firstOf, accessFailing, arithmeticFailing}
 use Rattle.checks.specs.Checked.{endIn, boundsIn, declaredIn, stepUnless}
 use Rattle.stops.specs.declared.Check.the-variants.{NullAccess, OutOfBounds, NullArithmetic, AddressRange}
 use Rattle.checks.specs.declared.Step.the-variants.{Go, Stop}

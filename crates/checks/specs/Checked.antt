@@ -1,6 +1,5 @@
 -- What the checks of a run read, and what they say of a step.
 use Prim.Native.Nat.{ℕ, _+_, _*_}
-use mathlib.Core.Bool.{Bool, true, false}
 use mathlib.Core.List.{List, []}
 use lib.ListN.{getD}
 use Rattle.arrays.specs.Tabulate.{tabulate}

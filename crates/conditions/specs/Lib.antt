@@ -1,4 +1,6 @@
 pub mod Conditions
+pub mod Relations
 pub mod Negation
+pub mod NegationLaws
 pub mod Typed
 pub mod ConditionLaws

@@ -1,12 +1,12 @@
 -- The negation of a condition.
-use Prim.Native.Nat.{ℕ}
-use mathlib.Core.List.{[], _∷_}
-use lib.ListN.{getD}
+use mathlib.Core.Bool.{cond}
+use Prim.Native.Nat.{ℕ, _+_, _-_, _%_}
+use lib.Dec.{eqb}
 use Rattle.conditions.specs.declared.Condition.{Condition}
 
--- "The negation of each relation is a table of six: 1, 0, 3, 2, 5, 4." A number that is no relation has 0.
+-- Point 3: "an even relation goes up by one, an odd one down."
 unfoldable pub negation : ℕ → ℕ
-negation relation = getD (1 ∷ 0 ∷ 3 ∷ 2 ∷ 5 ∷ 4 ∷ []) relation 0
+negation relation = cond (eqb (relation % 2) 0) (relation + 1) (relation - 1)
 
 unfoldable pub negatedOf : Condition → Condition
 negatedOf c = record { left = c .left; relation = negation (c .relation); right = c .right; offset = c .offset }

@@ -21,9 +21,6 @@ pub struct Condition {
     pub offset: u64,
 }
 
-// The negation of each relation: < and >=, > and <=, == and !=.
-const NEGATIONS: [usize; 6] = [1, 0, 3, 2, 5, 4];
-
 // Form 0: two variables of one kind.
 fn same_kind(table: &[i32], sections: Sections, v: u64, w: u64) -> bool
     ensures { λ r. ⌜ r ≡ sameKind (now (table .entry)) sections v w ⌝ }
@@ -78,14 +75,14 @@ pub fn condition_of(f: Fields) -> Condition
     }
 }
 
-// A number that is no relation has 0.
+// An even relation goes up by one, an odd one down.
 fn negation(relation: usize) -> usize
     ensures { λ r. ⌜ r ≡ negation relation ⌝ }
 {
-    if relation < 6 {
-        return NEGATIONS[relation];
+    if relation % 2 == 0 {
+        return relation + 1;
     }
-    0
+    relation - 1
 }
 
 pub fn negated(c: Condition) -> Condition

@@ -2,20 +2,22 @@
 use Prim.Native.Nat.{ℕ, zero, suc, _+_, _≤_, _<_}
 use mathlib.Core.Path.{_≡_, refl, ap, _∙_}
 use mathlib.Core.Logic.{_≢_}
-use mathlib.Core.Bool.{Bool, true, false, _&&_, cond}
+use mathlib.Core.Bool.{Bool, true, false, not, _&&_, cond}
 use mathlib.Core.List.{List}
 use native.Mathlib.Omega.{arith}
-use borrow.Author.Tests.{leb-true, leb-false, ltb-true, ltb-false, eqb-true, eqb-false, le-leb, lt-ltb, not-true, not-false}
+use borrow.Author.Tests.{leb-true, ltb-true, eqb-true, eqb-false, not-true}
 use lib.Dec.{eqb}
 use Rattle.sums.specs.Numbers.{zeroVar}
 use Rattle.chains.specs.Sound.{InRange, Holds, added-holds}
 use Rattle.facts.specs.declared.FactSet.{FactSet}
 use Rattle.sections.specs.SectionsLaws.{both}
+use Rattle.conditions.specs.NegationLaws.{negation-decides}
 use Rattle.conditions.specs.Negation.{negation, negatedOf}
 use Rattle.conditions.specs.declared.Condition.{Condition}
 use Rattle.rules.specs.Stored.{positive, differs, relationFacts, conditionFacts}
 use Rattle.rules.specs.FactsTrue.{equated-holds, positive-holds}
-use Rattle.machine.specs.Machine.{value, relates, conditionHolds}
+use Rattle.conditions.specs.Relations.{relates}
+use Rattle.machine.specs.Machine.{value, conditionHolds}
 use Rattle.rules.specs.FactRules as factRules
 
 module _ (f : FactSet) (v : ℕ → ℕ) (g : InRange v) (h : Holds f v) where
@@ -40,17 +42,6 @@ module _ (f : FactSet) (v : ℕ → ℕ) (g : InRange v) (h : Holds f v) where
   relation-holds (suc (suc (suc (suc zero)))) x y k t = let u : v x ≡ v y + k = eqb-true _ _ t in equated-holds f v g h x y _ (omega arith)
   relation-holds (suc (suc (suc (suc (suc r))))) x y k t = differs-holds x y k (eqb-false (v x) (v y + k) (not-true (eqb (v x) (v y + k)) t))
 
--- A relation that fails, negated, holds.
-negation-relates : (r a b : ℕ) → r < 6 → relates r a b ≡ false → relates (negation r) a b ≡ true
-unfolding relates negation
-negation-relates zero a b l e = le-leb b a (ltb-false a b e)
-negation-relates (suc zero) a b l e = lt-ltb a b (leb-false b a e)
-negation-relates (suc (suc zero)) a b l e = le-leb a b (ltb-false b a e)
-negation-relates (suc (suc (suc zero))) a b l e = lt-ltb b a (leb-false a b e)
-negation-relates (suc (suc (suc (suc zero)))) a b l e = rw e
-negation-relates (suc (suc (suc (suc (suc zero))))) a b l e = not-false (eqb a b) e
-negation-relates (suc (suc (suc (suc (suc (suc r)))))) a b l e = absurd (omega arith)
-
 module _ (f : FactSet) (vs : List ℕ) (g : InRange (value vs)) (h : Holds f (value vs)) (c : Condition) where
   pub condition-holds : conditionHolds vs c ≡ true → Holds (conditionFacts f c) (value vs)
   unfolding conditionHolds factRules.conditionFacts
@@ -59,4 +50,4 @@ module _ (f : FactSet) (vs : List ℕ) (g : InRange (value vs)) (h : Holds f (va
   pub negated-holds : c .relation < 6 → conditionHolds vs c ≡ false → Holds (conditionFacts f (negatedOf c)) (value vs)
   unfolding conditionHolds factRules.conditionFacts negatedOf
   negated-holds l e =
-      relation-holds f (value vs) g h (negation (c .relation)) (c .left) (c .right) (c .offset) (negation-relates (c .relation) (value vs (c .left)) (value vs (c .right) + c .offset) l e)
+      relation-holds f (value vs) g h (negation (c .relation)) (c .left) (c .right) (c .offset) (negation-decides (c .relation) (value vs (c .left)) (value vs (c .right) + c .offset) l ∙ ap not e)

@@ -7,6 +7,7 @@ use lib.IntN.{ℤ}
 use lib.ListN.{length, getD, set}
 use Rattle.sums.specs.Numbers.{bias, maxValue}
 use Rattle.sections.specs.declared.Sections.{Sections}
+use Rattle.conditions.specs.Relations.{relates}
 use Rattle.conditions.specs.declared.Condition.{Condition}
 use Rattle.statements.specs.Statements.{statementAt}
 use Rattle.statements.specs.declared.Simple.{Simple}
@@ -68,14 +69,6 @@ inOrigin D zero a = false
 inOrigin D (suc o) a = leb (low D o + bias) a && ltb a (high D o + bias)
 
 -- ---- "Conditions compare values, pointers by address."
-
-unfoldable pub relates : ℕ → ℕ → ℕ → Bool
-relates zero a b = ltb a b
-relates (suc zero) a b = leb b a
-relates (suc (suc zero)) a b = ltb b a
-relates (suc (suc (suc zero))) a b = leb a b
-relates (suc (suc (suc (suc zero)))) a b = eqb a b
-relates (suc (suc (suc (suc (suc n))))) a b = not (eqb a b)
 
 unfoldable pub conditionHolds : List ℕ → Condition → Bool
 conditionHolds vs c = relates (c .relation) (value vs (c .left)) (value vs (c .right) + c .offset)

@@ -1,7 +1,5 @@
 use borrow.Author.Needs.{needs}
-use mathlib.Core.Path.{refl, sym}
-use mathlib.Core.List.{[], _∷_}
-use lib.ListN.{List·getD-eq-default}
+use borrow.Author.Tests.{eq-eqb, ne-eqb}
 use Rattle.conditions.specs.Negation.{negation}
 use Rattle.conditions.proofs.negation.Statement.{statement}
 use Rattle.conditions.proofs.negation.Tie as tie
@@ -12,6 +10,6 @@ negation-spec =
     tie.close
     (tie.spec
     (λ c. search needs)
+    (λ c. rw (eq-eqb _ _ (c .if1 .taken)))
     (λ c. search needs)
-    (λ c. refl)
-    (λ c. sym (List·getD-eq-default (1 ∷ 0 ∷ 3 ∷ 2 ∷ 5 ∷ 4 ∷ []) 0 (c .if1 .left))))
+    (λ c. rw (ne-eqb _ _ (c .if1 .left))))
