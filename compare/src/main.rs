@@ -16,6 +16,7 @@ mod parallel;
 mod proved;
 mod rng;
 mod shrink;
+mod stack;
 mod stats;
 mod vectors;
 
@@ -26,7 +27,8 @@ const USAGE: &str = "usage: compare vectors DIR
        compare stats SEED COUNT
        compare differ SEED COUNT [FIRST]
        compare show SEED NUMBER
-       compare bench [check|run]";
+       compare bench [check|run]
+       compare stack [KIB]";
 
 fn main() -> ExitCode {
     let args: Vec<String> = std::env::args().skip(1).collect();
@@ -50,6 +52,11 @@ fn main() -> ExitCode {
             bench::run();
             Ok(true)
         }
+        ["stack"] => {
+            println!("{} KiB of stack are enough for a check and a run of the deepest table", stack::least());
+            Ok(true)
+        }
+        ["stack", kib] => number(kib).map(|kib| stack::probe(kib as usize)).map(|()| true),
         _ => Err(USAGE.to_string()),
     };
     match outcome {

@@ -126,6 +126,9 @@ impl std::fmt::Display for Stats {
 #[cfg(test)]
 mod tests {
     use super::*;
+    use oracle::answer::Refusal;
+    use oracle::draft::Draft;
+    use oracle::table::MAX_DEPTH;
 
     /// The greatest depth of a statement in the block.
     fn depth(statements: &[Statement]) -> usize {
@@ -168,10 +171,18 @@ mod tests {
     }
 
     #[test]
-    fn accepted_tables_go_down_to_depth_8() {
-        let accepted = (0..12_000).map(|number| case(22, number).table).filter(|t| checker::check(t).is_ok());
-        let depths: Vec<usize> = accepted.map(|t| depth(&decode(&t).unwrap().statements)).collect();
-        assert_eq!(depths.iter().max(), Some(&8));
-        assert!(depths.iter().filter(|&&d| d == 8).count() >= 10);
+    fn tables_go_down_to_the_greatest_depth_and_beyond() {
+        let tables: Vec<_> = (0..12_000).map(|number| case(22, number).table).collect();
+        let accepted = tables.iter().filter(|table| checker::check(table).is_ok());
+        let depths: Vec<usize> = accepted.map(|t| depth(&decode(t).unwrap().statements)).collect();
+        assert_eq!(depths.iter().max(), Some(&MAX_DEPTH));
+        assert!(depths.iter().filter(|&&d| d == MAX_DEPTH).count() >= 10);
+        // Refused at a statement that is no head: it is too deep.
+        let too_deep = tables.iter().filter(|table| {
+            let (refusal, draft) = (checker::check(table).err(), Draft::from_words(table));
+            matches!((refusal, draft), (Some(Refusal { cause: 6, place, .. }), Some(draft))
+                if draft.statements[place as usize][0] < 11)
+        });
+        assert!(too_deep.count() >= 10);
     }
 }

@@ -10,7 +10,8 @@ pub const MAX_VARIABLES: usize = 16;
 pub const MAX_STATEMENTS: usize = 1_024;
 pub const MAX_OBJECT_LENGTH: i32 = 1_000_000;
 pub const MAX_CONSTANT: i32 = 65_536;
-pub const MAX_DEPTH: usize = 8;
+/// Point 8: "The limit becomes 6; depth 7 is refusal 6." Top statements have depth 0.
+pub const MAX_DEPTH: usize = 6;
 pub const MAX_BUNDLE: usize = 16;
 pub const VARIABLE_WORDS: usize = 8;
 pub const STATEMENT_WORDS: usize = 7;

@@ -165,14 +165,21 @@ fn a_block_ends_with_its_parent() {
 }
 
 #[test]
-fn depth_8_is_the_last() {
+fn depth_6_is_the_last() {
     let nest = |depth: usize, inner: Vec<Record>| {
         (0..depth).fold(inner, |inner, _| while_loop(with_literal(1, GREATER, 0), inner))
     };
-    assert_eq!(refused_statements(nest(8, vec![some_check()])), None);
-    assert_eq!(refused_statements(nest(8, bundle(vec![some_check()]))), None);
-    assert_eq!(refused_statements(nest(9, vec![])), None);
-    assert_eq!(refused_statements(nest(9, vec![some_check()])), Some((6, 9)));
+    assert_eq!(refused_statements(nest(6, vec![some_check()])), None);
+    assert_eq!(refused_statements(nest(6, bundle(vec![some_check()]))), None);
+    assert_eq!(refused_statements(nest(7, vec![])), None);
+    assert_eq!(refused_statements(nest(7, vec![some_check()])), Some((6, 7)));
+    assert_eq!(refused_statements(nest(8, vec![])), Some((6, 7)));
+    // In an else block too; the place is the statement too deep.
+    let other = if_else(with_literal(1, GREATER, 0), vec![some_check()], vec![some_check()]);
+    assert_eq!(refused_statements(nest(5, other.clone())), None);
+    assert_eq!(refused_statements(nest(6, other)), Some((6, 7)));
+    let only_else = if_else(with_literal(1, GREATER, 0), vec![], vec![some_check()]);
+    assert_eq!(refused_statements([vec![some_check()], nest(6, only_else)].concat()), Some((6, 8)));
 }
 
 #[test]

@@ -241,7 +241,7 @@ impl Writer<'_> {
             }
             2 => Some(if_else(self.condition(), Chunk::new(), Chunk::new())),
             _ if depth == 0 => {
-                let deepest = self.rng.pick(&[6, 7, 8, 8, 8, 9]);
+                let deepest = MAX_DEPTH + 1 - self.rng.pick(&[0, 1, 1, 1, 2, 3]);
                 Some(self.nest(deepest))
             }
             _ => None,

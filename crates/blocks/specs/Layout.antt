@@ -15,9 +15,9 @@ use Rattle.statements.specs.Statements.{statementAt}
 use Rattle.blocks.specs.declared.Layout.{Layout}
 use Rattle.blocks.specs.declared.Layout.the-variants.{LaidOut, Refused}
 
--- "a block may hold blocks, to a depth of 8 (top statements have depth 0)"
+-- "a block may hold blocks, to a depth" of 6 "(top statements have depth 0)". Point 8: "The limit becomes 6; depth 7 is refusal 6."
 abbrev pub maxDepth : ℕ
-maxDepth = 8
+maxDepth = 6
 
 -- "bundle: count, 1 to 16"
 abbrev pub maxBundle : ℕ

@@ -10,7 +10,7 @@ ghost use Rattle.blocks.specs.Layout.{verdict, contents, bundleLayout, b
 ghost use Rattle.blocks.specs.Parts.{blocksOf, Parted};
 
 // Blocks hold blocks to this depth; top statements have depth 0.
-const MAX_DEPTH: usize = 8;
+const MAX_DEPTH: usize = 6;
 
 // A bundle has 1 to this many statements.
 const MAX_BUNDLE: usize = 16;
