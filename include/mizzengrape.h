@@ -19,7 +19,7 @@ extern "C" {
 /* Checks a routine table. The answer's words, the others stay:
      answer[0]  0 accepted, else the number of the refusal, 1 to 9
      answer[1]  0 accepted, else the refusal's place: for 1 and 2 it is 0, for 3 the object, for 4 the variable, for 5 to 9 the statement
-     answer[2]  for refusal 8 a pointer variable whose declared bounds are not shown there, else 0
+     answer[2]  for refusal 8 the lowest pointer variable whose declared bounds are not shown there, else 0
    True; or false, and nothing written, where answer_len is below 3. */
 bool mizzengrape_check(const int32_t *table, size_t table_len, uint32_t *answer, size_t answer_len);
 
@@ -27,7 +27,7 @@ bool mizzengrape_check(const int32_t *table, size_t table_len, uint32_t *answer,
      answer[0]       0 done    1 spent     2 stopped    3 refused
      answer[1]       steps     steps       steps        number of the refusal, 1 to 12
      answer[2]       0         statement   statement    its place: as for a check; for 10 the pair or 0, for 11 it is 0, for 12 the variable
-     answer[3]       0         0           check 1..5   for refusal 8 a pointer variable as for a check, else 0
+     answer[3]       0         0           check 1..5   for refusal 8 the pointer variable as for a check, else 0
    The checks: 1 dynamic check false, 2 access through null, 3 access outside the declared bounds, 4 arithmetic on null, 5 address out of range.
    Only cells, values and answer are written; a refusal changes no cell and no value. directory has two words for each object, values and origins one
    for each variable; wrong lengths are refused by 10 and 11.

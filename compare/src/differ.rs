@@ -4,7 +4,7 @@ use crate::generate::{case, Case};
 use crate::noninterference::{Ended, Pair};
 use crate::parallel::lowest;
 use crate::proved::{
-    check_agrees, run_agrees, run_words, show_check_words, show_run_words, Implementation, RunWords,
+    check_words, run_agrees, run_words, show_check_words, show_run_words, Implementation, RunWords,
 };
 use crate::shrink::shrink;
 use oracle::answer::{show_check, Refusal, RunAnswer, RunInput};
@@ -42,7 +42,7 @@ impl<'a> Runs<'a> {
     fn check_difference(&self, other: &dyn Implementation) -> Option<String> {
         let right = self.routine.as_ref().map(|_| ()).map_err(|refusal| *refusal);
         let words = other.check(&self.case.table);
-        (!check_agrees(&right, words))
+        (words != check_words(&right))
             .then(|| format!("check: {} and {}", show_check(&right), show_check_words(words)))
     }
 

@@ -2,7 +2,7 @@
 //! that any question can reach, bounds looked at only where they changed.
 
 use crate::fast_facts::FastFacts;
-use oracle::answer::{bits, CheckAnswer, Refusal};
+use oracle::answer::{CheckAnswer, Refusal};
 use oracle::facts::GREATEST;
 use oracle::table::{decode, Condition, Kind, Right, Routine, Statement, Var};
 
@@ -57,6 +57,18 @@ struct Walker<'a> {
     named_by: [u16; 16],
     /// The pointers whose known bounds may differ from the declared ones.
     changed: u16,
+}
+
+/// The numbers of the bits set, lowest first.
+fn bits(mut mask: u16) -> impl Iterator<Item = usize> {
+    std::iter::from_fn(move || {
+        if mask == 0 {
+            return None;
+        }
+        let bit = mask.trailing_zeros() as usize;
+        mask &= mask - 1;
+        Some(bit)
+    })
 }
 
 /// Bit v for each variable whose facts can matter.
@@ -211,19 +223,15 @@ impl<'a> Walker<'a> {
         if self.changed == 0 {
             return Ok(());
         }
-        let mut missing = 0;
+        // The lowest first: it is the one to name.
         for p in bits(self.changed) {
             if !self.shown(p, facts) {
-                missing |= 1 << p;
+                return Err(Refusal::bounds(place, p as Var));
             }
             self.known[p] = self.declared[p];
         }
         self.changed = 0;
-        if missing == 0 {
-            Ok(())
-        } else {
-            Err(Refusal::bounds(place, missing))
-        }
+        Ok(())
     }
 
     fn drop(&self, x: Var, facts: &mut FastFacts) {

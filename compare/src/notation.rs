@@ -144,7 +144,8 @@ fn write(table: &[i32], names: &[String]) -> Vec<(String, Vec<i32>)> {
 mod tests {
     use super::*;
     use crate::fast_check;
-    use crate::proved::{check_words, implementations, show_check_words};
+    use crate::proved::{implementations, show_check_words};
+    use oracle::answer::show_check;
     use oracle::checker;
     use std::collections::BTreeSet;
     use std::fs;
@@ -193,7 +194,7 @@ mod tests {
         for (stem, listing, words) in listings() {
             let plain = [checker::check(&words), fast_check::check(&words)];
             for answer in plain {
-                assert_eq!(show_check_words(check_words(&answer)), listing.verdict, "{stem}");
+                assert_eq!(show_check(&answer), listing.verdict, "{stem}");
             }
             for other in implementations() {
                 assert_eq!(

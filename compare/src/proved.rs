@@ -6,8 +6,8 @@ use crate::linked::Proved;
 use crate::{fast_check, fast_run};
 use oracle::answer::{CheckAnswer, Refusal, RunAnswer, RunInput};
 
-/// 0 for accepted, else the number of the refusal; its place; for refusal 8 a
-/// pointer whose declared bounds are not shown there, else 0.
+/// 0 for accepted, else the number of the refusal; its place; for refusal 8 the
+/// lowest pointer whose declared bounds are not shown there, else 0.
 pub type CheckWords = [u32; 3];
 
 /// Outcome, then three words: 0 done (steps), 1 spent (steps, statement),
@@ -46,11 +46,9 @@ pub fn implementations() -> Vec<Box<dyn Implementation>> {
 }
 
 fn refusal_words(refusal: &Refusal) -> CheckWords {
-    let lowest = if refusal.cause == 8 { refusal.pointers.trailing_zeros() } else { 0 };
-    [refusal.cause.into(), refusal.place, lowest]
+    [refusal.cause.into(), refusal.place, refusal.pointer.unwrap_or(0).into()]
 }
 
-/// The words of an answer; of refusal 8 the lowest pointer.
 pub fn check_words(answer: &CheckAnswer) -> CheckWords {
     match answer {
         Ok(()) => [0; 3],
@@ -72,27 +70,9 @@ pub fn run_words(answer: &RunAnswer) -> RunWords {
     }
 }
 
-/// Whether words are the right answer. For refusal 8 every choice of a pointer
-/// that is not shown is right.
-pub fn check_agrees(right: &CheckAnswer, words: CheckWords) -> bool {
-    let [number, place, pointer] = words;
-    match right {
-        Err(refusal) if refusal.cause == 8 => {
-            number == 8 && place == refusal.place && pointer < 16 && refusal.pointers >> pointer & 1 == 1
-        }
-        other => words == check_words(other),
-    }
-}
-
+/// Whether words are the right answer. An alarm is right for nobody.
 pub fn run_agrees(right: &RunAnswer, words: RunWords) -> bool {
-    match right {
-        RunAnswer::Refused(refusal) => {
-            words[0] == 3 && check_agrees(&Err(*refusal), [words[1], words[2], words[3]])
-        }
-        // An alarm is right for nobody.
-        RunAnswer::Stuck { .. } => false,
-        other => words == run_words(other),
-    }
+    !matches!(right, RunAnswer::Stuck { .. }) && words == run_words(right)
 }
 
 /// Words as text, in the form of the vectors.
@@ -121,20 +101,14 @@ mod tests {
     use oracle::answer::Check;
 
     #[test]
-    fn refusal_8_may_name_any_pointer_not_shown() {
-        let right = Err(Refusal::bounds(3, 0b101));
-        assert!(check_agrees(&right, [8, 3, 0]) && check_agrees(&right, [8, 3, 2]));
-        assert!(!check_agrees(&right, [8, 3, 1]) && !check_agrees(&right, [8, 2, 0]));
-        assert!(!check_agrees(&right, [8, 3, 99]) && !check_agrees(&right, [0, 0, 0]));
-        assert_eq!(check_words(&right), [8, 3, 0]);
-    }
-
-    #[test]
-    fn other_answers_must_be_equal() {
+    fn an_answer_must_be_equal() {
+        assert_eq!(check_words(&Err(Refusal::bounds(3, 2))), [8, 3, 2]);
         let right = RunAnswer::Stopped { steps: 4, statement: 2, check: Check::OutOfBounds };
         assert!(run_agrees(&right, [2, 4, 2, 3]));
         assert!(!run_agrees(&right, [2, 5, 2, 3]) && !run_agrees(&right, [1, 4, 2, 0]));
-        let refused = RunAnswer::Refused(Refusal::at(12, 1));
-        assert!(run_agrees(&refused, [3, 12, 1, 0]) && !run_agrees(&refused, [3, 12, 0, 0]));
+        let refused = RunAnswer::Refused(Refusal::bounds(3, 0));
+        assert!(run_agrees(&refused, [3, 8, 3, 0]) && !run_agrees(&refused, [3, 8, 3, 2]));
+        let alarm = RunAnswer::Stuck { steps: 1, statement: 0 };
+        assert!(!run_agrees(&alarm, run_words(&alarm)));
     }
 }

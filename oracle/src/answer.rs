@@ -1,5 +1,6 @@
 //! Answers of the check and of a run, in the form the paper gives them.
 
+use crate::syntax::Var;
 use std::fmt;
 
 /// A refusal: its cause (1 to 12) and the place returned with it.
@@ -7,42 +8,28 @@ use std::fmt;
 pub struct Refusal {
     pub cause: u8,
     pub place: u32,
-    /// Cause 8 only: every pointer whose declared bounds are not shown there,
-    /// bit v for variable v. The paper lets an implementation name any one.
-    pub pointers: u16,
+    /// Cause 8 only (point 6): the lowest-numbered pointer whose declared bounds are not shown there.
+    pub pointer: Option<Var>,
 }
 
 impl Refusal {
     pub fn at(cause: u8, place: usize) -> Refusal {
-        Refusal { cause, place: place as u32, pointers: 0 }
+        Refusal { cause, place: place as u32, pointer: None }
     }
 
-    pub fn bounds(place: usize, pointers: u16) -> Refusal {
-        Refusal { cause: 8, place: place as u32, pointers }
+    pub fn bounds(place: usize, pointer: Var) -> Refusal {
+        Refusal { cause: 8, place: place as u32, pointer: Some(pointer) }
     }
 }
 
 impl fmt::Display for Refusal {
     fn fmt(&self, f: &mut fmt::Formatter<'_>) -> fmt::Result {
         write!(f, "refused {} {}", self.cause, self.place)?;
-        if self.cause == 8 {
-            let names: Vec<String> = bits(self.pointers).map(|p| p.to_string()).collect();
-            write!(f, " {{{}}}", names.join(" "))?;
+        match self.pointer {
+            Some(pointer) => write!(f, " {pointer}"),
+            None => Ok(()),
         }
-        Ok(())
     }
-}
-
-/// The numbers of the bits set, lowest first.
-pub fn bits(mut mask: u16) -> impl Iterator<Item = usize> {
-    std::iter::from_fn(move || {
-        if mask == 0 {
-            return None;
-        }
-        let bit = mask.trailing_zeros() as usize;
-        mask &= mask - 1;
-        Some(bit)
-    })
 }
 
 pub type CheckAnswer = Result<(), Refusal>;

@@ -102,15 +102,12 @@ impl Walker<'_> {
             || end_below(facts, known.lower, declared.lower) && end_below(facts, declared.upper, known.upper)
     }
 
-    /// Refusal 8 with every pointer not shown.
+    /// Point 6: "Refusal 8 gives the lowest-numbered one not shown."
     fn all_shown(&self, place: usize, facts: &Facts, known: &Known) -> Result<(), Refusal> {
-        let missing = (0..self.routine.kinds.len())
-            .filter(|&v| !self.shown(v as Var, facts, known))
-            .fold(0u16, |mask, v| mask | 1 << v);
-        if missing == 0 {
-            Ok(())
-        } else {
-            Err(Refusal::bounds(place, missing))
+        let variables = 0..self.routine.kinds.len() as Var;
+        match variables.into_iter().find(|&v| !self.shown(v, facts, known)) {
+            Some(p) => Err(Refusal::bounds(place, p)),
+            None => Ok(()),
         }
     }
 

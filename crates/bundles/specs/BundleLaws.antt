@@ -16,10 +16,11 @@ use Rattle.statements.specs.declared.Statement.the-variants.{Plain, If, While, 
 use Rattle.statements.specs.declared.StatementRead.the-variants.{Read, Unread}
 use Rattle.statements.specs.Statements.{statementAt}
 use Rattle.blocks.specs.Tree.{simples, simplesFrom}
+use Rattle.blocks.specs.Layout.{also, when}
 use Rattle.flow.specs.FlowLaws.{simples-some}
 use Rattle.rules.specs.Stored.{factsAfter, effect, unshown, accessShown, bundleFacts, bundleBounds, bundleFaults, boundsAfter}
-use Rattle.rules.specs.Rules.{Fault, refusal, notShown, also, faultIf, accessAt, boundsAt}
-use Rattle.rules.specs.Verdict.{lowestVerdict}
+use Rattle.rules.specs.Rules.{accessAt, boundsAt}
+use Rattle.rules.specs.Verdict.{verdictOf}
 use Rattle.rules.specs.Ranges.{InRange, Measured, Short}
 use Rattle.effects.specs.Applied.{Applied, applied}
 use Rattle.bundles.specs.Bundles.{Passes, WalksBundle}
@@ -35,53 +36,51 @@ use Rattle.rules.specs.Rules as walkRules
 
 -- ---- faults in order
 
-pub none-refused : (xs : List Fault) {v : Verdict} → v ≡ lowestVerdict xs → v ≡ Accepted → xs ≡ []
-unfolding lowestVerdict
+pub none-refused : (xs : List Refusal) {v : Verdict} → v ≡ verdictOf xs → v ≡ Accepted → xs ≡ []
+unfolding verdictOf
 none-refused [] e p = refl
-none-refused (refusal r ∷ xs) e p = cc
-none-refused (notShown a q qs ∷ xs) e p = cc
+none-refused (r ∷ xs) e p = cc
 
-pub pass : (xs ys : List Fault) → xs ≡ [] → also xs ys ≡ ys
+pub pass : (xs ys : List Refusal) → xs ≡ [] → also xs ys ≡ ys
 unfolding also
 pass xs ys e = rw e
 
-pub skip : (b : Bool) (r : Refusal) (ys : List Fault) → b ≡ false → also (faultIf b r) ys ≡ ys
-unfolding also faultIf
+pub skip : (b : Bool) (r : Refusal) (ys : List Refusal) → b ≡ false → also (when b r) ys ≡ ys
+unfolding also when
 skip b r ys e = rw e
 
 -- A part that is refused is the answer.
-refuse-part : (xs ys : List Fault) {v : Verdict} {r : Refusal} → v ≡ lowestVerdict xs → v ≡ Refused r → (v ≡ lowestVerdict (also xs ys)) × (also xs ys ≡ [] → ⊥)
-unfolding also lowestVerdict
+refuse-part : (xs ys : List Refusal) {v : Verdict} {r : Refusal} → v ≡ verdictOf xs → v ≡ Refused r → (v ≡ verdictOf (also xs ys)) × (also xs ys ≡ [] → ⊥)
+unfolding also verdictOf
 refuse-part [] ys {v} {r} e p = let z : Accepted ≡ Refused r = sym e ∙ p in let o : _≡_ {A = ℕ} 0 1 = cc in absurd (omega arith)
-refuse-part (refusal x ∷ xs) ys e p = (e, λ q. let o : _≡_ {A = ℕ} 0 1 = cc in omega arith)
-refuse-part (notShown a p₁ ps ∷ xs) ys e p = (e, λ q. let o : _≡_ {A = ℕ} 0 1 = cc in omega arith)
+refuse-part (x ∷ xs) ys e p = (e, λ q. let o : _≡_ {A = ℕ} 0 1 = cc in omega arith)
 
-pub stops : {zs : List Fault} (xs ys : List Fault) {g : FactSet} {w : Walked} {r : Refusal} → zs ≡ also xs ys → w .verdict ≡ lowestVerdict xs → w .verdict ≡ Refused r → Passes zs g w
+pub stops : {zs : List Refusal} (xs ys : List Refusal) {g : FactSet} {w : Walked} {r : Refusal} → zs ≡ also xs ys → w .verdict ≡ verdictOf xs → w .verdict ≡ Refused r → Passes zs g w
 stops xs ys z e p =
     let h = refuse-part xs ys e p in
-    record { said = h .0 ∙ ap lowestVerdict (sym z); kept = λ q. absurd (h .1 (sym z ∙ q)) }
+    record { said = h .0 ∙ ap verdictOf (sym z); kept = λ q. absurd (h .1 (sym z ∙ q)) }
 
-pub no-fault : (b : Bool) (r : Refusal) → faultIf b r ≡ [] → b ≡ false
-unfolding faultIf
+pub no-fault : (b : Bool) (r : Refusal) → when b r ≡ [] → b ≡ false
+unfolding when
 no-fault true r e = cc
 no-fault false r e = refl
 
 -- A test that refuses.
-pub fault-verdict : (b : Bool) (r : Refusal) → b ≡ true → Refused r ≡ lowestVerdict (faultIf b r)
-unfolding faultIf lowestVerdict
+pub fault-verdict : (b : Bool) (r : Refusal) → b ≡ true → Refused r ≡ verdictOf (when b r)
+unfolding when verdictOf
 fault-verdict b r e = rw e
 
-access-verdict : (b : Bool) (a : ℕ) → b ≡ false → Refused (BundleAccess a) ≡ lowestVerdict (accessAt b a)
-unfolding accessAt lowestVerdict
+access-verdict : (b : Bool) (a : ℕ) → b ≡ false → Refused (BundleAccess a) ≡ verdictOf (accessAt b a)
+unfolding accessAt verdictOf
 access-verdict b a e = rw e
 
 access-pass : (b : Bool) (a : ℕ) → b ≡ true → accessAt b a ≡ []
 unfolding accessAt
 access-pass b a e = rw e
 
-pub ends : {xs : List Fault} {g : FactSet} {w : Walked} → xs ≡ [] → w .verdict ≡ Accepted → w .facts ≡ g → Passes xs g w
-unfolding lowestVerdict
-ends e p q = record { said = p ∙ ap lowestVerdict (sym e); kept = λ z. q }
+pub ends : {xs : List Refusal} {g : FactSet} {w : Walked} → xs ≡ [] → w .verdict ≡ Accepted → w .facts ≡ g → Passes xs g w
+unfolding verdictOf
+ends e p q = record { said = p ∙ ap verdictOf (sym e); kept = λ z. q }
 
 -- ---- a statement
 
@@ -105,7 +104,7 @@ simples-none zero T h a p = refl
 simples-none (suc n) T h a p = absurd (omega arith)
 
 -- The faults of a bundle from statement a on, with the question at its head's end; and the bundle's loop invariant: what is left of it is the whole.
-abbrev pub lineFaults : Environment → ℕ → ℕ → List Simple → FactSet → List Bounds → List Fault
+abbrev pub lineFaults : Environment → ℕ → ℕ → List Simple → FactSet → List Bounds → List Refusal
 lineFaults E head a ss f K = also (bundleFaults E a ss f K) (boundsAt head (unshown E (bundleFacts ss f) (bundleBounds E ss f K)))
 
 pub record Held (T : List ℤ) (h : Sections) (E : Environment) (head count : ℕ) (f₀ : FactSet) (K₀ : List Bounds) (at left : ℕ) (f : FactSet) (K : List Bounds) : Type 0 where
@@ -115,10 +114,10 @@ pub record Held (T : List ℤ) (h : Sections) (E : Environment) (head count : �
 pub held-none : (T : List ℤ) (h : Sections) (E : Environment) (head count : ℕ) (f₀ : FactSet) (K₀ : List Bounds) → Held T h E head count f₀ K₀ (head + 1) count f₀ K₀
 held-none T h E head count f₀ K₀ = record { blamed = refl; left-facts = refl }
 
-pub carry : {xs ys : List Fault} {f g : FactSet} {w : Walked} → xs ≡ ys → f ≡ g → Passes ys g w → Passes xs f w
-carry e d p = record { said = p .said ∙ ap lowestVerdict (sym e); kept = λ z. p .kept (sym e ∙ z) ∙ sym d }
+pub carry : {xs ys : List Refusal} {f g : FactSet} {w : Walked} → xs ≡ ys → f ≡ g → Passes ys g w → Passes xs f w
+carry e d p = record { said = p .said ∙ ap verdictOf (sym e); kept = λ z. p .kept (sym e ∙ z) ∙ sym d }
 
-also-none : (xs : List Fault) → also [] xs ≡ xs
+also-none : (xs : List Refusal) → also [] xs ≡ xs
 unfolding also
 also-none xs = refl
 
@@ -134,16 +133,16 @@ facts-none : (f : FactSet) → bundleFacts [] f ≡ f
 unfolding walkRules.bundleFacts
 facts-none f = refl
 
-pub also-assoc : (xs ys zs : List Fault) → also (also xs ys) zs ≡ also xs (also ys zs)
+pub also-assoc : (xs ys zs : List Refusal) → also (also xs ys) zs ≡ also xs (also ys zs)
 unfolding also
 also-assoc [] ys zs = refl
-also-assoc (x ∷ xs) ys zs = ap (λ (l : List Fault). x ∷ l) (also-assoc xs ys zs)
+also-assoc (x ∷ xs) ys zs = ap (λ (l : List Refusal). x ∷ l) (also-assoc xs ys zs)
 
 line-some : (E : Environment) (head a : ℕ) (s : Simple) (ss : List Simple) (f : FactSet) (K : List Bounds)
-    → lineFaults E head a (s ∷ ss) f K ≡ also (faultIf (contradictory f) (Contradiction a)) (also (accessAt (accessShown E f K s) a)
+    → lineFaults E head a (s ∷ ss) f K ≡ also (when (contradictory f) (Contradiction a)) (also (accessAt (accessShown E f K s) a)
     (lineFaults E head (a + 1) ss (factsAfter s f) (boundsAfter (effect E f s) K)))
 unfolding walkRules.bundleFaults walkRules.bundleFacts walkRules.bundleBounds
-line-some E head a s ss f K = also-assoc _ _ _ ∙ ap (also (faultIf (contradictory f) (Contradiction a))) (also-assoc _ _ _)
+line-some E head a s ss f K = also-assoc _ _ _ ∙ ap (also (when (contradictory f) (Contradiction a))) (also-assoc _ _ _)
 
 module _ {T : List ℤ} {h : Sections} {E : Environment} {head count : ℕ} {f₀ : FactSet} {K₀ : List Bounds} {at left : ℕ} {f : FactSet} {K : List Bounds}
     (k : Held T h E head count f₀ K₀ at left f K) where
@@ -173,7 +172,7 @@ module _ {T : List ℤ} {h : Sections} {E : Environment} {head count : ℕ} {f�
       line : simples left T h at ≡ p ∷ simples (left - 1) T h (at + 1)
       line = simples-some left T h at _ some (e ∙ ap Read d)
 
-      line-here : lineFaults E head (head + 1) (simples count T h (head + 1)) f₀ K₀ ≡ also (faultIf (contradictory f) (Contradiction at)) (also (accessAt (accessShown E f K p) at)
+      line-here : lineFaults E head (head + 1) (simples count T h (head + 1)) f₀ K₀ ≡ also (when (contradictory f) (Contradiction at)) (also (accessAt (accessShown E f K p) at)
           (lineFaults E head (at + 1) (simples (left - 1) T h (at + 1)) (factsAfter p f) (boundsAfter (effect E f p) K)))
       line-here = k .blamed ∙ (ap (λ (ss : List Simple). lineFaults E head at ss f K) line ∙ line-some E head at p (simples (left - 1) T h (at + 1)) f K)
 

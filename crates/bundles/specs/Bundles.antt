@@ -5,15 +5,17 @@ use mathlib.Core.List.{List, []}
 use Rattle.facts.specs.declared.FactSet.{FactSet}
 use Rattle.statements.specs.declared.Simple.{Simple}
 use Rattle.rules.specs.Stored.{unshown, bundleFacts, bundleBounds, bundleFaults}
-use Rattle.rules.specs.Rules.{Fault, also, boundsAt}
-use Rattle.rules.specs.Verdict.{lowestVerdict}
+use Rattle.refusals.specs.declared.Refusal.{Refusal}
+use Rattle.blocks.specs.Layout.{also}
+use Rattle.rules.specs.Rules.{boundsAt}
+use Rattle.rules.specs.Verdict.{verdictOf}
 use Rattle.rules.specs.declared.Bounds.{Bounds}
 use Rattle.rules.specs.declared.Environment.{Environment}
 use Rattle.bundles.specs.declared.Walked.{Walked}
 
 -- The verdict is that of the faults; where there is none, the facts are these.
-pub record Passes (faults : List Fault) (facts : FactSet) (r : Walked) : Type 0 where
-  pub said : r .verdict ≡ lowestVerdict faults
+pub record Passes (faults : List Refusal) (facts : FactSet) (r : Walked) : Type 0 where
+  pub said : r .verdict ≡ verdictOf faults
   pub kept : faults ≡ [] → r .facts ≡ facts
 
 -- The walk over a bundle with its head at `head` and its statements ss: their faults, then the question about all declared bounds.

@@ -2,7 +2,7 @@
 use Prim.Native.Nat.{ℕ, _^_, _<_, _≤_}
 use mathlib.Core.Path.{_≡_, refl, sym, ap, ap₂, _∙_}
 use mathlib.Core.Bool.{Bool, true, false, _&&_, cond}
-use mathlib.Core.List.{List, [], _∷_, List·Memᴰ·head}
+use mathlib.Core.List.{List, [], _∷_}
 use native.Mathlib.Omega.{arith}
 use borrow.Author.Tests.{ltb-true, ltb-false}
 use lib.IntN.{ℤ}
@@ -24,12 +24,11 @@ use Rattle.table.specs.FormLaws.{Formed, well-formed}
 use Rattle.table.specs.declared.Form.{Form}
 use Rattle.table.specs.declared.Form.the-variants as form
 use Rattle.blocks.specs.Tree.{parse, tree}
-use Rattle.blocks.specs.Layout.{layout, verdict}
+use Rattle.blocks.specs.Layout.{also, layout, verdict}
 use Rattle.blocks.specs.declared.Layout.{Layout}
 use Rattle.blocks.specs.declared.Layout.the-variants as layout-variant
-use Rattle.rules.specs.Rules.{Fault, refusal, notShown, also}
-use Rattle.rules.specs.Stored.{blockFaults, sectionFaults, formFaults, faults}
-use Rattle.rules.specs.Verdict.{environmentOf, refusals, Answers, lowestVerdict}
+use Rattle.rules.specs.Stored.{blockFaults, sectionFaults, formFaults}
+use Rattle.rules.specs.Verdict.{environmentOf, verdictOf}
 use Rattle.rules.specs.Ranges.{Measured}
 use Rattle.rules.specs.ByChains.{Judged}
 use Rattle.rules.specs.Decidable.{judged}
@@ -65,43 +64,36 @@ module _ (T : List ℤ) (h : Sections) (w : Formed T h) where
   measured {E} e o = let q : getD (E .lengths) o 0 ≡ getD (tabulate 16 (objectAt T h)) o 0 = ap (λ (F : Environment). getD (F .lengths) o 0) e in rw q (lengths-short o)
 
 -- Cause 6, then the walk.
-first-refused : (xs : List Refusal) (ys : List Fault) {r : Refusal} → verdict xs ≡ layout-variant.Refused r → Refused r ≡ lowestVerdict (also (refusals xs) ys)
-unfolding verdict also lowestVerdict
+first-refused : (xs : List Refusal) (ys : List Refusal) {r : Refusal} → verdict xs ≡ layout-variant.Refused r → Refused r ≡ verdictOf (also xs ys)
+unfolding verdict also verdictOf
 first-refused [] ys e = cc
 first-refused (x ∷ xs) ys e = ap Refused (cc)
 
-none-laid : (xs : List Refusal) (ys : List Fault) → verdict xs ≡ layout-variant.LaidOut → also (refusals xs) ys ≡ ys
+none-laid : (xs : List Refusal) (ys : List Refusal) → verdict xs ≡ layout-variant.LaidOut → also xs ys ≡ ys
 unfolding verdict also
 none-laid [] ys e = refl
 none-laid (x ∷ xs) ys e = cc
 
 module _ (T : List ℤ) (h : Sections) {l : Layout} (e : l ≡ verdict (layout T h)) where
-  pub section-refused : {r : Refusal} → l ≡ layout-variant.Refused r → Refused r ≡ lowestVerdict (sectionFaults T h)
+  pub section-refused : {r : Refusal} → l ≡ layout-variant.Refused r → Refused r ≡ verdictOf (sectionFaults T h)
   unfolding verdictRules.sectionFaults
   section-refused p = first-refused (layout T h) _ (sym e ∙ p)
 
   pub section-walked : {E : Environment} {f : FactSet} {w : Walked} → l ≡ layout-variant.LaidOut → E ≡ environmentOf T h → f ≡ newSet
-      → Walks T h E (parse (h .statements) T h 0 (h .statements)) f w → w .verdict ≡ lowestVerdict (sectionFaults T h)
+      → Walks T h E (parse (h .statements) T h 0 (h .statements)) f w → w .verdict ≡ verdictOf (sectionFaults T h)
   unfolding verdictRules.sectionFaults tree
   section-walked p q n w =
-      w .said ∙ ap lowestVerdict (ap₂ (λ (F : Environment) (g : FactSet). blockFaults T h F (parse (h .statements) T h 0 (h .statements)) g) q n
+      w .said ∙ ap verdictOf (ap₂ (λ (F : Environment) (g : FactSet). blockFaults T h F (parse (h .statements) T h 0 (h .statements)) g) q n
       ∙ sym (none-laid (layout T h) _ (sym e ∙ p)))
-
--- The lowest pointer is one of those that are not shown.
-pub lowest-answers : (xs : List Fault) {v : Verdict} → v ≡ lowestVerdict xs → Answers xs v
-unfolding lowestVerdict Answers
-lowest-answers [] e = e
-lowest-answers (refusal r ∷ xs) e = e
-lowest-answers (notShown a p ps ∷ xs) e = (p, List·Memᴰ·head refl, e)
 
 module _ (T : List ℤ) {f : Form} (e : f ≡ formOf T) where
   pub form-refused : {r : Refusal} → f ≡ form.Refused r → Judged T (Refused r)
-  unfolding verdictRules.faults lowestVerdict
-  form-refused {r} p = judged T (Refused r) (lowest-answers (faults T) (ap (λ (g : Form). lowestVerdict (formFaults T g)) (sym p ∙ e)))
+  unfolding verdictRules.faults verdictOf
+  form-refused {r} p = judged T (Refused r) (ap (λ (g : Form). verdictOf (formFaults T g)) (sym p ∙ e))
 
-  pub form-checked : {h : Sections} {v : Verdict} → f ≡ form.WellFormed h → v ≡ lowestVerdict (sectionFaults T h) → Judged T v
+  pub form-checked : {h : Sections} {v : Verdict} → f ≡ form.WellFormed h → v ≡ verdictOf (sectionFaults T h) → Judged T v
   unfolding verdictRules.faults
-  form-checked {v = v} p q = judged T v (lowest-answers (faults T) (q ∙ ap (λ (g : Form). lowestVerdict (formFaults T g)) (sym p ∙ e)))
+  form-checked {v = v} p q = judged T v (q ∙ ap (λ (g : Form). verdictOf (formFaults T g)) (sym p ∙ e))
 
   pub form-formed : {h : Sections} → f ≡ form.WellFormed h → Formed T h
   form-formed p = well-formed T _ (sym e ∙ p)

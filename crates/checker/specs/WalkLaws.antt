@@ -21,11 +21,12 @@ use Rattle.statements.specs.Statements.{statementAt}
 use Rattle.statements.specs.StatementLaws.{read-typed, read-limits, read-counts-if, read-counts-while, read-counts-bundle}
 use Rattle.blocks.specs.Tree.{Block, nil, unread, simples, node, parse}
 use Rattle.blocks.specs.TreeLaws.{parse-none, parse-end, parse-some}
+use Rattle.blocks.specs.Layout.{also, when}
 use Rattle.flow.specs.Targets.{targetsFrom}
 use Rattle.rules.specs.Stored.{factsAfter, conditionFacts, loopFacts, effect, unshown, bundleFacts, bundleBounds, bundleFaults, blockFacts, blockFaults, boundsAfter}
 use Rattle.rules.specs.BoundsRules.{isPointer}
-use Rattle.rules.specs.Rules.{Fault, also, faultIf, boundsAt}
-use Rattle.rules.specs.Verdict.{lowestVerdict}
+use Rattle.rules.specs.Rules.{boundsAt}
+use Rattle.rules.specs.Verdict.{verdictOf}
 use Rattle.rules.specs.Ranges.{InRange}
 use Rattle.effects.specs.Applied.{Applied, applied}
 use Rattle.touched.specs.Touched.{namedIn, touches}
@@ -59,7 +60,7 @@ unfolding walkRules.blockFaults walkRules.blockFacts
 nil-passes T h E b f e p q = rw e (ends refl p q)
 
 unread-stops : (T : List ℤ) (h : Sections) (E : Environment) (b : Block) (f : FactSet) (a : ℕ) {w : Walked} → b ≡ unread a → w .verdict ≡ Refused (StatementRecord a) → Walks T h E b f w
-unfolding walkRules.blockFaults lowestVerdict
+unfolding walkRules.blockFaults verdictOf
 unread-stops T h E b f a e p = rw e (record { said = p; kept = λ q. let o : _≡_ {A = ℕ} 0 1 = cc in absurd (omega arith) })
 
 module _ {T : List ℤ} {h : Sections} {E : Environment} {end allowed : ℕ} {b : Block} {f₀ : FactSet} {at left : ℕ} {f : FactSet} (k : Kept T h E end allowed b f₀ at left f) where
@@ -91,7 +92,7 @@ module _ (T : List ℤ) (h : Sections) (E : Environment) (at left end : ℕ) (f 
   abbrev at-statement : Statement → Block
   at-statement s = node true (Read s) (rest T h left) T h at end
 
-  abbrev kindFaults : Statement → List Fault
+  abbrev kindFaults : Statement → List Refusal
   kindFaults (Plain s) = also (boundsAt at (unshown E (factsAfter s f) (boundsAfter (effect E f s) (E .declared)))) (blockFaults T h E (rest T h left (at + 1) end) (factsAfter s f))
   kindFaults (If c n m) =
       also (blockFaults T h E (rest T h left (at + 1) (at + 1 + n)) (conditionFacts f c))
@@ -113,7 +114,7 @@ module _ (T : List ℤ) (h : Sections) (E : Environment) (at left end : ℕ) (f 
   kindFacts (While c n) = blockFacts T h E (rest T h left (at + 1 + n) end) (conditionFacts (loopFacts (targetsFrom T h (at + 1) n) f) (negatedOf c))
   kindFacts (Bundle n) = blockFacts T h E (rest T h left (at + 1 + n) end) (bundleFacts (simples n T h (at + 1)) f)
 
-  faults-here : (s : Statement) → blockFaults T h E (at-statement s) f ≡ also (faultIf (contradictory f) (Contradiction at)) (kindFaults s)
+  faults-here : (s : Statement) → blockFaults T h E (at-statement s) f ≡ also (when (contradictory f) (Contradiction at)) (kindFaults s)
   unfolding walkRules.blockFaults
   faults-here (Plain s) = refl
   faults-here (If c n m) = refl
@@ -161,7 +162,7 @@ module _ {T : List ℤ} {h : Sections} {E : Environment} {end allowed : ℕ} {b 
   plain-ranged {p} u = read-ranged T h at p (u .read)
 
   module _ (s : Statement) (u : Turn T h E end allowed b f₀ at left f s) where
-    whole : blockFaults T h E b f₀ ≡ also (faultIf (contradictory f) (Contradiction at)) (kindFaults T h E at left end f s)
+    whole : blockFaults T h E b f₀ ≡ also (when (contradictory f) (Contradiction at)) (kindFaults T h E at left end f s)
     whole = u .so-far .same .blamed ∙ (ap (λ (x : Block). blockFaults T h E x f) (parse-some left T h at end _ (u .some) (u .within) (u .read)) ∙ faults-here T h E at left end f s)
 
     whole-facts : blockFacts T h E b f₀ ≡ kindFacts T h E at left end f s
@@ -184,9 +185,9 @@ module _ {T : List ℤ} {h : Sections} {E : Environment} {end allowed : ℕ} {b 
   }
 
   module _ {p : Simple} (u : Turn T h E end allowed b f₀ at left f (Plain p)) (calm : contradictory f ≡ false) {d : Applied} (e : d ≡ applied (E .lengths) f p)
-      {v : Verdict} (z : v ≡ lowestVerdict (boundsAt at (unshown E (d .facts) (boundsAfter (d .effect) (E .declared))))) where
-    shown-here : v ≡ lowestVerdict (boundsAt at (unshown E (factsAfter p f) (boundsAfter (effect E f p) (E .declared))))
-    shown-here = z ∙ ap₂ (λ (g : FactSet) (x : Effect). lowestVerdict (boundsAt at (unshown E g (boundsAfter x (E .declared))))) (applied-facts E f p e) (applied-effect E f p e)
+      {v : Verdict} (z : v ≡ verdictOf (boundsAt at (unshown E (d .facts) (boundsAfter (d .effect) (E .declared))))) where
+    shown-here : v ≡ verdictOf (boundsAt at (unshown E (factsAfter p f) (boundsAfter (effect E f p) (E .declared))))
+    shown-here = z ∙ ap₂ (λ (g : FactSet) (x : Effect). verdictOf (boundsAt at (unshown E g (boundsAfter x (E .declared))))) (applied-facts E f p e) (applied-effect E f p e)
 
     pub plain-refused : {w : Walked} {r : Refusal} → w .verdict ≡ v → v ≡ Refused r → Walks T h E b f₀ w
     plain-refused q x = stops _ _ (here (Plain p) u calm) (q ∙ shown-here) (q ∙ x)
@@ -197,8 +198,8 @@ module _ {T : List ℤ} {h : Sections} {E : Environment} {end allowed : ℕ} {b 
   -- Nothing has to be shown again.
   pub turn-untouched : {p : Simple} → Turn T h E end allowed b f₀ at left f (Plain p) → contradictory f ≡ false → {d : Applied} → d ≡ applied (E .lengths) f p
       → {named : List Bool} → named ≡ namedIn E → touches named (E .pointers) (d .effect) ≡ false → Kept T h E end allowed b f₀ (at + 1) (left - 1) (d .facts)
-  unfolding boundsAt lowestVerdict
-  turn-untouched u calm {d} e r x = turn-plain u calm e {v = Accepted} (sym (ap (λ (ps : List ℕ). lowestVerdict (boundsAt at ps)) (unnamed E (d .effect) r x (d .facts)))) refl
+  unfolding boundsAt verdictOf
+  turn-untouched u calm {d} e r x = turn-plain u calm e {v = Accepted} (sym (ap (λ (ps : List ℕ). verdictOf (boundsAt at ps)) (unnamed E (d .effect) r x (d .facts)))) refl
 
   module _ {c : Condition} {n m : ℕ} (u : Turn T h E end allowed b f₀ at left f (If c n m)) (calm : contradictory f ≡ false)
       {g : FactSet} (e : g ≡ conditionFacts f c) {r : Walked} (w : Walks T h E (rest T h left (at + 1) (at + 1 + n)) g r) where

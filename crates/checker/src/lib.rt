@@ -12,14 +12,14 @@ use table::read_form;
 use touched::named_in;
 ghost use mathlib.Core.Path.{_≡_};
 ghost use Rattle.table.specs.FormLaws.{Formed};
-ghost use Rattle.rules.specs.Verdict.{lowestVerdict};
+ghost use Rattle.rules.specs.Verdict.{verdictOf};
 ghost use Rattle.rules.specs.ByChains.{Judged};
 ghost use Rattle.rules.specs.Stored.{sectionFaults};
 
 // Cause 6, then the walk over the statements, begun with what is always known.
 fn check_sections(table: &[i32], sections: Sections) -> Verdict
     requires { ⌜ Formed (now table) sections ⌝ }
-    ensures { λ r. ⌜ r ≡ lowestVerdict (sectionFaults (now (table .entry)) sections) ⌝ }
+    ensures { λ r. ⌜ r ≡ verdictOf (sectionFaults (now (table .entry)) sections) ⌝ }
 {
     let layout = read_layout(table, sections);
     match layout {
@@ -43,7 +43,7 @@ fn check_sections(table: &[i32], sections: Sections) -> Verdict
     }
 }
 
-// The verdict on a routine table. Of several pointers whose declared bounds are not shown, refusal 8 names one.
+// The verdict on a routine table.
 pub fn check(table: &[i32]) -> Verdict
     ensures { λ r. ⌜ Judged (now (table .entry)) r ⌝ }
 {

@@ -17,7 +17,7 @@ use Rattle.statements.specs.declared.Simple.the-variants.{Literal, AddConstant,
 use Rattle.rules.specs.BoundsRules.{isPointer, declared, known, consIf}
 use Rattle.rules.specs.Stored.{endAtMost, knownAtMost, boundsShown, unshownFrom, unshown, accessShown}
 use Rattle.rules.specs.Rules.{boundsAt}
-use Rattle.rules.specs.Verdict.{lowestVerdict}
+use Rattle.rules.specs.Verdict.{verdictOf}
 use Rattle.rules.specs.declared.KnownEnd.{KnownEnd}
 use Rattle.rules.specs.declared.KnownEnd.the-variants.{Known, Unknown}
 use Rattle.rules.specs.declared.Bounds.{Bounds}
@@ -94,15 +94,15 @@ module _ {E : Environment} {f : FactSet} {K : List Bounds} {p : ℕ} (q : Passed
             ∙ (ap (λ (b : Bool). consIf b p (unshownFrom E f K (16 - p - 1) (p + 1))) e ∙ ap (λ (m : ℕ). unshownFrom E f K m (p + 1)) n));
       }
 
-  pub passed-missed : (a : ℕ) → p < 16 → missed E f K p ≡ true → Refused (BoundsNotShown a p) ≡ lowestVerdict (boundsAt a (unshown E f K))
-  unfolding lowestVerdict boundsAt
-  passed-missed a h e = sym (ap (λ (ps : List ℕ). lowestVerdict (boundsAt a ps)) (q .same ∙ (unshown-some E f K (16 - p) p (omega arith) ∙ ap (λ (b : Bool). consIf b p (unshownFrom E f K (16 - p - 1) (p + 1))) e)))
+  pub passed-missed : (a : ℕ) → p < 16 → missed E f K p ≡ true → Refused (BoundsNotShown a p) ≡ verdictOf (boundsAt a (unshown E f K))
+  unfolding verdictOf boundsAt
+  passed-missed a h e = sym (ap (λ (ps : List ℕ). verdictOf (boundsAt a ps)) (q .same ∙ (unshown-some E f K (16 - p) p (omega arith) ∙ ap (λ (b : Bool). consIf b p (unshownFrom E f K (16 - p - 1) (p + 1))) e)))
 
-  pub passed-all : (a : ℕ) → 16 ≤ p → Accepted ≡ lowestVerdict (boundsAt a (unshown E f K))
-  unfolding lowestVerdict boundsAt boundsRules.unshownFrom
+  pub passed-all : (a : ℕ) → 16 ≤ p → Accepted ≡ verdictOf (boundsAt a (unshown E f K))
+  unfolding verdictOf boundsAt boundsRules.unshownFrom
   passed-all a h =
       let n : 16 - p ≡ 0 = omega arith in
-      sym (ap (λ (ps : List ℕ). lowestVerdict (boundsAt a ps)) (q .same ∙ ap (λ (m : ℕ). unshownFrom E f K m p) n))
+      sym (ap (λ (ps : List ℕ). verdictOf (boundsAt a ps)) (q .same ∙ ap (λ (m : ℕ). unshownFrom E f K m p) n))
 
 missed-shown : (a : Bool) {b c : Bool} → b ≡ c → not b ≡ false → (a && not c) ≡ false
 missed-shown true e t = ap not (sym e) ∙ t

@@ -15,15 +15,24 @@ use transfer::effect_on;
 use transfer::source_of;
 ghost use mathlib.Core.Path.{_≡_};
 ghost use Rattle.rules.specs.Stored.{unshown, accessShown, boundsAfter};
+ghost use Rattle.refusals.specs.declared.Refusal.the-variants.{BoundsNotShown};
+ghost use Rattle.rules.specs.declared.Verdict.the-variants.{Refused};
 ghost use Rattle.rules.specs.Rules.{boundsAt};
-ghost use Rattle.rules.specs.Verdict.{lowestVerdict};
+ghost use Rattle.rules.specs.Verdict.{verdictOf};
 ghost use Rattle.rules.specs.Ranges.{Short};
 ghost use Rattle.declared.specs.Shown.{accessOf};
 
-// The first pointer whose declared bounds are not shown after the effect, where the declared bounds were the known ones.
+// Refusal 8.
+fn not_shown(statement: usize, pointer: usize) -> Verdict
+    ensures { λ r. ⌜ r ≡ Refused (BoundsNotShown statement pointer) ⌝ }
+{
+    Verdict::Refused(Refusal::BoundsNotShown { statement, pointer })
+}
+
+// The lowest pointer whose declared bounds are not shown after the effect, where the declared bounds were the known ones.
 pub fn check_effect(environment: Environment, facts: FactSet, effect: Effect, at: usize) -> Verdict
     requires { ⌜ Short effect ⌝ }
-    ensures { λ r. ⌜ r ≡ lowestVerdict (boundsAt at (unshown environment facts (boundsAfter effect (environment .declared)))) ⌝ }
+    ensures { λ r. ⌜ r ≡ verdictOf (boundsAt at (unshown environment facts (boundsAfter effect (environment .declared)))) ⌝ }
 {
     let from = source_of(effect);
     let source = environment.declared[from];
@@ -33,10 +42,7 @@ pub fn check_effect(environment: Environment, facts: FactSet, effect: Effect, at
         let known = effect_on(effect, p, declared, source);
         if environment.pointers[p] & !same_bounds(known, declared) {
             if !bounds_shown(facts, p, known, declared) {
-                return Verdict::Refused(Refusal::BoundsNotShown {
-                    statement: at,
-                    pointer: p,
-                });
+                return not_shown(at, p);
             }
         }
         p += 1;
@@ -44,14 +50,14 @@ pub fn check_effect(environment: Environment, facts: FactSet, effect: Effect, at
     Verdict::Accepted
 }
 
-// The first pointer whose declared bounds are not shown by the known ones.
+// The lowest pointer whose declared bounds are not shown by the known ones.
 pub fn check_known(
     environment: Environment,
     facts: FactSet,
     known: KnownBounds,
     at: usize,
 ) -> Verdict
-    ensures { λ r. ⌜ r ≡ lowestVerdict (boundsAt at (unshown environment facts (known .each))) ⌝ }
+    ensures { λ r. ⌜ r ≡ verdictOf (boundsAt at (unshown environment facts (known .each))) ⌝ }
 {
     let mut p = 0;
     while p < 16 {
@@ -59,10 +65,7 @@ pub fn check_known(
         let declared = environment.declared[p];
         if environment.pointers[p] & !same_bounds(own, declared) {
             if !bounds_shown(facts, p, own, declared) {
-                return Verdict::Refused(Refusal::BoundsNotShown {
-                    statement: at,
-                    pointer: p,
-                });
+                return not_shown(at, p);
             }
         }
         p += 1;

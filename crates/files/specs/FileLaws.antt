@@ -12,9 +12,8 @@ use Rattle.arrays.specs.Tabulate.{tabulate}
 use Rattle.arrays.specs.TabulateLaws.{length-tabulate}
 use Rattle.refusals.specs.declared.Refusal.the-variants.{Length}
 use Rattle.table.specs.Form.{lengthRight, formOf}
-use Rattle.rules.specs.Rules.{refusal}
 use Rattle.rules.specs.FactSets.{FactSets}
-use Rattle.rules.specs.Verdict.{faults, Answers}
+use Rattle.rules.specs.Verdict.{faults, verdictOf}
 use Rattle.rules.specs.ByChains.{byChains, Judged}
 use Rattle.rules.specs.Decidable.{decided}
 use Rattle.rules.specs.declared.Verdict.{Verdict}
@@ -28,16 +27,16 @@ and-false true = refl
 and-false false = refl
 
 -- "above 7,318 words"
-pub faults-long : (S : FactSets) (T : List ℤ) → 7318 < length T → faults S T ≡ refusal Length ∷ []
+pub faults-long : (S : FactSets) (T : List ℤ) → 7318 < length T → faults S T ≡ Length ∷ []
 unfolding faults formOf lengthRight
 faults-long S T h = rw (lt-leb (length T) 7318 h, and-false (leb 6 (length T)))
 
 pub odd-refused : (bytes : List ℕ) → (length bytes % 4 ≡ 0 → ⊥) → FileJudged bytes (Refused Length)
-unfolding FileJudged fileFaults Answers
+unfolding FileJudged fileFaults verdictOf
 odd-refused bytes n = decided _ _ (λ d r. rw (ne-eqb (length bytes % 4) 0 n) refl)
 
 pub long-refused : (bytes : List ℕ) → length bytes % 4 ≡ 0 → 7318 < length bytes / 4 → FileJudged bytes (Refused Length)
-unfolding FileJudged fileFaults Answers wordsOf
+unfolding FileJudged fileFaults verdictOf wordsOf
 long-refused bytes e h =
     decided _ _ (λ d r. rw (
       eq-eqb (length bytes % 4) 0 e,

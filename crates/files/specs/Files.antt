@@ -1,14 +1,15 @@
 -- "The verdict program reads a file on standard input": the verdict on a file's bytes.
 use Prim.Native.Nat.{ℕ, _*_, _/_, _%_}
+use mathlib.Core.Path.{_≡_}
 use mathlib.Core.Bool.{cond}
 use mathlib.Core.List.{List, [], _∷_}
 use lib.Dec.{eqb}
 use lib.IntN.{ℤ}
 use lib.ListN.{length}
 use Rattle.arrays.specs.Tabulate.{tabulate}
+use Rattle.refusals.specs.declared.Refusal.{Refusal}
 use Rattle.refusals.specs.declared.Refusal.the-variants.{Length}
-use Rattle.rules.specs.Rules.{Fault, refusal}
-use Rattle.rules.specs.Verdict.{faults, Answers}
+use Rattle.rules.specs.Verdict.{faults, verdictOf}
 use Rattle.rules.specs.FactSets.{FactSets}
 use Rattle.rules.specs.ByChains.{byChains, Decided}
 use Rattle.rules.specs.declared.Verdict.{Verdict}
@@ -19,9 +20,9 @@ unfoldable pub wordsOf : List ℕ → List ℤ
 wordsOf bytes = tabulate (length bytes / 4) (λ i. wordAt bytes (4 * i))
 
 -- "file: length not a multiple of 4" is cause 1, place 0; else the faults of the table that the words are.
-unfoldable pub fileFaults : FactSets → List ℕ → List Fault
-fileFaults S bytes = cond (eqb (length bytes % 4) 0) (faults S (wordsOf bytes)) (refusal Length ∷ [])
+unfoldable pub fileFaults : FactSets → List ℕ → List Refusal
+fileFaults S bytes = cond (eqb (length bytes % 4) 0) (faults S (wordsOf bytes)) (Length ∷ [])
 
 -- THE VERDICT ON A FILE, by the paper's chains of the facts of its table: it answers the first fault.
 unfoldable pub FileJudged : List ℕ → Verdict → Type 0
-FileJudged bytes v = Decided (wordsOf bytes) (λ d. Answers (fileFaults (byChains d) bytes) v)
+FileJudged bytes v = Decided (wordsOf bytes) (λ d. v ≡ verdictOf (fileFaults (byChains d) bytes))

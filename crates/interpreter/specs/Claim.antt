@@ -17,13 +17,12 @@ use Rattle.table.specs.Form.{sectionsOf, formOf}
 use Rattle.table.specs.declared.Form.{Form}
 use Rattle.table.specs.declared.Form.the-variants.{WellFormed, Refused}
 use Rattle.blocks.specs.Tree.{tree}
+use Rattle.blocks.specs.Layout.{also}
 use Rattle.rules.specs.BoundsRules.{isPointer}
-use Rattle.rules.specs.Rules.{Fault, also}
-use Rattle.rules.specs.Verdict.{environmentOf, refusals, faults, Answers}
+use Rattle.rules.specs.Verdict.{environmentOf, faults}
 use Rattle.rules.specs.FactSets.{FactSets}
 use Rattle.rules.specs.ByChains.{byChains, Decided}
 use Rattle.rules.specs.declared.Environment.{Environment}
-use Rattle.rules.specs.declared.Verdict.the-variants as verdict
 use Rattle.machine.specs.Machine.{Failing, none, fails, failing, boundsTrue, inOrigin, going, stopped, stuck, Point, start, pointAfter}
 use Rattle.entry.specs.Entry.{entryRefusals}
 use Rattle.machine.specs.Points.{inBundle, Access, no-access, access, accessFrom, Outside}
@@ -35,12 +34,12 @@ use Rattle.stops.specs.declared.Outcome.the-variants as outcome
 
 -- ---- what refuses a run
 
-abbrev pub entryFaults : Form → List ℤ → List ℕ → List ℕ → List ℕ → List ℕ → List Fault
+abbrev pub entryFaults : Form → List ℤ → List ℕ → List ℕ → List ℕ → List ℕ → List Refusal
 entryFaults (Refused r) T D cs vs os = []
-entryFaults (WellFormed h) T D cs vs os = refusals (entryRefusals h (environmentOf T h) D cs vs os)
+entryFaults (WellFormed h) T D cs vs os = entryRefusals h (environmentOf T h) D cs vs os
 
 -- "A run checks the routine first, then 10 to 12": all faults in that order. "A run is begun when no cause refuses it."
-unfoldable pub runFaults : FactSets → List ℤ → List ℕ → List ℕ → List ℕ → List ℕ → List Fault
+unfoldable pub runFaults : FactSets → List ℤ → List ℕ → List ℕ → List ℕ → List ℕ → List Refusal
 runFaults S T D cs vs os = also (faults S T) (entryFaults (formOf T) T D cs vs os)
 
 -- ---- the points of a begun run
@@ -102,18 +101,16 @@ pub record Ran (T : List ℤ) (h : Sections) (D cs vs os : List ℕ) (limit : �
   pub cells : cs′ ≡ pointOf T h D cs vs os limit .cells
   pub every-point : (t : ℕ) → t ≤ limit → AtPoint T h (environmentOf T h) D (pointOf T h D cs vs os) limit r t
 
--- A refused run: the first fault is its answer, and no cell and no value is changed.
-pub record NotBegun (fs : List Fault) (cs vs : List ℕ) (r : Outcome) (vs′ cs′ : List ℕ) : Type 0 where
-  pub refusal : Refusal
-  pub first : Answers fs (verdict.Refused refusal)
+-- A refused run: the refusal is its answer, and no cell and no value is changed.
+pub record NotBegun (refusal : Refusal) (cs vs : List ℕ) (r : Outcome) (vs′ cs′ : List ℕ) : Type 0 where
   pub answer : r ≡ outcome.Refused refusal
   pub values : vs′ ≡ vs
   pub cells : cs′ ≡ cs
 
 -- What a run answers, given all faults of its input.
-unfoldable pub RunAnswer : List Fault → List ℤ → List ℕ → List ℕ → List ℕ → List ℕ → ℕ → Outcome → List ℕ → List ℕ → Type 0
+unfoldable pub RunAnswer : List Refusal → List ℤ → List ℕ → List ℕ → List ℕ → List ℕ → ℕ → Outcome → List ℕ → List ℕ → Type 0
 RunAnswer [] T D cs vs os limit r vs′ cs′ = Ran T (sectionsOf T) D cs vs os limit r vs′ cs′
-RunAnswer (f ∷ fs) T D cs vs os limit r vs′ cs′ = NotBegun (f ∷ fs) cs vs r vs′ cs′
+RunAnswer (f ∷ fs) T D cs vs os limit r vs′ cs′ = NotBegun f cs vs r vs′ cs′
 
 -- THE CONTRACT OF `run`, for each input, by the paper's chains of the facts of its table.
 unfoldable pub RunJudged : List ℤ → List ℕ → List ℕ → List ℕ → List ℕ → ℕ → Outcome → List ℕ → List ℕ → Type 0

@@ -21,10 +21,9 @@ use Rattle.table.specs.declared.Form.the-variants.{WellFormed, Refused}
 use Rattle.flow.specs.Flow.{tableFlow, written, Written}
 use Rattle.rules.specs.EnvironmentLaws.{environment-declares}
 use Rattle.rules.specs.AcceptedLaws.{clear, faults-clear}
-use Rattle.rules.specs.Rules.{Fault, refusal, notShown, also}
-use Rattle.rules.specs.Verdict.{environmentOf, refusals, Answers}
+use Rattle.blocks.specs.Layout.{also}
+use Rattle.rules.specs.Verdict.{environmentOf, verdictOf}
 use Rattle.rules.specs.Stored.{faults}
-use Rattle.rules.specs.declared.Verdict.{Verdict}
 use Rattle.rules.specs.declared.Verdict.the-variants as verdict
 use Rattle.rules.specs.declared.Environment.{Environment}
 use Rattle.statements.specs.Statements.{statementAt}
@@ -50,7 +49,7 @@ use Rattle.rules.specs.Stored.{store}
 use Rattle.rules.specs.Verdict as verdictRules
 use Rattle.rules.specs.ByChains.{byChains}
 use Rattle.rules.specs.Decidable.{decided}
-use Rattle.rules.specs.Agreement.{SameFirst, same-self, same-also, same-answers, faults-agree}
+use Rattle.rules.specs.Agreement.{SameFirst, same-self, same-also, faults-agree}
 use Rattle.interpreter.specs.Claim.{RunJudged, failingAt, AccessInside, answerAt, AtPoint, Ran, entryFaults, runFaults, RunAnswer}
 use Rattle.entry.specs.Entered.{entered}
 use Rattle.entry.specs.declared.EntryVerdict.{EntryVerdict}
@@ -297,27 +296,22 @@ module _ (T : List ℤ) (h : Sections) (formed : formOf T ≡ WellFormed h) (acc
 
 -- ---- refusals of a run
 
-answers-first : (f : Fault) (fs gs : List Fault) (v : Verdict) → Answers (f ∷ fs) v → Answers (f ∷ gs) v
-unfolding Answers
-answers-first (refusal r) fs gs v a = a
-answers-first (notShown s p ps) fs gs v a = a
-
 -- The verdict was a refusal.
-pub check-refused : (T : List ℤ) (D cs vs os : List ℕ) (limit : ℕ) (r : Refusal) → Answers (faults T) (verdict.Refused r)
+pub check-refused : (T : List ℤ) (D cs vs os : List ℕ) (limit : ℕ) (r : Refusal) → verdict.Refused r ≡ verdictOf (faults T)
     → RunAnswer (runFaults store T D cs vs os) T D cs vs os limit (outcome.Refused r) vs cs
-unfolding runFaults RunAnswer also Answers
+unfolding runFaults RunAnswer also verdictOf
 check-refused T D cs vs os limit r a = go (faults T) a
   where
-    go : (fs : List Fault) → Answers fs (verdict.Refused r) → RunAnswer (also fs (entryFaults (formOf T) T D cs vs os)) T D cs vs os limit (outcome.Refused r) vs cs
+    go : (fs : List Refusal) → verdict.Refused r ≡ verdictOf fs → RunAnswer (also fs (entryFaults (formOf T) T D cs vs os)) T D cs vs os limit (outcome.Refused r) vs cs
     go [] a = let z : _≡_ {A = ℕ} 0 1 = cc in absurd (omega arith)
-    go (f ∷ fs) a = record { refusal = r; first = answers-first f fs (also fs (entryFaults (formOf T) T D cs vs os)) (verdict.Refused r) a; answer = refl; values = refl; cells = refl }
+    go (f ∷ fs) a = record { answer = ap outcome.Refused (cc); values = refl; cells = refl }
 
 -- A table with no fault is well formed.
 pub no-form-refused : (T : List ℤ) (r : Refusal) → faults T ≡ [] → formOf T ≡ Refused r → ⊥
 no-form-refused T r e f = let p = faults-clear T e in let q = p .1 .form in let z : _≡_ {A = ℕ} 0 1 = cc in omega arith
 
 -- Of an accepted table the faults of a run are those of the entry.
-entry-only : (T : List ℤ) (h : Sections) (D cs vs os : List ℕ) → formOf T ≡ WellFormed h → faults T ≡ [] → runFaults store T D cs vs os ≡ refusals (entryRefusals h (environmentOf T h) D cs vs os)
+entry-only : (T : List ℤ) (h : Sections) (D cs vs os : List ℕ) → formOf T ≡ WellFormed h → faults T ≡ [] → runFaults store T D cs vs os ≡ entryRefusals h (environmentOf T h) D cs vs os
 unfolding runFaults also
 entry-only T h D cs vs os f e = rw (e, f)
 
@@ -328,12 +322,12 @@ entered-none (r ∷ rs) e = cc
 
 pub entry-refused : (T : List ℤ) (h : Sections) (D cs vs os : List ℕ) (limit : ℕ) (r : Refusal) → formOf T ≡ WellFormed h → faults T ≡ []
     → entered (entryRefusals h (environmentOf T h) D cs vs os) ≡ entry.Refused r → RunAnswer (runFaults store T D cs vs os) T D cs vs os limit (outcome.Refused r) vs cs
-unfolding RunAnswer Answers entered
+unfolding RunAnswer entered
 entry-refused T h D cs vs os limit r f e q = rw (entry-only T h D cs vs os f e) (go (entryRefusals h (environmentOf T h) D cs vs os) q)
   where
-    go : (rs : List Refusal) → entered rs ≡ entry.Refused r → RunAnswer (refusals rs) T D cs vs os limit (outcome.Refused r) vs cs
+    go : (rs : List Refusal) → entered rs ≡ entry.Refused r → RunAnswer rs T D cs vs os limit (outcome.Refused r) vs cs
     go [] q = let z : _≡_ {A = ℕ} 0 1 = cc in absurd (omega arith)
-    go (x ∷ rs) q = record { refusal = x; first = refl; answer = cc; values = refl; cells = refl }
+    go (x ∷ rs) q = record { answer = cc; values = refl; cells = refl }
 
 pub begun-ran : (T : List ℤ) (h : Sections) (D cs vs os : List ℕ) (limit : ℕ) (r : Outcome) (vs′ cs′ : List ℕ) → formOf T ≡ WellFormed h → faults T ≡ []
     → entryRefusals h (environmentOf T h) D cs vs os ≡ [] → Ran T (sectionsOf T) D cs vs os limit r vs′ cs′ → RunAnswer (runFaults store T D cs vs os) T D cs vs os limit r vs′ cs′
@@ -382,14 +376,14 @@ module _ {T : List ℤ} {h : Sections} {D cs vs os W S : List ℕ} (L : Launched
 
 -- ---- the paper's facts
 
-same-run : (fs gs : List Fault) (T : List ℤ) (D cs vs os : List ℕ) (limit : ℕ) (r : Outcome) (vs′ cs′ : List ℕ) → SameFirst fs gs
+same-run : (fs gs : List Refusal) (T : List ℤ) (D cs vs os : List ℕ) (limit : ℕ) (r : Outcome) (vs′ cs′ : List ℕ) → SameFirst fs gs
     → RunAnswer fs T D cs vs os limit r vs′ cs′ → RunAnswer gs T D cs vs os limit r vs′ cs′
 unfolding RunAnswer
 same-run [] [] T D cs vs os limit r vs′ cs′ s a = a
 same-run [] (g ∷ gs) T D cs vs os limit r vs′ cs′ s a = absurd s
 same-run (f ∷ fs) [] T D cs vs os limit r vs′ cs′ s a = absurd s
 same-run (f ∷ fs) (g ∷ gs) T D cs vs os limit r vs′ cs′ s a =
-    record { refusal = a .refusal; first = same-answers (f ∷ fs) (g ∷ gs) (verdict.Refused (a .refusal)) s (a .first); answer = a .answer; values = a .values; cells = a .cells }
+    record { answer = a .answer ∙ ap outcome.Refused s; values = a .values; cells = a .cells }
 
 pub run-judged : (T : List ℤ) (D cs vs os : List ℕ) (limit : ℕ) (r : Outcome) (vs′ cs′ : List ℕ) → RunAnswer (runFaults store T D cs vs os) T D cs vs os limit r vs′ cs′
     → RunJudged T D cs vs os limit r vs′ cs′

@@ -19,8 +19,7 @@ use Rattle.statements.specs.declared.Statement.the-variants.{Plain}
 use Rattle.table.specs.Form.{sectionsOf, formOf}
 use Rattle.table.specs.declared.Form.the-variants.{WellFormed}
 use Rattle.rules.specs.BoundsRules.{objectLength}
-use Rattle.rules.specs.Rules.{Fault}
-use Rattle.rules.specs.Verdict.{environmentOf, refusals, faults}
+use Rattle.rules.specs.Verdict.{environmentOf, faults}
 use Rattle.rules.specs.Stored.{store}
 use Rattle.rules.specs.ByChains.{byChains}
 use Rattle.rules.specs.Decidable.{decider, decider-decides}
@@ -74,14 +73,10 @@ module _ (h : Sections) (E : Environment) (D cs vs os : List ℕ) (A : Admitted 
 -- ---- a run that begins
 
 -- Where the table has no fault by the paper's facts it has none by the store.
-none-first : (xs ys : List Fault) → SameFirst xs ys → ys ≡ [] → xs ≡ []
+none-first : (xs ys : List Refusal) → SameFirst xs ys → ys ≡ [] → xs ≡ []
 none-first [] ys s e = refl
 none-first (x ∷ xs) [] s e = absurd s
 none-first (x ∷ xs) (y ∷ ys) s e = cc
-
-no-refusals : (xs : List Refusal) → refusals xs ≡ [] → xs ≡ []
-no-refusals [] e = refl
-no-refusals (x ∷ xs) e = cc
 
 begins-admitted : (T : List ℤ) (D cs vs os : List ℕ) → Begins T D cs vs os → Admitted (sectionsOf T) (environmentOf T (sectionsOf T)) D cs vs os
 unfolding runFaults
@@ -91,10 +86,10 @@ begins-admitted T D cs vs os b =
     let c = faults-clear T n in
     let h = c .0 in
     let f : formOf T ≡ WellFormed h = c .1 .form in
-    let s : refusals (entryRefusals h (environmentOf T h) D cs vs os) ≡ [] = rw f at (no-rest _ _ e) in
-    subst (λ (g : Sections). Admitted g (environmentOf T g) D cs vs os) (formed-sections T h f) (admitted h (environmentOf T h) D cs vs os (no-refusals _ s))
+    let s : entryRefusals h (environmentOf T h) D cs vs os ≡ [] = rw f at (no-rest _ _ e) in
+    subst (λ (g : Sections). Admitted g (environmentOf T g) D cs vs os) (formed-sections T h f) (admitted h (environmentOf T h) D cs vs os s)
 
-begins-ran : (fs : List Fault) (T : List ℤ) (D cs vs os : List ℕ) (limit : ℕ) (r : Outcome) (vs′ cs′ : List ℕ) → fs ≡ []
+begins-ran : (fs : List Refusal) (T : List ℤ) (D cs vs os : List ℕ) (limit : ℕ) (r : Outcome) (vs′ cs′ : List ℕ) → fs ≡ []
     → RunAnswer fs T D cs vs os limit r vs′ cs′ → Ran T (sectionsOf T) D cs vs os limit r vs′ cs′
 unfolding RunAnswer
 begins-ran [] T D cs vs os limit r vs′ cs′ e a = a

@@ -35,7 +35,7 @@ place (DirectoryPair i) = i
 place EntryLengths = 0
 place (EntryValue v) = v
 
--- Refusal 8 also returns "some pointer not shown"; the others return none, for which 0 stands.
+-- Refusal 8 also returns a pointer (point 6: "the lowest-numbered one not shown"); the others return none, for which 0 stands.
 abbrev pub pointer : Refusal → ℕ
 pointer Length = 0
 pointer Directory = 0

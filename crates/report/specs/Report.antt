@@ -14,7 +14,7 @@ use Rattle.text.specs.Text.{bytesOf, decimal}
 abbrev pub numeral : ℕ → List ℕ
 numeral n = decimal 20 n
 
--- "8: statement or bundle head, and some pointer not shown"; the others have a place.
+-- "8: statement or bundle head", and the lowest pointer not shown; the others have a place.
 unfoldable pub refusedText : Refusal → List ℕ
 refusedText r =
     (bytesOf ": refused " ++ numeral (number r))

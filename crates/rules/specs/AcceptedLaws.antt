@@ -6,43 +6,36 @@ use native.Mathlib.Omega.{arith}
 use lib.IntN.{ℤ}
 use Rattle.facts.specs.Store.{newSet}
 use Rattle.refusals.specs.declared.Refusal.{Refusal}
-use Rattle.refusals.specs.declared.Refusal.the-variants.{BoundsNotShown}
 use Rattle.sections.specs.declared.Sections.{Sections}
 use Rattle.table.specs.Form.{formOf}
 use Rattle.table.specs.declared.Form.{Form}
 use Rattle.table.specs.declared.Form.the-variants as form
 use Rattle.blocks.specs.Tree.{tree}
 use Rattle.blocks.specs.Layout.{layout}
-use Rattle.rules.specs.Rules.{Fault, refusal, notShown}
 use Rattle.rules.specs.Stored.{blockFaults, sectionFaults, formFaults, faults}
-use Rattle.rules.specs.Verdict.{environmentOf, refusals, Answers}
+use Rattle.rules.specs.Verdict.{environmentOf, verdictOf}
 use Rattle.rules.specs.RuleLaws.{no-first, no-rest}
 use Rattle.rules.specs.declared.Verdict.{Verdict}
-use Rattle.rules.specs.declared.Verdict.the-variants.{Accepted, Refused}
+use Rattle.rules.specs.declared.Verdict.the-variants.{Accepted}
 use Rattle.rules.specs.Verdict as verdictRules
 
--- An answer that accepts says that there is no fault.
-pub accepted-clear : (xs : List Fault) {v : Verdict} → Answers xs v → v ≡ Accepted → xs ≡ []
-unfolding Answers
+-- A verdict that accepts says that there is no fault.
+pub accepted-clear : (xs : List Refusal) {v : Verdict} → v ≡ verdictOf xs → v ≡ Accepted → xs ≡ []
+unfolding verdictOf
 accepted-clear [] a e = refl
-accepted-clear (refusal r ∷ xs) a e = cc
-accepted-clear (notShown n p ps ∷ xs) {v} a e = let z : v ≡ Refused (BoundsNotShown n (a .0)) = a .2 in cc
+accepted-clear (r ∷ xs) a e = cc
 
 pub record Clear (T : List ℤ) (h : Sections) : Type 0 where
   pub form : formOf T ≡ form.WellFormed h
   pub laid : layout T h ≡ []
   pub walked : blockFaults T h (environmentOf T h) (tree T h) newSet ≡ []
 
-no-refusals : (xs : List Refusal) → refusals xs ≡ [] → xs ≡ []
-no-refusals [] e = refl
-no-refusals (x ∷ xs) e = cc
-
 -- A table without a fault is well formed and laid out, and its walk has no fault.
 pub clear : (T : List ℤ) (h : Sections) → formOf T ≡ form.WellFormed h → faults T ≡ [] → Clear T h
 unfolding verdictRules.faults verdictRules.sectionFaults
 clear T h f e =
     let s : formFaults T (form.WellFormed h) ≡ [] = rw f at e in
-    record { form = f; laid = no-refusals (layout T h) (no-first _ _ s); walked = no-rest _ _ s }
+    record { form = f; laid = no-first _ _ s; walked = no-rest _ _ s }
 
 pub faults-clear : (T : List ℤ) → faults T ≡ [] → (h : Sections) × Clear T h
 unfolding verdictRules.faults

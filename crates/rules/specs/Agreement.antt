@@ -30,15 +30,15 @@ use Rattle.table.specs.Form.{formOf}
 use Rattle.table.specs.FormLaws.{Formed, well-formed}
 use Rattle.table.specs.declared.Form.{Form}
 use Rattle.table.specs.declared.Form.the-variants as form
-use Rattle.blocks.specs.Layout.{layout}
+use Rattle.blocks.specs.Layout.{also, when, layout}
 use Rattle.blocks.specs.Tree.{Block, nil, plain, branch, loop, bundle, unread, tree}
 use Rattle.flow.specs.Shape.{size, ReadsLine, Reads, Formed as Shaped}
 use Rattle.flow.specs.Targets.{targetsFrom}
 use Rattle.flow.specs.ShapeLaws.{table-laid}
 use Rattle.rules.specs.FactRules.{factsAfter, conditionFacts, loopFacts}
 use Rattle.rules.specs.BoundsRules.{isPointer, declared, known, names, consIf, shiftEnd, shiftBounds, effectOn, boundsAfter, effect, endAtMost, knownAtMost, boundsShown, unshownFrom, unshown, accessShown}
-use Rattle.rules.specs.Rules.{Fault, refusal, notShown, also, faultIf, accessAt, boundsAt, bundleFacts, bundleBounds, bundleFaults, blockFacts, blockFaults}
-use Rattle.rules.specs.Verdict.{environmentOf, refusals, sectionFaults, formFaults, faults, Answers, lowestVerdict}
+use Rattle.rules.specs.Rules.{accessAt, boundsAt, bundleFacts, bundleBounds, bundleFaults, blockFacts, blockFaults}
+use Rattle.rules.specs.Verdict.{environmentOf, sectionFaults, formFaults, faults, verdictOf}
 use Rattle.rules.specs.RuleLaws.{no-first, no-rest}
 use Rattle.rules.specs.EnvironmentLaws.{environment-declares}
 use Rattle.rules.specs.Stored.{store}
@@ -51,61 +51,39 @@ use Rattle.rules.specs.declared.Bounds.{Bounds}
 use Rattle.rules.specs.declared.Environment.{Environment}
 use Rattle.rules.specs.declared.Effect.{Effect}
 use Rattle.rules.specs.declared.Effect.the-variants.{Keep, Forget, Shift, Copy, Object}
-use Rattle.rules.specs.declared.Verdict.{Verdict}
+use Rattle.rules.specs.declared.Verdict.the-variants.{Refused}
 
 -- ---- the same first fault
 
-abbrev pub SameFirst : List Fault → List Fault → Type 0
+abbrev pub SameFirst : List Refusal → List Refusal → Type 0
 SameFirst [] [] = Unit {0}
 SameFirst [] (y ∷ ys) = ⊥
 SameFirst (x ∷ xs) [] = ⊥
 SameFirst (x ∷ xs) (y ∷ ys) = x ≡ y
 
-pub same-self : (xs : List Fault) → SameFirst xs xs
+pub same-self : (xs : List Refusal) → SameFirst xs xs
 same-self [] = tt
 same-self (x ∷ xs) = refl
 
-same-of : (xs ys : List Fault) → xs ≡ ys → SameFirst xs ys
+same-of : (xs ys : List Refusal) → xs ≡ ys → SameFirst xs ys
 same-of xs ys e = rw e (same-self ys)
 
-pub same-also : (xs zs ys ws : List Fault) → SameFirst xs zs → (xs ≡ [] → SameFirst ys ws) → SameFirst (also xs ys) (also zs ws)
+pub same-also : (xs zs ys ws : List Refusal) → SameFirst xs zs → (xs ≡ [] → SameFirst ys ws) → SameFirst (also xs ys) (also zs ws)
 unfolding also
 same-also [] [] ys ws s t = t refl
 same-also [] (z ∷ zs) ys ws s t = absurd s
 same-also (x ∷ xs) [] ys ws s t = absurd s
 same-also (x ∷ xs) (z ∷ zs) ys ws s t = s
 
--- The first fault alone is answered.
-first-answers : (x : Fault) (xs ys : List Fault) (v : Verdict) → Answers (x ∷ xs) v → Answers (x ∷ ys) v
-unfolding Answers
-first-answers (refusal r) xs ys v a = a
-first-answers (notShown n p ps) xs ys v a = a
+pub same-verdict : (xs ys : List Refusal) → SameFirst xs ys → verdictOf xs ≡ verdictOf ys
+unfolding verdictOf
+same-verdict [] [] s = refl
+same-verdict [] (y ∷ ys) s = absurd s
+same-verdict (x ∷ xs) [] s = absurd s
+same-verdict (x ∷ xs) (y ∷ ys) s = ap Refused s
 
-pub same-answers : (xs ys : List Fault) (v : Verdict) → SameFirst xs ys → Answers xs v → Answers ys v
-same-answers [] [] v s a = a
-same-answers [] (y ∷ ys) v s a = absurd s
-same-answers (x ∷ xs) [] v s a = absurd s
-same-answers (x ∷ xs) (y ∷ ys) v s a = rw s at (first-answers x xs ys v a)
-
-lowest-first : (x : Fault) (xs ys : List Fault) → lowestVerdict (x ∷ xs) ≡ lowestVerdict (x ∷ ys)
-unfolding lowestVerdict
-lowest-first (refusal r) xs ys = refl
-lowest-first (notShown n p ps) xs ys = refl
-
-pub same-lowest : (xs ys : List Fault) → SameFirst xs ys → lowestVerdict xs ≡ lowestVerdict ys
-same-lowest [] [] s = refl
-same-lowest [] (y ∷ ys) s = absurd s
-same-lowest (x ∷ xs) [] s = absurd s
-same-lowest (x ∷ xs) (y ∷ ys) s = rw s (lowest-first y xs ys)
-
-pub same-sym : (xs ys : List Fault) → SameFirst xs ys → SameFirst ys xs
-same-sym [] [] s = tt
-same-sym [] (y ∷ ys) s = absurd s
-same-sym (x ∷ xs) [] s = absurd s
-same-sym (x ∷ xs) (y ∷ ys) s = sym s
-
-calm-of : (b : Bool) (r : Refusal) → faultIf b r ≡ [] → b ≡ false
-unfolding faultIf
+calm-of : (b : Bool) (r : Refusal) → when b r ≡ [] → b ≡ false
+unfolding when
 calm-of true r e = let o : _≡_ {A = ℕ} 0 1 = cc in absurd (omega arith)
 calm-of false r e = refl
 
@@ -206,8 +184,8 @@ module _ (T : List ℤ) (h : Sections) (w : Formed T h) (q : Decider) (right : D
     access-agrees n K (Store p i k x) l a s = declared-agree n p K l (s .pointer .below) a
     access-agrees n K (Check c) l a s = refl
 
-    contradiction-agrees : (a : ℕ) → SameFirst (faultIf (contradictory f) (Contradiction a)) (faultIf (q .contradictory H) (Contradiction a))
-    contradiction-agrees a = same-of _ _ (ap (λ (b : Bool). faultIf b (Contradiction a)) (contradictory-represented vars q right t))
+    contradiction-agrees : (a : ℕ) → SameFirst (when (contradictory f) (Contradiction a)) (when (q .contradictory H) (Contradiction a))
+    contradiction-agrees a = same-of _ _ (ap (λ (b : Bool). when b (Contradiction a)) (contradictory-represented vars q right t))
 
   -- ---- a bundle, after n of its statements
 
@@ -320,15 +298,11 @@ module _ (T : List ℤ) (h : Sections) (w : Formed T h) (q : Decider) (right : D
 
 -- ---- the whole table
 
-no-refusals : (xs : List Refusal) → refusals xs ≡ [] → xs ≡ []
-no-refusals [] e = refl
-no-refusals (x ∷ xs) e = cc
-
 section-agrees : (T : List ℤ) (h : Sections) (w : Formed T h) (q : Decider) → Decides (variables T h (w .limits)) q → SameFirst (sectionFaults store T h) (sectionFaults (byChains q) T h)
 unfolding sectionFaults
 section-agrees T h w q right =
-    same-also _ _ _ _ (same-self (refusals (layout T h)))
-    (λ z. let l = table-laid T h (no-refusals (layout T h) z) in block-agrees T h w q right 0 (tree T h) (l .formed) (l .reads) (represents-new (variables T h (w .limits))) .faults)
+    same-also _ _ _ _ (same-self (layout T h))
+    (λ z. let l = table-laid T h z in block-agrees T h w q right 0 (tree T h) (l .formed) (l .reads) (represents-new (variables T h (w .limits))) .faults)
 
 pub faults-agree : (T : List ℤ) (q : Decider) → DecidesTable T q → SameFirst (faults store T) (faults (byChains q) T)
 unfolding faults
@@ -337,3 +311,6 @@ faults-agree T q d = go (formOf T) refl
     go : (f : Form) → formOf T ≡ f → SameFirst (formFaults store T f) (formFaults (byChains q) T f)
     go (form.Refused r) e = refl
     go (form.WellFormed h) e = let w = well-formed T h e in section-agrees T h w q (d h (w .limits) e)
+
+pub verdict-agrees : (T : List ℤ) (q : Decider) → DecidesTable T q → verdictOf (faults store T) ≡ verdictOf (faults (byChains q) T)
+verdict-agrees T q d = same-verdict (faults store T) (faults (byChains q) T) (faults-agree T q d)

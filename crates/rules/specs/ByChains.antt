@@ -9,14 +9,14 @@ use lib.IntN.{ℤ}
 use Rattle.sums.specs.Numbers.{bias}
 use Rattle.chains.specs.Facts.{Variables, Node, Shown, EndShown, Contradiction}
 use Rattle.chains.specs.History.{History, new, add, drop, range, shift, join, known, Legal}
+use Rattle.refusals.specs.declared.Refusal.{Refusal}
 use Rattle.sections.specs.Sections.{Limits}
 use Rattle.sections.specs.declared.Sections.{Sections}
 use Rattle.table.specs.Form.{formOf}
 use Rattle.table.specs.declared.Form.the-variants as form
 use Rattle.rules.specs.FactSets.{FactSets}
 use Rattle.rules.specs.BoundsRules.{isPointer}
-use Rattle.rules.specs.Rules.{Fault}
-use Rattle.rules.specs.Verdict.{environmentOf, faults, Answers}
+use Rattle.rules.specs.Verdict.{environmentOf, faults, verdictOf}
 use Rattle.rules.specs.declared.KnownEnd.the-variants.{Known}
 use Rattle.rules.specs.declared.Verdict.{Verdict}
 
@@ -65,9 +65,9 @@ pub record Decided (T : List ℤ) (P : Decider → Type 0) : Type 0 where
   pub by-each : (d : Decider) → DecidesTable T d → P d
 
 -- All faults of a table by the paper's rules, its facts and its chains.
-abbrev pub chainFaults : Decider → List ℤ → List Fault
+abbrev pub chainFaults : Decider → List ℤ → List Refusal
 chainFaults d = faults (byChains d)
 
--- THE VERDICT ON A TABLE: it answers the first fault.
+-- THE VERDICT ON A TABLE: that of the first fault.
 unfoldable pub Judged : List ℤ → Verdict → Type 0
-Judged T v = Decided T (λ d. Answers (chainFaults d T) v)
+Judged T v = Decided T (λ d. v ≡ verdictOf (chainFaults d T))

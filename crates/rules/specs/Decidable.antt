@@ -1,6 +1,6 @@
 -- There is a decider of the paper's sentences about a table, the store's; and the verdict by the store is the one by the paper's chains.
 use Prim.Native.Nat.{ℕ, _+_, _≤_}
-use mathlib.Core.Path.{_≡_, refl}
+use mathlib.Core.Path.{_≡_, refl, sym, _∙_}
 use mathlib.Core.Logic.{_↔_}
 use mathlib.Core.Bool.{Bool, true, false, cond}
 use mathlib.Core.List.{List}
@@ -21,10 +21,10 @@ use Rattle.table.specs.Form.{formOf}
 use Rattle.table.specs.declared.Form.{Form}
 use Rattle.table.specs.declared.Form.the-variants as form
 use Rattle.rules.specs.BoundsRules.{isPointer}
-use Rattle.rules.specs.Verdict.{environmentOf, faults, Answers}
+use Rattle.rules.specs.Verdict.{environmentOf, faults, verdictOf}
 use Rattle.rules.specs.Stored.{store}
 use Rattle.rules.specs.ByChains.{Decider, Decides, variables, DecidesTable, Decided, chainFaults, Judged}
-use Rattle.rules.specs.Agreement.{same-sym, same-answers, faults-agree}
+use Rattle.rules.specs.Agreement.{verdict-agrees}
 use Rattle.rules.specs.declared.Verdict.{Verdict}
 
 -- Two least sums and a constant, by plain addition, whatever the constant.
@@ -76,13 +76,11 @@ decider-decides T h w e = rw e (stored-decides (variables T h w))
 pub decided : (T : List ℤ) (P : Decider → Type 0) → ((d : Decider) → DecidesTable T d → P d) → Decided T P
 decided T P each = record { decider = decider T; decides = decider-decides T; by-each = each }
 
--- The rules over the store say of a verdict what the paper says of it.
-pub judged : (T : List ℤ) (v : Verdict) → Answers (faults store T) v → Judged T v
+-- The rules over the store give the verdict that the paper gives.
+pub judged : (T : List ℤ) (v : Verdict) → v ≡ verdictOf (faults store T) → Judged T v
 unfolding Judged
-judged T v a = decided T (λ d. Answers (chainFaults d T) v) (λ d r. same-answers (faults store T) (chainFaults d T) v (faults-agree T d r) a)
+judged T v e = decided T (λ d. v ≡ verdictOf (chainFaults d T)) (λ d r. e ∙ verdict-agrees T d r)
 
-pub stored-answers : (T : List ℤ) (v : Verdict) → Judged T v → Answers (faults store T) v
+pub stored-verdict : (T : List ℤ) (v : Verdict) → Judged T v → v ≡ verdictOf (faults store T)
 unfolding Judged
-stored-answers T v j =
-    same-answers (chainFaults (decider T) T) (faults store T) v (same-sym (faults store T) (chainFaults (decider T) T) (faults-agree T (decider T) (decider-decides T)))
-    (j .by-each (decider T) (decider-decides T))
+stored-verdict T v j = let d = decider-decides T in j .by-each (decider T) d ∙ sym (verdict-agrees T (decider T) d)

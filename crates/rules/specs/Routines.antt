@@ -20,11 +20,11 @@ use Rattle.blocks.specs.Tree.{simples, parse, tree, targets, assigned}
 use Rattle.rules.specs.BoundsRules.{forgetEnd, forgetBounds, objectBounds}
 use Rattle.rules.specs.Stored.{effect, endAtMost, knownAtMost, boundsShown, unshownFrom, unshown, accessShown, equated, positive, differs, relationFacts, conditionFacts, sumFacts, offsetFacts, factsAfter, droppedEach, loopFacts, bundleFacts, bundleBounds, bundleFaults, blockFacts, blockFaults, sectionFaults, faults, shiftConstant, shiftEnd, shiftBounds, effectOn, boundsAfter}
 use Rattle.rules.specs.FactRules.{among}
-use Rattle.rules.specs.Rules.{also as checker-also, faultIf, accessAt, boundsAt}
-use Rattle.rules.specs.Verdict.{environmentOf, Answers, lowestVerdict}
+use Rattle.rules.specs.Rules.{accessAt, boundsAt}
+use Rattle.rules.specs.Verdict.{environmentOf, verdictOf}
 use Rattle.rules.specs.ByChains.{Decided, chainFaults}
 use Rattle.rules.specs.Decidable.{decided}
-use Rattle.rules.specs.Agreement.{same-lowest, faults-agree}
+use Rattle.rules.specs.Agreement.{verdict-agrees}
 use Rattle.refusals.specs.declared.Refusal.the-variants.{Contradiction, BoundsNotShown, BundleAccess}
 use Rattle.rules.specs.declared.Verdict.{Verdict}
 use Rattle.rules.specs.declared.Verdict.the-variants.{Accepted, Refused}
@@ -80,21 +80,21 @@ routines =
     (Refused (Contradiction 1)) ∷
     []
 
-computed : map (λ (r : Routine). lowestVerdict (faults (r .table))) routines ≡ map (λ (r : Routine). r .verdict) routines
-unfolding routines concatenated leastSum shown endShown newRow newSet loweredRow lowered marked added ownRow reroutedRow reassigned ranged dropped shifted joinedSum joinedRow joined tabulate lengthRight isNumber sectionsOf directoryRight objectRight variableReads statementReads lowestFrom lowestObject lowestVariable lowestStatement itemsForm formOf negation negatedOf inLimits isVariable kindAt integerAt pointerAt namesInteger namesPointer namesIndex fieldsAt unusedFrom literalRead addConstantRead arithmeticRead nullRead addressRead pointerOffsetRead pointerIndexRead loadRead storeRead sameKind besideLiteral conditionRight rightOf offsetOf conditionOf bundleRead checkRead ifRead whileRead kindRead statementAt endWordsAt variableWordsAt endRight endZero endOf integerRecord pointerRecord variableOf variableAt objectAt biased word indexOf isBelow isLiteral literalValue isConstant also when contents bundleLayout blockLayout layout verdict size targetsFrom simples parse tree targets assigned forgetEnd shiftConstant boundsRules.shiftEnd forgetBounds boundsRules.shiftBounds objectBounds boundsRules.effectOn boundsRules.boundsAfter boundsRules.effect boundsRules.endAtMost boundsRules.knownAtMost boundsRules.boundsShown boundsRules.unshownFrom boundsRules.unshown boundsRules.accessShown factRules.equated factRules.positive factRules.differs factRules.relationFacts factRules.conditionFacts factRules.sumFacts factRules.offsetFacts factRules.factsAfter among factRules.droppedEach factRules.loopFacts checker-also faultIf accessAt boundsAt walkRules.bundleFacts walkRules.bundleBounds walkRules.bundleFaults walkRules.blockFacts walkRules.blockFaults environmentOf verdictRules.sectionFaults verdictRules.faults Answers lowestVerdict
+computed : map (λ (r : Routine). verdictOf (faults (r .table))) routines ≡ map (λ (r : Routine). r .verdict) routines
+unfolding routines concatenated leastSum shown endShown newRow newSet loweredRow lowered marked added ownRow reroutedRow reassigned ranged dropped shifted joinedSum joinedRow joined tabulate lengthRight isNumber sectionsOf directoryRight objectRight variableReads statementReads lowestFrom lowestObject lowestVariable lowestStatement itemsForm formOf negation negatedOf inLimits isVariable kindAt integerAt pointerAt namesInteger namesPointer namesIndex fieldsAt unusedFrom literalRead addConstantRead arithmeticRead nullRead addressRead pointerOffsetRead pointerIndexRead loadRead storeRead sameKind besideLiteral conditionRight rightOf offsetOf conditionOf bundleRead checkRead ifRead whileRead kindRead statementAt endWordsAt variableWordsAt endRight endZero endOf integerRecord pointerRecord variableOf variableAt objectAt biased word indexOf isBelow isLiteral literalValue isConstant also when contents bundleLayout blockLayout layout verdict size targetsFrom simples parse tree targets assigned forgetEnd shiftConstant boundsRules.shiftEnd forgetBounds boundsRules.shiftBounds objectBounds boundsRules.effectOn boundsRules.boundsAfter boundsRules.effect boundsRules.endAtMost boundsRules.knownAtMost boundsRules.boundsShown boundsRules.unshownFrom boundsRules.unshown boundsRules.accessShown factRules.equated factRules.positive factRules.differs factRules.relationFacts factRules.conditionFacts factRules.sumFacts factRules.offsetFacts factRules.factsAfter among factRules.droppedEach factRules.loopFacts accessAt boundsAt walkRules.bundleFacts walkRules.bundleBounds walkRules.bundleFaults walkRules.blockFacts walkRules.blockFaults environmentOf verdictRules.sectionFaults verdictRules.faults verdictOf
 computed = refl
 
 -- By the paper's chains, the rules give each routine its verdict.
 abbrev pub Given : List Routine → Type 0
 Given [] = Unit {0}
-Given (r ∷ rs) = Decided (r .table) (λ d. lowestVerdict (chainFaults d (r .table)) ≡ r .verdict) × Given rs
+Given (r ∷ rs) = Decided (r .table) (λ d. verdictOf (chainFaults d (r .table)) ≡ r .verdict) × Given rs
 
-given : (rs : List Routine) → map (λ (r : Routine). lowestVerdict (faults (r .table))) rs ≡ map (λ (r : Routine). r .verdict) rs → Given rs
+given : (rs : List Routine) → map (λ (r : Routine). verdictOf (faults (r .table))) rs ≡ map (λ (r : Routine). r .verdict) rs → Given rs
 given [] e = tt
 given (r ∷ rs) e =
-    let e₁ : lowestVerdict (faults (r .table)) ≡ r .verdict = cc in
-    let e₂ : map (λ (r : Routine). lowestVerdict (faults (r .table))) rs ≡ map (λ (r : Routine). r .verdict) rs = cc in
-    (decided _ _ (λ d c. sym (same-lowest (faults (r .table)) (chainFaults d (r .table)) (faults-agree (r .table) d c)) ∙ e₁), given rs e₂)
+    let e₁ : verdictOf (faults (r .table)) ≡ r .verdict = cc in
+    let e₂ : map (λ (r : Routine). verdictOf (faults (r .table))) rs ≡ map (λ (r : Routine). r .verdict) rs = cc in
+    (decided _ _ (λ d c. sym (verdict-agrees (r .table) d c) ∙ e₁), given rs e₂)
 
 pub right : Given routines
 right = given routines computed

@@ -4,14 +4,16 @@ use mathlib.Core.Bool.{Bool, true, false}
 use mathlib.Core.List.{List, [], _∷_}
 use Prim.Native.Nat.{ℕ}
 use native.Mathlib.Omega.{arith}
-use Rattle.rules.specs.Rules.{Fault, also, accessAt, boundsAt}
+use Rattle.refusals.specs.declared.Refusal.{Refusal}
+use Rattle.blocks.specs.Layout.{also}
+use Rattle.rules.specs.Rules.{accessAt, boundsAt}
 
-pub no-first : (xs ys : List Fault) → also xs ys ≡ [] → xs ≡ []
+pub no-first : (xs ys : List Refusal) → also xs ys ≡ [] → xs ≡ []
 unfolding also
 no-first [] ys e = refl
 no-first (x ∷ xs) ys e = cc
 
-pub no-rest : (xs ys : List Fault) → also xs ys ≡ [] → ys ≡ []
+pub no-rest : (xs ys : List Refusal) → also xs ys ≡ [] → ys ≡ []
 unfolding also
 no-rest [] ys e = e
 no-rest (x ∷ xs) ys e = cc

@@ -4,11 +4,12 @@ use mathlib.Core.Bool.{Bool, true, false}
 use mathlib.Core.List.{List, [], _∷_}
 use lib.IntN.{ℤ}
 use Rattle.refusals.specs.declared.Refusal.{Refusal}
-use Rattle.refusals.specs.declared.Refusal.the-variants.{StatementRecord, Contradiction, BundleAccess}
+use Rattle.refusals.specs.declared.Refusal.the-variants.{StatementRecord, Contradiction, BoundsNotShown, BundleAccess}
 use Rattle.sections.specs.declared.Sections.{Sections}
 use Rattle.conditions.specs.Negation.{negatedOf}
 use Rattle.statements.specs.declared.Simple.{Simple}
 use Rattle.blocks.specs.Tree.{Block, nil, plain, branch, loop, bundle, unread}
+use Rattle.blocks.specs.Layout.{also, when}
 use Rattle.flow.specs.Targets.{targetsFrom}
 use Rattle.rules.specs.FactSets.{FactSets}
 use Rattle.rules.specs.FactRules.{factsAfter, conditionFacts, loopFacts}
@@ -16,36 +17,24 @@ use Rattle.rules.specs.BoundsRules.{isPointer, effect, boundsAfter, unsh
 use Rattle.rules.specs.declared.Bounds.{Bounds}
 use Rattle.rules.specs.declared.Environment.{Environment}
 
--- A rule that is broken: a refusal, or declared bounds that are not shown after a statement, with all pointers whose bounds these are, lowest first.
-pub data Fault : Type 0 where
-  refusal : Refusal → Fault
-  notShown : (statement pointer : ℕ) → List ℕ → Fault
-
--- First these faults, then those.
-unfoldable pub also : List Fault → List Fault → List Fault
-also [] ys = ys
-also (x ∷ xs) ys = x ∷ also xs ys
-
-unfoldable pub faultIf : Bool → Refusal → List Fault
-faultIf true r = refusal r ∷ []
-faultIf false r = []
+-- The faults of a walk are refusals, listed in table order; the first counts.
 
 -- "access in a bundle, bounds not shown"
-unfoldable pub accessAt : Bool → ℕ → List Fault
+unfoldable pub accessAt : Bool → ℕ → List Refusal
 accessAt true a = []
-accessAt false a = refusal (BundleAccess a) ∷ []
+accessAt false a = BundleAccess a ∷ []
 
--- "declared bounds not shown"
-unfoldable pub boundsAt : ℕ → List ℕ → List Fault
+-- "declared bounds not shown", of the pointers that are not shown, lowest first. Point 6: "Refusal 8 gives the lowest-numbered one not shown".
+unfoldable pub boundsAt : ℕ → List ℕ → List Refusal
 boundsAt a [] = []
-boundsAt a (p ∷ ps) = notShown a p ps ∷ []
+boundsAt a (p ∷ ps) = BoundsNotShown a p ∷ []
 
 module _ (S : FactSets) where
   open FactSets S using (Facts, joined, contradictory)
 
   -- "facts contradict before a statement"
-  abbrev pub contradictionAt : Facts → ℕ → List Fault
-  contradictionAt f a = faultIf (contradictory f) (Contradiction a)
+  abbrev pub contradictionAt : Facts → ℕ → List Refusal
+  contradictionAt f a = when (contradictory f) (Contradiction a)
 
   -- ---- the statements of a bundle, from number a on
 
@@ -57,7 +46,7 @@ module _ (S : FactSets) where
   bundleBounds E [] f K = K
   bundleBounds E (s ∷ ss) f K = bundleBounds E ss (factsAfter S s f) (boundsAfter S (effect S E f s) K)
 
-  unfoldable pub bundleFaults : Environment → ℕ → List Simple → Facts → List Bounds → List Fault
+  unfoldable pub bundleFaults : Environment → ℕ → List Simple → Facts → List Bounds → List Refusal
   bundleFaults E a [] f K = []
   bundleFaults E a (s ∷ ss) f K =
       also (contradictionAt f a) (also (accessAt (accessShown S E f K s) a) (bundleFaults E (a + 1) ss (factsAfter S s f) (boundsAfter S (effect S E f s) K)))
@@ -79,7 +68,7 @@ module _ (S : FactSets) where
     blockFacts (unread a) f = f
 
     -- All faults of a block in table order: "statements in table order: 7, 9, the statement, 8".
-    unfoldable pub blockFaults : Block → Facts → List Fault
+    unfoldable pub blockFaults : Block → Facts → List Refusal
     blockFaults nil f = []
     blockFaults (plain a s r) f =
         also (contradictionAt f a) (also (boundsAt a (unshown S E (factsAfter S s f) (boundsAfter S (effect S E f s) (E .declared)))) (blockFaults r (factsAfter S s f)))
@@ -97,4 +86,4 @@ module _ (S : FactSets) where
         (also (bundleFaults E (a + 1) ss f (E .declared))
         (also (boundsAt a (unshown S E (bundleFacts ss f) (bundleBounds E ss f (E .declared))))
         (blockFaults r (bundleFacts ss f))))
-    blockFaults (unread a) f = refusal (StatementRecord a) ∷ []
+    blockFaults (unread a) f = StatementRecord a ∷ []

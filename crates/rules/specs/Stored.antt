@@ -7,6 +7,7 @@ use lib.Dec.{leb, ltb, eqb}
 use Rattle.sums.specs.Numbers.{bias}
 use Rattle.facts.specs.Store as sets
 use Rattle.facts.specs.declared.FactSet.{FactSet}
+use Rattle.refusals.specs.declared.Refusal.{Refusal}
 use Rattle.sections.specs.declared.Sections.{Sections}
 use Rattle.conditions.specs.declared.Condition.{Condition}
 use Rattle.statements.specs.declared.Simple.{Simple}
@@ -17,7 +18,6 @@ use Rattle.rules.specs.FactSets.{FactSets}
 use Rattle.rules.specs.FactRules as facts
 use Rattle.rules.specs.BoundsRules as bounds
 use Rattle.rules.specs.Rules as walk
-use Rattle.rules.specs.Rules.{Fault}
 use Rattle.rules.specs.Verdict as verdict
 use Rattle.rules.specs.declared.KnownEnd.{KnownEnd}
 use Rattle.rules.specs.declared.KnownEnd.the-variants.{Known, Unknown}
@@ -119,7 +119,7 @@ accessShown = bounds.accessShown store
 
 -- ---- the walk
 
-abbrev pub contradictionAt : FactSet → ℕ → List Fault
+abbrev pub contradictionAt : FactSet → ℕ → List Refusal
 contradictionAt = walk.contradictionAt store
 
 abbrev pub bundleFacts : List Simple → FactSet → FactSet
@@ -128,7 +128,7 @@ bundleFacts = walk.bundleFacts store
 abbrev pub bundleBounds : Environment → List Simple → FactSet → List Bounds → List Bounds
 bundleBounds = walk.bundleBounds store
 
-abbrev pub bundleFaults : Environment → ℕ → List Simple → FactSet → List Bounds → List Fault
+abbrev pub bundleFaults : Environment → ℕ → List Simple → FactSet → List Bounds → List Refusal
 bundleFaults = walk.bundleFaults store
 
 abbrev pub sidesJoined : List ℤ → Sections → Environment → FactSet → FactSet → FactSet
@@ -137,16 +137,16 @@ sidesJoined = walk.sidesJoined store
 abbrev pub blockFacts : List ℤ → Sections → Environment → Block → FactSet → FactSet
 blockFacts = walk.blockFacts store
 
-abbrev pub blockFaults : List ℤ → Sections → Environment → Block → FactSet → List Fault
+abbrev pub blockFaults : List ℤ → Sections → Environment → Block → FactSet → List Refusal
 blockFaults = walk.blockFaults store
 
 -- ---- the verdict
 
-abbrev pub sectionFaults : List ℤ → Sections → List Fault
+abbrev pub sectionFaults : List ℤ → Sections → List Refusal
 sectionFaults = verdict.sectionFaults store
 
-abbrev pub formFaults : List ℤ → Form → List Fault
+abbrev pub formFaults : List ℤ → Form → List Refusal
 formFaults = verdict.formFaults store
 
-abbrev pub faults : List ℤ → List Fault
+abbrev pub faults : List ℤ → List Refusal
 faults = verdict.faults store

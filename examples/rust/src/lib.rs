@@ -11,7 +11,7 @@ pub struct Refusal {
     pub number: u32,
     /// Object, variable, statement or pair, by the number; 0 where there is none.
     pub place: u32,
-    /// For refusal 8 a pointer variable whose declared bounds are not shown there.
+    /// For refusal 8 the lowest pointer variable whose declared bounds are not shown there.
     pub pointer: Option<u32>,
 }
 

@@ -1,7 +1,7 @@
 -- The invariant: the pointers below p are shown.
 use borrow.Author.Needs.{needs}
 use Prim.Native.Nat.{_-_}
-use mathlib.Core.Path.{_≡_}
+use mathlib.Core.Path.{_≡_, _∙_}
 use mathlib.Core.Logic.{⊎-elim}
 use Rattle.arrays.specs.TabulateLaws.{length-under}
 use Rattle.rules.specs.BoundsRules.{known}
@@ -27,7 +27,8 @@ check-known-spec =
     Inv-loop μ-loop
     (λ c. passed-none _ _ _)
     (λ c. search needs) (λ c. search needs) (λ c. search needs) (λ c. search needs) (λ c. search needs) (λ c κs. search needs) (λ c κs. search needs)
-    (λ c. passed-missed (c .before .before .before .before .before .before .before .before .loop .inv) _ (c .before .before .before .before .before .before .before .loop-test .taken) (asked-missed _ _ _ _ (search (length-under, needs)) (own-known (c .before .before .before .before .before .before)) (c .before .before .before .same-bounds .ensures) (c .before .bounds-shown .ensures) (c .before .before .if1 .taken) (c .if2 .taken)))
+    (λ c κs. search needs)
+    (λ c. c .not-shown .ensures ∙ passed-missed (c .before .before .before .before .before .before .before .before .before .loop .inv) _ (c .before .before .before .before .before .before .before .before .loop-test .taken) (asked-missed _ _ _ _ (search (length-under, needs)) (own-known (c .before .before .before .before .before .before .before)) (c .before .before .before .before .same-bounds .ensures) (c .before .before .bounds-shown .ensures) (c .before .before .before .if1 .taken) (c .before .if2 .taken)))
     (λ c. search needs) (λ c. search needs)
     (λ c. passed-more (c .before .before .before .before .before .before .loop .inv) (c .before .before .before .before .before .loop-test .taken) (⊎-elim (λ w. asked-shown _ _ _ _ (search (length-under, needs)) (own-known (c .before .before .before .before)) (c .before .same-bounds .ensures) (w .1 .ensures) (w .2 .left)) (λ w. unasked _ _ _ _ (search (length-under, needs)) (own-known (c .before .before .before .before)) (c .before .same-bounds .ensures) (w .left)) (c .if1 .came)))
     (λ c. passed-all (c .before .loop .inv) _ (c .loop-test .left)))
