@@ -176,3 +176,18 @@ fn refusal_8_names_the_lowest_pointer_not_shown() {
     draft.statements = vec![null(0), move_pointer(1, 1, 1)];
     assert_eq!(show_check(&checker::check(&draft.words())), "refused 8 1 1");
 }
+
+#[test]
+fn facts_use_the_value_that_a_literal_means() {
+    let around = bundle(vec![add_constant(N, N, 1), add_constant(N, N, -1)]);
+    let after = |condition| answer_with([0; 8], &[vec![dynamic_check(condition)], around.clone()]);
+    assert_eq!(after(with_literal(N, LESS, -1)), "accepted");
+    assert_eq!(after(with_literal(N, LESS_EQUAL, -1)), "refused 8 1 0");
+    assert_eq!(after(with_literal(N, LESS_EQUAL, -2)), "accepted");
+    assert_eq!(after(with_literal(N, EQUAL, i32::MIN)), "accepted");
+    // k is no literal: it stays negative.
+    let full = vec![dynamic_check(with_literal(N, EQUAL, -1))];
+    let down = bundle(vec![add_constant(N, N, -65_536), add_constant(N, N, 65_536)]);
+    assert_eq!(answer_with([0; 8], &[full.clone(), down]), "accepted");
+    assert_eq!(answer_with([0; 8], &[full, around]), "refused 8 1 0");
+}

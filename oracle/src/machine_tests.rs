@@ -139,3 +139,15 @@ fn integers_wrap() {
     let (_, after) = run_with(vec![add_constant(X, X, -1), operate(X, X, N, 0)], |_| {});
     assert_eq!(after.values[2], 2);
 }
+
+#[test]
+fn literals_are_large_and_compare_unsigned() {
+    let (answer, after) = run_with(
+        vec![set(X, -1), dynamic_check(with_literal(X, GREATER, i32::MIN)), set(X, i32::MIN)],
+        |_| {},
+    );
+    assert_eq!((answer.as_str(), after.values[2]), ("done 3", 2_147_483_648));
+    assert_eq!(run(vec![dynamic_check(with_literal(N, GREATER_EQUAL, -1))]), "stopped 1 0 1");
+    let (_, after) = run_with(if_else(with_literal(X, LESS, -1), vec![set(X, -5)], vec![]), |_| {});
+    assert_eq!(after.values[2], 4_294_967_291);
+}

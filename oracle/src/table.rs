@@ -104,8 +104,9 @@ fn constant(word: i32) -> Option<i32> {
     (-MAX_CONSTANT..=MAX_CONSTANT).contains(&word).then_some(word)
 }
 
-fn literal(word: i32) -> Option<u32> {
-    u32::try_from(word).ok()
+/// Point 1: "A negative word as an integer literal .. means that word plus 4,294,967,296."
+fn literal(word: i32) -> u32 {
+    word as u32
 }
 
 /// How many fields each kind has; kind 0 is none.
@@ -179,7 +180,7 @@ impl Names {
         let relation = *RELATIONS.get(relation as u32 as usize)?;
         let right = match form {
             0 if in_mask(same_kind, right) => Right::Variable(right as Var),
-            1 if right == 0 || right > 0 && same_kind == self.integers => Right::Literal(right as u32),
+            1 if right == 0 || same_kind == self.integers => Right::Literal(literal(right)),
             _ => return None,
         };
         let left = in_mask(same_kind, left).then_some(left as Var)?;
@@ -198,7 +199,7 @@ impl Names {
             return None;
         }
         Some(match kind {
-            1 => Statement::Literal { x: self.integer(a)?, literal: literal(b)? },
+            1 => Statement::Literal { x: self.integer(a)?, literal: literal(b) },
             2 => {
                 let (x, y) = (self.integer(a)?, self.integer(b)?);
                 self.compared |= 1 << y;

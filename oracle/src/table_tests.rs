@@ -92,6 +92,7 @@ fn an_end_needs_a_pointer_and_a_k_in_range() {
 fn statement_fields_by_kind() {
     for right in [
         set(1, i32::MAX),
+        set(1, i32::MIN),
         add_constant(1, 2, -65_536),
         operate(2, 1, 1, 2),
         null(0),
@@ -101,6 +102,7 @@ fn statement_fields_by_kind() {
         load(2, 0, -1, 5),
         store(0, 1, -5, 2),
         dynamic_check(with_literal(0, EQUAL, 0)),
+        dynamic_check(with_literal(1, EQUAL, -1)),
         dynamic_check(with_variable(0, NOT_EQUAL, 0)),
     ] {
         assert_eq!(refused_statements(vec![right]), None, "{right:?}");
@@ -109,8 +111,8 @@ fn statement_fields_by_kind() {
         assert_eq!(refused_statements(vec![some_check(), stray]), Some((5, 1)), "{stray:?}");
     }
     for wrong in [
-        set(1, -1),
         set(0, 1),
+        set(0, -1),
         set(3, 1),
         set(16, 1),
         add_constant(1, 2, 65_537),
@@ -123,7 +125,7 @@ fn statement_fields_by_kind() {
         load(2, 1, -1, 0),
         store(0, -1, 0, 0),
         dynamic_check(with_literal(0, EQUAL, 1)),
-        dynamic_check(with_literal(1, EQUAL, -1)),
+        dynamic_check(with_literal(0, EQUAL, -1)),
         dynamic_check(with_variable(0, LESS, 1)),
         dynamic_check(with_variable(1, LESS, 0)),
         dynamic_check(with_literal(1, 6, 0)),
@@ -143,12 +145,30 @@ fn statement_fields_by_kind() {
 }
 
 #[test]
+fn a_negative_word_is_a_large_literal() {
+    let condition = with_literal(1, LESS, i32::MIN);
+    let all = [vec![set(1, -1), dynamic_check(condition)], if_else(condition, vec![], vec![])].concat();
+    let routine = decode(&draft([all, while_loop(condition, vec![])].concat()).words()).unwrap();
+    assert_eq!(routine.statements[0], Statement::Literal { x: 1, literal: 4_294_967_295 });
+    let meant = Condition { left: 1, relation: Relation::Less, right: Right::Literal(2_147_483_648) };
+    for statement in &routine.statements[1..] {
+        let (Statement::Check { condition }
+        | Statement::If { condition, .. }
+        | Statement::While { condition, .. }) = *statement
+        else {
+            panic!("{statement:?}")
+        };
+        assert_eq!(condition, meant);
+    }
+}
+
+#[test]
 fn a_bundle_count_is_cause_6_and_comes_after_all_of_5() {
     for count in [-1, 0, 17, i32::MIN, i32::MAX] {
         let head = [13, count, 0, 0, 0, 0, 0];
         let all = [vec![head], vec![some_check(); 20]].concat();
         assert_eq!(refused_statements(all.clone()), Some((6, 0)), "{count}");
-        let with_5 = [all, vec![set(1, -1)]].concat();
+        let with_5 = [all, vec![set(0, 1)]].concat();
         assert_eq!(refused_statements(with_5), Some((5, 21)));
     }
     assert_eq!(refused_statements(bundle(vec![some_check(); 16])), None);

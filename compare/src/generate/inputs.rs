@@ -115,6 +115,8 @@ fn integer(rng: &mut Rng) -> u32 {
     match rng.below(12) {
         0 => rng.pick(&[u32::MAX, u32::MAX - 1, 1 << 31, 65_536, 65_535]),
         1 | 2 => 0,
+        // About what the large literals are.
+        3 => u32::MAX - rng.pick(&[9, 65_540]) + rng.below(9) as u32,
         _ => rng.below(9) as u32,
     }
 }

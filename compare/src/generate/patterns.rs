@@ -121,7 +121,7 @@ impl Writer<'_> {
             return None;
         }
         let (p, v) = (self.pointer()?, self.integer()?);
-        let high = self.rng.pick(&[0, 5, i32::MAX]);
+        let high = self.rng.pick(&[0, 5, i32::MAX, -1, -1, -2]);
         let mut sides = [
             vec![dynamic_check(with_literal(p, NOT_EQUAL, 0))],
             vec![dynamic_check(with_literal(v, LESS_EQUAL, high))],

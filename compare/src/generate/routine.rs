@@ -80,11 +80,14 @@ impl Writer<'_> {
         self.rng.pick_any(&self.layout.free).or_else(|| self.rng.pick_any(&self.layout.integers))
     }
 
+    /// A literal word: small ones, lengths of objects, and large ones, whose words are negative.
     fn literal(&mut self) -> i32 {
         match self.rng.below(16) {
-            0 => i32::MAX - self.rng.range(0, 1),
+            0 => self.rng.pick(&[i32::MAX - 1, i32::MAX, i32::MIN, i32::MIN + 1]),
             1 => self.rng.pick(&[65_535, 65_536, 65_537, 1_000_000]),
             2 | 3 => self.rng.pick_any(&self.layout.objects).unwrap_or(5) + self.rng.range(-1, 1),
+            4 => self.rng.pick(&[-65_535, -65_536, -65_537, -65_538]),
+            5 | 6 => self.rng.range(-9, -1),
             _ => self.rng.range(0, 9),
         }
     }
@@ -101,7 +104,8 @@ impl Writer<'_> {
             let right = if is_pointer { self.pointer() } else { self.integer() };
             return with_variable(left, relation, right.unwrap_or(left));
         }
-        let literal = if is_pointer { 0 } else { self.literal() };
+        // Beside a pointer only 0 is right.
+        let literal = if is_pointer && self.rng.chance(98) { 0 } else { self.literal() };
         with_literal(left, relation, literal)
     }
 
@@ -307,6 +311,13 @@ impl Writer<'_> {
             _ => chunk.extend(bundle(vec![add_constant(z, z, back), add_constant(z, z, -back)])),
         }
         chunk.push(dynamic_check(with_literal(z, self.rng.range(0, 5), k)));
+        if self.rng.chance(40) {
+            // The same at the upper end of the range, which only a large literal can name.
+            let guard = with_literal(z, self.rng.pick(&[LESS, LESS_EQUAL]), self.rng.range(-1, 1) - k);
+            let up = vec![dynamic_check(guard), add_constant(z, z, k)];
+            let asked = dynamic_check(with_literal(z, self.rng.range(0, 5), -self.rng.range(1, 2)));
+            chunk = [up, vec![asked], chunk].concat();
+        }
         Some(chunk)
     }
 

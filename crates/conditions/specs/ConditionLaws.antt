@@ -10,7 +10,7 @@ use borrow.Author.Tests.{eqb-true}
 use native.Mathlib.Omega.{arith}
 use Rattle.sums.specs.Numbers.{bias, zeroVar}
 use Rattle.words.specs.declared.Fields.{Fields}
-use Rattle.fields.specs.Fields.{plain, literalValue, isZero, isBelow, isLiteral}
+use Rattle.fields.specs.Fields.{plain, literalValue, isZero, isBelow}
 use Rattle.sections.specs.Sections.{namesInteger, namesPointer}
 use Rattle.sections.specs.SectionsLaws.{both}
 use Rattle.sections.specs.NameLaws.{either, below-holds, literal-small, integer-named, pointer-named}
@@ -34,12 +34,11 @@ module _ (table : List ℤ) (h : Sections) where
   unfolding besideLiteral literalValue
   literal-sides v w e =
       ⊎-elim
-      (λ (i : (namesInteger table h v && isLiteral w) ≡ true).
-      let p = both (namesInteger table h v) (isLiteral w) i in literal (integer-named table h v (p .0)) refl (literal-small w (p .1)))
+      (λ (i : namesInteger table h v ≡ true). literal (integer-named table h v i) refl (literal-small w))
       (λ (i : (namesPointer table h v && isZero w) ≡ true).
       let p = both (namesPointer table h v) (isZero w) i in
       let z : w ≡ bias = eqb-true w bias (p .1) in null (pointer-named table h v (p .0)) refl (omega arith))
-      (either (namesInteger table h v && isLiteral w) (namesPointer table h v && isZero w) e)
+      (either (namesInteger table h v) (namesPointer table h v && isZero w) e)
 
   pub condition-typed : (f : Fields) → conditionRight table h f ≡ true → ConditionTyped table h (conditionOf f)
   unfolding conditionRight conditionOf rightOf offsetOf

@@ -6,7 +6,7 @@ use lib.IntN.{ℤ}
 use lib.Dec.{eqb}
 use Rattle.sums.specs.Numbers.{bias, zeroVar}
 use Rattle.words.specs.declared.Fields.{Fields}
-use Rattle.fields.specs.Fields.{plain, literalValue, isZero, isBelow, isLiteral}
+use Rattle.fields.specs.Fields.{plain, literalValue, isZero, isBelow}
 use Rattle.sections.specs.Sections.{namesInteger, namesPointer}
 use Rattle.sections.specs.declared.Sections.{Sections}
 use Rattle.conditions.specs.declared.Condition.{Condition}
@@ -16,9 +16,9 @@ module _ (table : List ℤ) (h : Sections) where
   unfoldable pub sameKind : ℕ → ℕ → Bool
   sameKind v w = namesInteger table h v && namesInteger table h w || namesPointer table h v && namesPointer table h w
 
-  -- "form 1 a literal as in kind 1 (only 0 beside a pointer)"
+  -- "form 1 a literal as in kind 1 (only 0 beside a pointer)": beside an integer any word is one.
   unfoldable pub besideLiteral : ℕ → ℕ → Bool
-  besideLiteral v w = namesInteger table h v && isLiteral w || namesPointer table h v && isZero w
+  besideLiteral v w = namesInteger table h v || namesPointer table h v && isZero w
 
   -- "Relations: 0 <, 1 >=, 2 >, 3 <=, 4 ==, 5 !="; "A condition is left variable, relation, form, right": the first four fields.
   unfoldable pub conditionRight : Fields → Bool

@@ -1,6 +1,5 @@
 // A condition, which stands in the first four fields of a record: left variable, relation, form, right; and its negation.
 use fields::is_below;
-use fields::is_literal;
 use fields::is_zero;
 use fields::literal_value;
 use fields::plain;
@@ -33,8 +32,7 @@ fn same_kind(table: &[i32], sections: Sections, v: u64, w: u64) -> bool
 fn beside_literal(table: &[i32], sections: Sections, v: u64, w: u64) -> bool
     ensures { λ r. ⌜ r ≡ besideLiteral (now (table .entry)) sections v w ⌝ }
 {
-    (names_integer(table, sections, v) & is_literal(w))
-        | (names_pointer(table, sections, v) & is_zero(w))
+    names_integer(table, sections, v) | (names_pointer(table, sections, v) & is_zero(w))
 }
 
 // A condition stands in the first four fields: left, relation, form, right.

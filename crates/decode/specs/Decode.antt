@@ -1,13 +1,13 @@
 -- What a statement record is decoded as with no test of its fields: the reader of a run, whose table has been checked.
 use Prim.Native.Nat.{ℕ, _+_, _-_, _*_, _%_, _^_}
-use mathlib.Core.Bool.{Bool, true, false, cond}
+use mathlib.Core.Bool.{cond}
 use mathlib.Core.List.{List}
 use lib.IntN.{ℤ}
 use lib.Dec.{eqb}
 use Rattle.sums.specs.Numbers.{bias, zeroVar}
 use Rattle.words.specs.Words.{fieldsAt}
 use Rattle.words.specs.declared.Fields.{Fields}
-use Rattle.fields.specs.Fields.{plain, isZero}
+use Rattle.fields.specs.Fields.{plain, literalValue, isZero}
 use Rattle.sections.specs.declared.Sections.{Sections}
 use Rattle.conditions.specs.declared.Condition.{Condition}
 use Rattle.statements.specs.declared.Simple.the-variants.{Literal, AddConstant, Arithmetic, Null, Address, PointerOffset, PointerIndex, Load, Store, Check}
@@ -27,7 +27,7 @@ unfoldable pub decodedRight : ℕ → ℕ → ℕ
 decodedRight form w = cond (isZero form) (unsigned w) zeroVar
 
 unfoldable pub decodedOffset : ℕ → ℕ → ℕ
-decodedOffset form w = cond (isZero form) 0 (unsigned w)
+decodedOffset form w = cond (isZero form) 0 (literalValue w)
 
 unfoldable pub decodedCondition : Fields → Condition
 decodedCondition f =
@@ -37,7 +37,7 @@ decodedCondition f =
 -- a run does not look at, are as they are read.
 unfoldable pub decodedAs : ℕ → Fields → Statement
 decodedAs kind f =
-    cond (eqb kind 1) (Plain (Literal (unsigned (f .first)) (unsigned (f .second))))
+    cond (eqb kind 1) (Plain (Literal (unsigned (f .first)) (literalValue (f .second))))
     (cond (eqb kind 2) (Plain (AddConstant (unsigned (f .first)) (unsigned (f .second)) (f .third)))
     (cond (eqb kind 3) (Plain (Arithmetic (unsigned (f .first)) (unsigned (f .second)) (unsigned (f .third)) (unsigned (f .fourth))))
     (cond (eqb kind 4) (Plain (Null (unsigned (f .first))))

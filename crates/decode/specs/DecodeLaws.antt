@@ -11,7 +11,7 @@ use native.Mathlib.Omega.{arith}
 use Rattle.sums.specs.Numbers.{bias, zeroVar}
 use Rattle.words.specs.Words.{fieldsAt}
 use Rattle.words.specs.declared.Fields.{Fields}
-use Rattle.fields.specs.Fields.{plain, indexOf, literalLimit, literalValue, isZero, isCount, isBelow, isLiteral, isConstant}
+use Rattle.fields.specs.Fields.{plain, indexOf, literalValue, isZero, isCount, isBelow, isConstant}
 use Rattle.sections.specs.Sections.{inLimits, statementStart, integerAt, pointerAt, namesInteger, namesPointer, namesIndex}
 use Rattle.sections.specs.SectionsLaws.{both}
 use Rattle.sections.specs.NameLaws.{either, integer-limits, pointer-limits}
@@ -34,14 +34,6 @@ below-unsigned n w l e =
     let a : bias ≤ w = leb-true bias w (p .0) in
     let b : plain w < n = ltb-true (plain w) n (p .1) in
     omega arith
-
-literal-unsigned : (w : ℕ) → isLiteral w ≡ true → unsigned w ≡ literalValue w
-unfolding isLiteral literalValue
-literal-unsigned w e = below-unsigned literalLimit w (omega arith) e
-
-zero-unsigned : (w : ℕ) → isZero w ≡ true → unsigned w ≡ literalValue w
-unfolding literalValue
-zero-unsigned w e = let a : w ≡ bias = eqb-true w bias e in omega arith
 
 condition-same : (a b c d x y z u : ℕ) → a ≡ x → b ≡ y → c ≡ z → d ≡ u →
     _≡_ {A = Condition} (record { left = a; relation = b; right = c; offset = d }) (record { left = x; relation = y; right = z; offset = u })
@@ -89,15 +81,12 @@ module _ (table : List ℤ) (h : Sections) where
       let p = both (namesPointer table h v) (namesPointer table h w) i in (pointer-unsigned v (p .0), pointer-unsigned w (p .1)))
       (either (namesInteger table h v && namesInteger table h w) (namesPointer table h v && namesPointer table h w) e)
 
-  beside-unsigned : (v w : ℕ) → besideLiteral table h v w ≡ true → (unsigned v ≡ plain v) × (unsigned w ≡ literalValue w)
+  beside-unsigned : (v w : ℕ) → besideLiteral table h v w ≡ true → unsigned v ≡ plain v
   unfolding besideLiteral
   beside-unsigned v w e =
-      ⊎-elim
-      (λ (i : (namesInteger table h v && isLiteral w) ≡ true).
-      let p = both (namesInteger table h v) (isLiteral w) i in (integer-unsigned v (p .0), literal-unsigned w (p .1)))
-      (λ (i : (namesPointer table h v && isZero w) ≡ true).
-      let p = both (namesPointer table h v) (isZero w) i in (pointer-unsigned v (p .0), zero-unsigned w (p .1)))
-      (either (namesInteger table h v && isLiteral w) (namesPointer table h v && isZero w) e)
+      ⊎-elim (λ (i : namesInteger table h v ≡ true). integer-unsigned v i)
+      (λ (i : (namesPointer table h v && isZero w) ≡ true). pointer-unsigned v (both (namesPointer table h v) (isZero w) i .0))
+      (either (namesInteger table h v) (namesPointer table h v && isZero w) e)
 
   -- The left variable, and the right side by its form.
   sides-unsigned : (form v w : ℕ) → (isZero form && sameKind table h v w || eqb form (bias + 1) && besideLiteral table h v w) ≡ true →
@@ -107,12 +96,12 @@ module _ (table : List ℤ) (h : Sections) where
     where
       go : (z l : Bool) → (z ≡ true → form ≡ bias) → (l ≡ true → form ≡ bias + 1) →
           ((z && sameKind table h v w) ≡ true) ⊎ ((l && besideLiteral table h v w) ≡ true) →
-          (unsigned v ≡ plain v) × (cond z (unsigned w) zeroVar ≡ cond z (plain w) zeroVar) × (cond z 0 (unsigned w) ≡ cond z 0 (literalValue w))
+          (unsigned v ≡ plain v) × (cond z (unsigned w) zeroVar ≡ cond z (plain w) zeroVar) × (cond z 0 (literalValue w) ≡ cond z 0 (literalValue w))
       go true l p q (inl i) = let s = same-unsigned v w i in (s .0, s .1, refl)
       go true true p q (inr i) = let a = p refl in let b = q refl in absurd (omega arith)
       go true false p q (inr i) = absurd (false≢true i)
       go false l p q (inl i) = absurd (false≢true i)
-      go false true p q (inr i) = let s = beside-unsigned v w i in (s .0, refl, s .1)
+      go false true p q (inr i) = (beside-unsigned v w i, refl, refl)
       go false false p q (inr i) = absurd (false≢true i)
 
   condition-unsigned : (f : Fields) → conditionRight table h f ≡ true → decodedCondition f ≡ conditionOf f
@@ -199,7 +188,7 @@ module _ (table : List ℤ) (h : Sections) (f : Fields) (t : Statement) where
   kind-decoded : kindRead table h f ≡ Read t → decodedAs kind f ≡ t
   unfolding kindRead decodedAs literalRead addConstantRead arithmeticRead nullRead addressRead pointerOffsetRead pointerIndexRead loadRead storeRead checkRead ifRead whileRead bundleRead
   kind-decoded =
-      either-record (eqb kind 1) _ _ _ _ t (read-as (integer (f .first) && isLiteral (f .second) && unusedFrom 3 f) _ _ t (λ e. let p = both₃ (integer (f .first)) (isLiteral (f .second)) (unusedFrom 3 f) e in rw (integer-unsigned table h (f .first) (p .0), literal-unsigned (f .second) (p .1))))
+      either-record (eqb kind 1) _ _ _ _ t (read-as (integer (f .first) && unusedFrom 3 f) _ _ t (λ e. let p = both (integer (f .first)) (unusedFrom 3 f) e in rw (integer-unsigned table h (f .first) (p .0))))
       (either-record (eqb kind 2) _ _ _ _ t (read-as (integer (f .first) && integer (f .second) && isConstant (f .third) && unusedFrom 4 f) _ _ t (λ e. let p = both₄ (integer (f .first)) (integer (f .second)) (isConstant (f .third)) (unusedFrom 4 f) e in rw (integer-unsigned table h (f .first) (p .0), integer-unsigned table h (f .second) (p .1))))
       (either-record (eqb kind 3) _ _ _ _ t (read-as (integer (f .first) && integer (f .second) && integer (f .third) && isBelow 3 (f .fourth) && unusedFrom 5 f) _ _ t (λ e. let p = both₅ (integer (f .first)) (integer (f .second)) (integer (f .third)) (isBelow 3 (f .fourth)) (unusedFrom 5 f) e in rw (integer-unsigned table h (f .first) (p .0), integer-unsigned table h (f .second) (p .1), integer-unsigned table h (f .third) (p .2), below-unsigned 3 (f .fourth) (omega arith) (p .3))))
       (either-record (eqb kind 4) _ _ _ _ t (read-as (pointer (f .first) && unusedFrom 2 f) _ _ t (λ e. let p = both (pointer (f .first)) (unusedFrom 2 f) e in rw (pointer-unsigned table h (f .first) (p .0))))

@@ -2,6 +2,7 @@
 // nothing, and for a field that the readers let pass is the same number.
 use conditions::Condition;
 use fields::is_zero;
+use fields::literal_value;
 use fields::plain;
 use sections::Sections;
 use statements::Simple;
@@ -46,7 +47,7 @@ fn decode_offset(form: u64, w: u64) -> u64
     if is_zero(form) {
         return 0;
     }
-    unsigned(w) as u64
+    literal_value(w)
 }
 
 fn decode_condition(f: Fields) -> Condition
@@ -68,7 +69,7 @@ fn decode_kind(f: Fields) -> Statement
     match kind {
         1 => Statement::Plain(Simple::Literal {
             target: unsigned(f.first),
-            value: unsigned(f.second) as u64,
+            value: literal_value(f.second),
         }),
         2 => Statement::Plain(Simple::AddConstant {
             target: unsigned(f.first),

@@ -1,5 +1,5 @@
 -- What the word of one field is, and what it may be.
-use Prim.Native.Nat.{ℕ, _+_, _-_, _^_}
+use Prim.Native.Nat.{ℕ, _+_, _-_, _%_, _^_}
 use mathlib.Core.Bool.{Bool, true, false, _&&_, cond}
 use lib.Dec.{leb, ltb, eqb}
 use Rattle.sums.specs.Numbers.{bias, zeroVar}
@@ -24,16 +24,13 @@ isBelow n w = leb bias w && ltb (plain w) n
 abbrev pub isCount : ℕ → Bool
 isCount w = isBelow (2 ^ 31) w
 
--- "literal, 0 to 2,147,483,647": one more than the greatest value of a literal.
+-- One more than the greatest value of a literal.
 abbrev pub literalLimit : ℕ
-literalLimit = 2 ^ 31
+literalLimit = 2 ^ 32
 
-unfoldable pub isLiteral : ℕ → Bool
-isLiteral w = isBelow literalLimit w
-
--- The value of a literal's word.
+-- Point 1: "A negative word as an integer literal means that word plus 4,294,967,296": the word modulo 4,294,967,296, of which the bias is a multiple.
 unfoldable pub literalValue : ℕ → ℕ
-literalValue w = w - bias
+literalValue w = w % literalLimit
 
 -- "Each k, in ends too, is -65,536 to 65,536."
 unfoldable pub isConstant : ℕ → Bool

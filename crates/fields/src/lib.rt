@@ -1,7 +1,7 @@
 // One field of a record: the number, index or literal that its word is, and what it may be.
 use sums::BIAS;
 ghost use mathlib.Core.Path.{_≡_};
-ghost use Rattle.fields.specs.Fields.{plain, indexOf, literalValue, isZero, isBelow, isLiteral, isConstant};
+ghost use Rattle.fields.specs.Fields.{plain, indexOf, literalValue, isZero, isBelow, isConstant};
 
 // The words that are 0 or more: 0 to 2^31 - 1.
 pub const COUNTS: usize = 2147483648;
@@ -26,10 +26,11 @@ pub fn index_of(w: u64) -> usize
     plain(w)
 }
 
+// A negative word as a literal is that word plus 2^32.
 pub fn literal_value(w: u64) -> u64
     ensures { λ r. ⌜ r ≡ literalValue w ⌝ }
 {
-    plain(w) as u64
+    w % 4294967296
 }
 
 pub fn is_zero(w: u64) -> bool
@@ -43,12 +44,6 @@ pub fn is_below(n: usize, w: u64) -> bool
     ensures { λ r. ⌜ r ≡ isBelow n w ⌝ }
 {
     (BIAS <= w) & (plain(w) < n)
-}
-
-pub fn is_literal(w: u64) -> bool
-    ensures { λ r. ⌜ r ≡ isLiteral w ⌝ }
-{
-    is_below(COUNTS, w)
 }
 
 pub fn is_constant(w: u64) -> bool

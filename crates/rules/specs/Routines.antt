@@ -6,7 +6,7 @@ use Rattle.sums.specs.Sums.{concatenated}
 use Rattle.facts.specs.Store.{leastSum, shown, endShown, newRow, newSet, loweredRow, lowered, marked, added, ownRow, reroutedRow, reassigned, ranged, dropped, shifted, joinedSum, joinedRow, joined}
 use Rattle.arrays.specs.Tabulate.{tabulate}
 use Rattle.words.specs.Words.{fieldsAt, biased, word}
-use Rattle.fields.specs.Fields.{indexOf, isBelow, isLiteral, literalValue, isConstant}
+use Rattle.fields.specs.Fields.{indexOf, isBelow, literalValue, isConstant}
 use Rattle.sections.specs.Sections.{inLimits, isVariable, kindAt, integerAt, pointerAt, namesInteger, namesPointer, namesIndex}
 use Rattle.conditions.specs.Negation.{negation, negatedOf}
 use Rattle.conditions.specs.Conditions.{sameKind, besideLiteral, conditionRight, rightOf, offsetOf, conditionOf}
@@ -81,7 +81,7 @@ routines =
     []
 
 computed : map (λ (r : Routine). verdictOf (faults (r .table))) routines ≡ map (λ (r : Routine). r .verdict) routines
-unfolding routines concatenated leastSum shown endShown newRow newSet loweredRow lowered marked added ownRow reroutedRow reassigned ranged dropped shifted joinedSum joinedRow joined tabulate lengthRight isNumber sectionsOf directoryRight objectRight variableReads statementReads lowestFrom lowestObject lowestVariable lowestStatement itemsForm formOf negation negatedOf inLimits isVariable kindAt integerAt pointerAt namesInteger namesPointer namesIndex fieldsAt unusedFrom literalRead addConstantRead arithmeticRead nullRead addressRead pointerOffsetRead pointerIndexRead loadRead storeRead sameKind besideLiteral conditionRight rightOf offsetOf conditionOf bundleRead checkRead ifRead whileRead kindRead statementAt endWordsAt variableWordsAt endRight endZero endOf integerRecord pointerRecord variableOf variableAt objectAt biased word indexOf isBelow isLiteral literalValue isConstant also when contents bundleLayout blockLayout layout verdict size targetsFrom simples parse tree targets assigned forgetEnd shiftConstant boundsRules.shiftEnd forgetBounds boundsRules.shiftBounds objectBounds boundsRules.effectOn boundsRules.boundsAfter boundsRules.effect boundsRules.endAtMost boundsRules.knownAtMost boundsRules.boundsShown boundsRules.unshownFrom boundsRules.unshown boundsRules.accessShown factRules.equated factRules.positive factRules.differs factRules.relationFacts factRules.conditionFacts factRules.sumFacts factRules.offsetFacts factRules.factsAfter among factRules.droppedEach factRules.loopFacts accessAt boundsAt walkRules.bundleFacts walkRules.bundleBounds walkRules.bundleFaults walkRules.blockFacts walkRules.blockFaults environmentOf verdictRules.sectionFaults verdictRules.faults verdictOf
+unfolding routines concatenated leastSum shown endShown newRow newSet loweredRow lowered marked added ownRow reroutedRow reassigned ranged dropped shifted joinedSum joinedRow joined tabulate lengthRight isNumber sectionsOf directoryRight objectRight variableReads statementReads lowestFrom lowestObject lowestVariable lowestStatement itemsForm formOf negation negatedOf inLimits isVariable kindAt integerAt pointerAt namesInteger namesPointer namesIndex fieldsAt unusedFrom literalRead addConstantRead arithmeticRead nullRead addressRead pointerOffsetRead pointerIndexRead loadRead storeRead sameKind besideLiteral conditionRight rightOf offsetOf conditionOf bundleRead checkRead ifRead whileRead kindRead statementAt endWordsAt variableWordsAt endRight endZero endOf integerRecord pointerRecord variableOf variableAt objectAt biased word indexOf isBelow literalValue isConstant also when contents bundleLayout blockLayout layout verdict size targetsFrom simples parse tree targets assigned forgetEnd shiftConstant boundsRules.shiftEnd forgetBounds boundsRules.shiftBounds objectBounds boundsRules.effectOn boundsRules.boundsAfter boundsRules.effect boundsRules.endAtMost boundsRules.knownAtMost boundsRules.boundsShown boundsRules.unshownFrom boundsRules.unshown boundsRules.accessShown factRules.equated factRules.positive factRules.differs factRules.relationFacts factRules.conditionFacts factRules.sumFacts factRules.offsetFacts factRules.factsAfter among factRules.droppedEach factRules.loopFacts accessAt boundsAt walkRules.bundleFacts walkRules.bundleBounds walkRules.bundleFaults walkRules.blockFacts walkRules.blockFaults environmentOf verdictRules.sectionFaults verdictRules.faults verdictOf
 computed = refl
 
 -- By the paper's chains, the rules give each routine its verdict.

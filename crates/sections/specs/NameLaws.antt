@@ -1,5 +1,5 @@
 -- What the tests of a field say.
-use Prim.Native.Nat.{ℕ, _+_, _-_, _<_}
+use Prim.Native.Nat.{ℕ, _+_, _-_, _≤_, _<_}
 use mathlib.Core.Path.{_≡_, refl}
 use mathlib.Core.Bool.{Bool, true, false, _||_, cond}
 use mathlib.Core.List.{List}
@@ -10,7 +10,7 @@ use borrow.Author.Tests.{leb-true, ltb-true, eqb-true}
 use native.Mathlib.Omega.{arith}
 use Rattle.sums.specs.Numbers.{bias, zeroVar}
 use Rattle.words.specs.Words.{word}
-use Rattle.fields.specs.Fields.{plain, indexOf, literalLimit, literalValue, isBelow, isLiteral, isConstant}
+use Rattle.fields.specs.Fields.{plain, indexOf, literalLimit, literalValue, isBelow, isConstant}
 use Rattle.sections.specs.Sections.{isVariable, variableStart, kindAt, integerAt, pointerAt, namesInteger, namesPointer, namesIndex, Limits}
 use Rattle.sections.specs.SectionsLaws.{both, variable-limits}
 use Rattle.sections.specs.Typed.{IsInteger, IsPointer, IsIndex, missing, given, IsSmall}
@@ -24,9 +24,18 @@ pub below-holds : (n w : ℕ) → isBelow n w ≡ true → plain w < n
 unfolding isBelow
 below-holds n w e = ltb-true (plain w) n (both (leb bias w) (ltb (plain w) n) e .1)
 
-pub literal-small : (w : ℕ) → isLiteral w ≡ true → literalValue w < literalLimit
-unfolding isLiteral literalValue
-literal-small w e = below-holds literalLimit w e
+pub literal-small : (w : ℕ) → literalValue w < literalLimit
+unfolding literalValue
+literal-small w = omega arith
+
+-- A word of 0 or more is its own value; a negative one, -m, means -m + 4,294,967,296.
+pub literal-plain : (n : ℕ) → n < literalLimit → literalValue (bias + n) ≡ n
+unfolding literalValue
+literal-plain n l = omega arith
+
+pub literal-negative : (m : ℕ) → 1 ≤ m → m ≤ literalLimit → literalValue (bias - m) + m ≡ literalLimit
+unfolding literalValue
+literal-negative m l h = omega arith
 
 pub constant-small : (w : ℕ) → isConstant w ≡ true → IsSmall w
 unfolding isConstant

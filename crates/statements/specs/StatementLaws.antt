@@ -9,7 +9,7 @@ use borrow.Author.Tests.{ltb-true}
 use native.Mathlib.Omega.{arith}
 use Rattle.words.specs.Words.{fieldsAt}
 use Rattle.words.specs.declared.Fields.{Fields}
-use Rattle.fields.specs.Fields.{plain, isCount, isBelow, isLiteral, isConstant}
+use Rattle.fields.specs.Fields.{plain, isCount, isBelow, isConstant}
 use Rattle.sections.specs.Sections.{inLimits, statementStart, namesInteger, namesPointer, namesIndex, Limits}
 use Rattle.sections.specs.SectionsLaws.{both, statement-limits}
 use Rattle.sections.specs.NameLaws.{below-holds, literal-small, constant-small, integer-named, pointer-named, index-named}
@@ -59,8 +59,8 @@ module _ (table : List ℤ) (h : Sections) where
     literal-typed : TypedRead (literalRead table h f)
     unfolding literalRead
     literal-typed =
-        typed₃ (names-integer (f .first)) (isLiteral (f .second)) (unusedFrom 3 f) _
-        (λ a b c. record { target = integer-named table h (f .first) a; value = literal-small (f .second) b })
+        typed₂ (names-integer (f .first)) (unusedFrom 3 f) _
+        (λ a b. record { target = integer-named table h (f .first) a; value = literal-small (f .second) })
 
     add-constant-typed : TypedRead (addConstantRead table h f)
     unfolding addConstantRead

@@ -6,7 +6,7 @@ use lib.IntN.{ℤ}
 use lib.Dec.{ltb, eqb}
 use Rattle.words.specs.Words.{fieldsAt}
 use Rattle.words.specs.declared.Fields.{Fields}
-use Rattle.fields.specs.Fields.{plain, indexOf, literalValue, isZero, isBelow, isCount, isLiteral, isConstant}
+use Rattle.fields.specs.Fields.{plain, indexOf, literalValue, isZero, isBelow, isCount, isConstant}
 use Rattle.sections.specs.Sections.{inLimits, statementStart, namesInteger, namesPointer, namesIndex}
 use Rattle.sections.specs.declared.Sections.{Sections}
 use Rattle.conditions.specs.Conditions.{conditionRight, conditionOf}
@@ -26,10 +26,10 @@ unusedFrom n f =
     (ltb 2 n || isZero (f .second)) && (ltb 3 n || isZero (f .third)) && (ltb 4 n || isZero (f .fourth)) && (ltb 5 n || isZero (f .fifth)) && (ltb 6 n || isZero (f .sixth))
 
 module _ (table : List ℤ) (h : Sections) where
-  -- "1. x := literal"
+  -- "1. x := literal": any word is one.
   unfoldable pub literalRead : Fields → StatementRead
   literalRead f =
-      readIf (namesInteger table h (f .first) && isLiteral (f .second) && unusedFrom 3 f) (Plain (Literal (plain (f .first)) (literalValue (f .second))))
+      readIf (namesInteger table h (f .first) && unusedFrom 3 f) (Plain (Literal (plain (f .first)) (literalValue (f .second))))
 
   -- "2. x := y + k"
   unfoldable pub addConstantRead : Fields → StatementRead

@@ -8,7 +8,6 @@ use fields::COUNTS;
 use fields::index_of;
 use fields::is_below;
 use fields::is_constant;
-use fields::is_literal;
 use fields::is_zero;
 use fields::literal_value;
 use fields::plain;
@@ -35,7 +34,7 @@ fn unused_from(n: usize, f: Fields) -> bool
 fn read_literal(table: &[i32], sections: Sections, f: Fields) -> StatementRead
     ensures { λ r. ⌜ r ≡ literalRead (now (table .entry)) sections f ⌝ }
 {
-    if names_integer(table, sections, f.first) & is_literal(f.second) & unused_from(3, f) {
+    if names_integer(table, sections, f.first) & unused_from(3, f) {
         return StatementRead::Read(Statement::Plain(Simple::Literal {
             target: plain(f.first),
             value: literal_value(f.second),

@@ -10,5 +10,4 @@ beside-literal-spec =
     (λ c κs. tt)
     (λ c κs. tt)
     (λ c κs. tt)
-    (λ c κs. tt)
-    (λ c. simp (c .is-zero .ensures, c .before .names-pointer .ensures, c .before .before .is-literal .ensures, c .before .before .before .names-integer .ensures)))
+    (λ c. simp (c .is-zero .ensures, c .before .names-pointer .ensures, c .before .before .names-integer .ensures)))

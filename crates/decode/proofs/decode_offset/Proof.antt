@@ -12,4 +12,4 @@ decode-offset-spec =
     (λ c κs. tt)
     (λ c. simp (sym (c .before .is-zero .ensures) ∙ c .if1 .taken))
     (λ c κs. tt)
-    (λ c. simp (c .unsigned .ensures, sym (c .before .before .is-zero .ensures) ∙ c .before .if1 .left)))
+    (λ c. simp (c .literal-value .ensures, sym (c .before .before .is-zero .ensures) ∙ c .before .if1 .left)))
