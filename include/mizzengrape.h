@@ -17,7 +17,7 @@ extern "C" {
 #endif
 
 /* Checks a routine table. The answer's words, the others stay:
-     answer[0]  0 accepted, else the number of the refusal, 1 to 9
+     answer[0]  0 accepted, else the number of the refusal, 1 to 9 (7 is unused)
      answer[1]  0 accepted, else the refusal's place: for 1 and 2 it is 0, for 3 the object, for 4 the variable, for 5 to 9 the statement
      answer[2]  for refusal 8 the lowest pointer variable whose declared bounds are not shown there, else 0
    True; or false, and nothing written, where answer_len is below 3. */

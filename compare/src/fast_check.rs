@@ -11,7 +11,7 @@ pub fn check(words: &[i32]) -> CheckAnswer {
     check_routine(&decode(words)?)
 }
 
-/// Causes 7 to 9 of a decoded routine.
+/// Causes 8 and 9 of a decoded routine.
 pub fn check_routine(routine: &Routine) -> CheckAnswer {
     let (mut walker, mut facts) = Walker::new(routine);
     walker.block(0, routine.statements.len(), &mut facts)
@@ -139,9 +139,6 @@ impl<'a> Walker<'a> {
     fn block(&mut self, start: usize, end: usize, facts: &mut FastFacts) -> CheckAnswer {
         let mut s = start;
         while s < end {
-            if facts.contradictory {
-                return Err(Refusal::at(7, s));
-            }
             let statement = self.routine.statements[s];
             match statement {
                 Statement::If { condition, then_count, else_count } => {
@@ -195,11 +192,8 @@ impl<'a> Walker<'a> {
         }
     }
 
-    /// 7, then 9, then the statement.
+    /// 9, then the statement.
     fn bundled(&mut self, s: usize, facts: &mut FastFacts) -> CheckAnswer {
-        if facts.contradictory {
-            return Err(Refusal::at(7, s));
-        }
         let statement = self.routine.statements[s];
         if let Statement::Load { p, .. } | Statement::Store { p, .. } = statement {
             if self.changed & 1 << p != 0 && !self.shown(usize::from(p), facts) {
@@ -213,8 +207,7 @@ impl<'a> Walker<'a> {
     fn shown(&self, p: usize, facts: &FastFacts) -> bool {
         let (known, declared) = (&self.known[p], &self.declared[p]);
         below(facts, &known.lower, &declared.lower) && below(facts, &declared.upper, &known.upper)
-            || facts.sum(self.row(p as Var), usize::from(self.zero)) <= 0
-            || facts.contradictory
+            || facts.shows(self.row(p as Var), usize::from(self.zero), 0)
     }
 
     /// All declared bounds must be shown and become the known ones.
@@ -323,7 +316,7 @@ impl<'a> Walker<'a> {
                     self.copy_bounds(p, q);
                     facts.copy(row, self.row(q), by);
                 }
-                if k != 0 && !facts.contradictory {
+                if k != 0 {
                     facts.add(usize::from(self.zero), row, -1);
                 }
             }
@@ -342,7 +335,7 @@ impl<'a> Walker<'a> {
 
     fn add_constant(&mut self, x: Var, y: Var, k: i64, facts: &mut FastFacts) {
         let (row, zero) = (self.row(y), usize::from(self.zero));
-        let in_range = facts.sum(zero, row) <= k && facts.sum(row, zero) <= GREATEST - k;
+        let in_range = facts.shows(zero, row, k) && facts.shows(row, zero, GREATEST - k);
         match (in_range, x == y) {
             (true, true) => {
                 self.invert(x, k);

@@ -58,10 +58,15 @@ impl FastFacts {
         self.sums[x][y]
     }
 
-    /// x <= y + k.
+    #[inline(always)]
+    pub fn shows(&self, x: usize, y: usize, k: i64) -> bool {
+        self.contradictory || self.sums[x][y] <= k
+    }
+
+    /// x <= y + k. Once the facts contradict, the sums mean nothing and stay so small that they never overflow.
     #[inline]
     pub fn add(&mut self, x: usize, y: usize, k: i64) {
-        if k >= self.sums[x][y] {
+        if k >= self.sums[x][y] || self.contradictory {
             return;
         }
         if self.sums[y][x] + k < 0 {
@@ -157,9 +162,7 @@ impl FastFacts {
             Relation::GreaterEqual => self.add(y, x, -k),
             Relation::Equal => {
                 self.add(x, y, k);
-                if !self.contradictory {
-                    self.add(y, x, -k);
-                }
+                self.add(y, x, -k);
             }
             Relation::NotEqual => {
                 if y == self.zero && k == 0 {

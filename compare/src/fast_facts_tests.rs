@@ -43,7 +43,8 @@ fn the_fast_store_agrees_with_the_plain_one() {
         let mut fast = FastFacts::new(pointers, kinds.len() - pointers);
         let mut saved = (plain.clone(), fast);
         for _ in 0..25 {
-            if plain.contradictory() {
+            // Go on with contradictory facts now and then.
+            if plain.contradictory() && rng.chance(70) {
                 (plain, fast) = saved.clone();
             }
             let x = rng.below(kinds.len());

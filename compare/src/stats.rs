@@ -20,6 +20,9 @@ pub struct Stats {
     /// an if, a while, a bundle.
     statements: u64,
     heads: [u64; 3],
+    /// Accepted tables with a statement whose facts contradict, and with such facts at the end.
+    dead: u64,
+    dead_at_end: u64,
     steps: u64,
     /// Runs that are begun, and how many of them have an unreachable object, cells of no object beside cell 0.
     begun: u64,
@@ -60,7 +63,7 @@ pub fn gather(seed: u64, count: u64) -> Stats {
         }
         if let (Ok(()), Ok(routine)) = (&checked, decode(&case.table)) {
             stats.accepted += 1;
-            stats.count_statements(&routine.statements);
+            stats.count_statements(&routine);
             if !matches!(answer, RunAnswer::Refused(_)) {
                 stats.count_out_of_reach(&routine, &case.input);
             }
@@ -77,8 +80,13 @@ pub fn gather(seed: u64, count: u64) -> Stats {
 }
 
 impl Stats {
-    fn count_statements(&mut self, statements: &[Statement]) {
+    fn count_statements(&mut self, routine: &Routine) {
+        let statements = &routine.statements;
         self.statements += statements.len() as u64;
+        let mut dead = false;
+        let end = checker::walk(routine, &mut |_, facts| dead |= facts.contradictory());
+        self.dead += u64::from(dead);
+        self.dead_at_end += u64::from(end.is_ok_and(|facts| facts.contradictory()));
         let has = |test: fn(&Statement) -> bool| u64::from(statements.iter().any(test));
         self.heads[0] += has(|s| matches!(s, Statement::If { .. }));
         self.heads[1] += has(|s| matches!(s, Statement::While { .. }));
@@ -105,7 +113,12 @@ impl std::fmt::Display for Stats {
         )?;
         let mean = self.statements as f64 / self.accepted.max(1) as f64;
         let [ifs, whiles, bundles] = self.heads;
-        writeln!(f, "accepted tables: {mean:.1} statements each, {ifs} with an if, {whiles} with a while, {bundles} with a bundle")?;
+        writeln!(
+            f,
+            "accepted tables: {mean:.1} statements each, {ifs} with an if, {whiles} with a while, \
+             {bundles} with a bundle, {} with dead code, {} dead at the end",
+            self.dead, self.dead_at_end
+        )?;
         let share = |part: u64| 100.0 * part as f64 / self.begun.max(1) as f64;
         writeln!(
             f,
@@ -156,7 +169,7 @@ mod tests {
         assert!(stats.differences.is_empty(), "{:?}", stats.differences);
         let percent = 100 * stats.accepted / stats.cases;
         assert!((30..=60).contains(&percent), "{percent} percent accepted");
-        for cause in 1..=9 {
+        for cause in (1..=6).chain(8..=9) {
             assert!(stats.check.contains_key(&format!("refused {cause:2}")), "cause {cause}");
         }
         for class in ["done", "spent", "refused 10", "refused 11", "refused 12"] {
@@ -166,6 +179,7 @@ mod tests {
             assert!(stats.run.contains_key(&format!("stopped {check}")), "check {check}");
         }
         assert!(!stats.run.contains_key("STUCK"));
+        assert!(5 * stats.dead > stats.accepted, "{stats}");
         let [objects, cells] = stats.out_of_reach;
         assert!(3 * objects > stats.begun && 2 * cells > stats.begun, "{stats}");
     }

@@ -1,4 +1,4 @@
-//! The checker in its plain form: bounds in force, the walk, refusals 7 to 9.
+//! The checker in its plain form: bounds in force, the walk, refusals 8 and 9.
 
 use crate::answer::{CheckAnswer, Refusal};
 use crate::facts::{node_or_zero, Facts, Node, GREATEST, ZERO};
@@ -9,11 +9,18 @@ pub fn check(words: &[i32]) -> CheckAnswer {
     check_routine(&decode(words)?)
 }
 
-/// Causes 7 to 9 of a decoded routine.
+/// Causes 8 and 9 of a decoded routine.
 pub fn check_routine(routine: &Routine) -> CheckAnswer {
-    let walker = Walker { routine };
+    walk(routine, &mut |_, _| {}).map(|_| ())
+}
+
+/// The facts before each statement, as the walk comes to it.
+type Seen<'a> = &'a mut dyn FnMut(usize, &Facts);
+
+/// The walk over a decoded routine; gives the facts after it.
+pub fn walk(routine: &Routine, seen: Seen) -> Result<Facts, Refusal> {
     let facts = Facts::new(&routine.kinds);
-    walker.block(0, routine.statements.len(), facts).map(|_| ())
+    Walker { routine, seen }.block(0, routine.statements.len(), facts)
 }
 
 /// A known end; its constant has no limit. `None` is an unknown end.
@@ -87,6 +94,7 @@ fn end_below(facts: &Facts, a: KnownEnd, b: KnownEnd) -> bool {
 
 struct Walker<'a> {
     routine: &'a Routine,
+    seen: Seen<'a>,
 }
 
 impl Walker<'_> {
@@ -113,12 +121,10 @@ impl Walker<'_> {
 
     /// Walks a block in table order. Outside bundles the known bounds before
     /// each statement are the declared ones.
-    fn block(&self, start: usize, end: usize, mut facts: Facts) -> Result<Facts, Refusal> {
+    fn block(&mut self, start: usize, end: usize, mut facts: Facts) -> Result<Facts, Refusal> {
         let mut s = start;
         while s < end {
-            if facts.contradictory() {
-                return Err(Refusal::at(7, s));
-            }
+            (self.seen)(s, &facts);
             let statement = self.routine.statements[s];
             let next = s + statement.size();
             let mut known = Known::declared(self.routine);
@@ -145,18 +151,16 @@ impl Walker<'_> {
         Ok(facts)
     }
 
-    /// The statements of a bundle: 7, then 9, then the statement itself.
+    /// The statements of a bundle: 9, then the statement itself.
     fn bundle(
-        &self,
+        &mut self,
         start: usize,
         end: usize,
         mut facts: Facts,
         known: &mut Known,
     ) -> Result<Facts, Refusal> {
         for s in start..end {
-            if facts.contradictory() {
-                return Err(Refusal::at(7, s));
-            }
+            (self.seen)(s, &facts);
             let statement = self.routine.statements[s];
             if let Statement::Load { p, .. } | Statement::Store { p, .. } = statement {
                 if !self.shown(p, &facts, known) {

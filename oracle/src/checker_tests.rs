@@ -1,5 +1,5 @@
+use super::*;
 use crate::answer::show_check;
-use crate::checker;
 use crate::draft::*;
 
 const P: i32 = 0;
@@ -13,12 +13,15 @@ fn answer(statements: &[Vec<Record>]) -> String {
 }
 
 fn answer_with(q: [i32; 8], statements: &[Vec<Record>]) -> String {
-    let draft = Draft {
+    show_check(&check(&draft(q, statements).words()))
+}
+
+fn draft(q: [i32; 8], statements: &[Vec<Record>]) -> Draft {
+    Draft {
         objects: vec![10],
         variables: vec![[1, 0, P, -1, 0, P, N, 0], [0; 8], [0; 8], q],
         statements: statements.concat(),
-    };
-    show_check(&checker::check(&draft.words()))
+    }
 }
 
 /// q with bounds of its own: count(x).
@@ -52,7 +55,7 @@ fn the_routines_of_the_paper() {
         ("i", vec![bundle(vec![address(P, 0), set(N, 11)])], "refused 8 0 0"),
         ("j", vec![vec![null(P), set(N, 5)]], "accepted"),
         ("k", vec![loop_k], "accepted"),
-        ("l", vec![check_l], "refused 7 1"),
+        ("l", vec![check_l], "accepted"),
     ] {
         assert_eq!(answer_with([0; 8], &routine), right, "{name}");
     }
@@ -102,34 +105,80 @@ fn known_ends_may_have_any_constant() {
     assert_eq!(answer_with([0; 8], &[bundle(far)]), "accepted");
 }
 
+/// Whether the facts contradict after a routine that is accepted.
+fn dead_after(statements: &[Vec<Record>]) -> bool {
+    let routine = decode(&draft([1, 0, P, -1, 0, P, N, 0], statements).words()).unwrap();
+    walk(&routine, &mut |_, _| {}).unwrap().contradictory()
+}
+
 #[test]
 fn kind_6_contradicts_where_no_run_could_go_on() {
-    let up = vec![null(P), move_pointer(P, P, -1), set(X, 1)];
-    assert_eq!(answer_with([0; 8], &[up]), "refused 7 2");
-    // p >= 1 also where p = q: then p <= 0 contradicts.
-    let down = bundle(vec![move_pointer(P, P, -1), dynamic_check(with_literal(P, LESS_EQUAL, 0)), set(X, 1)]);
-    assert_eq!(answer_with([0; 8], &[down]), "refused 7 3");
+    assert!(dead_after(&[vec![null(Q), move_pointer(Q, Q, -1)]]));
+    assert!(!dead_after(&[vec![null(Q), move_pointer(Q, Q, 0)]]));
+    // q >= 1 also where it is shifted: then q = 0 contradicts.
+    assert!(dead_after(&[vec![move_pointer(Q, Q, -1), dynamic_check(with_literal(Q, EQUAL, 0))]]));
 }
 
 #[test]
 fn accesses_and_arithmetic_say_nothing_of_their_source() {
-    let null_after = |statement| vec![statement, dynamic_check(with_literal(P, EQUAL, 0)), set(X, 1)];
-    assert_eq!(answer(&[null_after(load(X, P, -1, 0))]), "accepted");
+    let null_after = |statement| [vec![statement, dynamic_check(with_literal(P, EQUAL, 0))]];
+    assert!(!dead_after(&null_after(load(X, P, -1, 0))));
     // q = p + 1 and q >= 1 leave p = 0 possible.
-    assert_eq!(answer(&[null_after(move_pointer(Q, P, 1))]), "accepted");
+    assert!(!dead_after(&null_after(move_pointer(Q, P, 1))));
+}
+
+/// Refused wherever facts do not contradict: p loses its bounds, is read through, and its count rises.
+fn only_dead() -> Vec<Record> {
+    let inner = vec![index_pointer(P, P, X), load(X, P, -1, 0), null(P), move_pointer(P, P, -1)];
+    [bundle(inner), vec![add_constant(N, N, 1), operate(N, N, X, 2), set(N, 7), address(P, 0)]].concat()
 }
 
 #[test]
-fn cause_7_is_asked_before_statements_only() {
-    assert_eq!(answer(&[vec![impossible()]]), "accepted");
-    assert_eq!(answer(&[bundle(vec![impossible()])]), "accepted");
-    assert_eq!(answer(&[bundle(vec![impossible(), set(X, 1)])]), "refused 7 2");
-    let empty = if_else(with_variable(X, LESS, X), vec![], vec![]);
-    assert_eq!(answer(&[empty, vec![set(X, 1)]]), "accepted");
-    let dead = if_else(with_literal(X, GREATER_EQUAL, 0), vec![], vec![set(X, 1)]);
-    assert_eq!(answer(&[dead]), "refused 7 1");
-    let endless = while_loop(with_literal(X, GREATER_EQUAL, 0), vec![]);
-    assert_eq!(answer(&[endless, vec![set(X, 1)]]), "refused 7 1");
+fn what_cannot_be_reached_is_walked_with_every_fact_shown() {
+    assert_eq!(answer(&[only_dead()]), "refused 9 2");
+    assert_eq!(answer(&[vec![impossible()], only_dead()]), "accepted");
+    let inside = bundle(vec![impossible(), move_pointer(P, P, 1), load(X, P, -1, 0)]);
+    assert_eq!(answer(&[inside, only_dead()]), "accepted");
+    let (never, always) = (with_variable(X, LESS, X), with_literal(X, GREATER_EQUAL, 0));
+    for nested in [
+        if_else(never, only_dead(), vec![]),
+        if_else(always, vec![], only_dead()),
+        while_loop(never, only_dead()),
+        while_loop(never, if_else(with_literal(N, EQUAL, 0), only_dead(), only_dead())),
+        if_else(never, while_loop(with_literal(N, EQUAL, 0), only_dead()), vec![]),
+    ] {
+        assert_eq!(answer(&[nested.clone(), vec![null(Q)]]), "accepted");
+        // The block alone is dead, not what follows it.
+        let place = nested.len() + 2;
+        assert_eq!(answer(&[nested, only_dead()]), format!("refused 9 {place}"));
+    }
+    assert_eq!(answer(&[while_loop(always, vec![]), only_dead()]), "accepted");
+    // What is wrong by causes 5 and 6 is so in dead code too.
+    assert_eq!(answer(&[vec![impossible(), set(P, 1)]]), "refused 5 1");
+}
+
+#[test]
+fn a_contradiction_is_kept_by_drops_and_by_a_join_of_two() {
+    let one = |statements| Draft { variables: vec![[0; 8]], statements, ..Draft::default() }.words();
+    let check = dynamic_check(with_variable(0, LESS, 0));
+    let dropped = decode(&one(vec![check, operate(0, 0, 0, 0), set(0, 5), add_constant(0, 0, -9)])).unwrap();
+    assert!(walk(&dropped, &mut |_, _| {}).unwrap().contradictory());
+    let empty = || if_else(with_variable(X, LESS, X), vec![], vec![]);
+    assert!(!dead_after(&[empty()]) && dead_after(&[vec![impossible()], empty()]));
+    let both = if_else(with_literal(X, EQUAL, 3), vec![impossible()], vec![impossible(), set(X, 1)]);
+    assert!(dead_after(&[both]));
+    let body = || while_loop(with_literal(X, EQUAL, 3), vec![set(X, 1)]);
+    assert!(!dead_after(&[body()]) && dead_after(&[vec![impossible()], body()]));
+}
+
+#[test]
+fn the_facts_before_each_statement_are_seen_in_table_order() {
+    let all =
+        [bundle(vec![impossible(), set(X, 1)]), if_else([X, EQUAL, 1, 3], vec![null(Q)], vec![])].concat();
+    let routine = decode(&draft(OWN, &[all]).words()).unwrap();
+    let mut seen = Vec::new();
+    walk(&routine, &mut |s, facts| seen.push((s, facts.contradictory()))).unwrap();
+    assert_eq!(seen, [(0, false), (1, false), (2, true), (3, true), (4, true)]);
 }
 
 #[test]
@@ -171,10 +220,10 @@ fn refusal_8_names_the_lowest_pointer_not_shown() {
     // Not the one that is assigned: p has its bounds at q here.
     let mut draft = Draft { variables: vec![[1, 0, 1, -1, 0, 1, -1, 1]; 2], ..Draft::default() };
     draft.statements = vec![move_pointer(1, 1, 1)];
-    assert_eq!(show_check(&checker::check(&draft.words())), "refused 8 0 0");
+    assert_eq!(show_check(&check(&draft.words())), "refused 8 0 0");
     // A pointer that is null is shown, and so passed over.
     draft.statements = vec![null(0), move_pointer(1, 1, 1)];
-    assert_eq!(show_check(&checker::check(&draft.words())), "refused 8 1 1");
+    assert_eq!(show_check(&check(&draft.words())), "refused 8 1 1");
 }
 
 #[test]

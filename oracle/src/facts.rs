@@ -71,8 +71,12 @@ impl Facts {
         self
     }
 
-    /// Keeps each shown fact without x; of x only what is always known stays.
+    /// Keeps each shown fact without x; of x only what is always known stays. Point 11: "Dropping keeps a
+    /// contradiction, also where no other variable is left", and so do all other changes.
     pub fn drop(mut self, x: Node) -> Facts {
+        if self.contradictory {
+            return self;
+        }
         for y in self.nodes() {
             self.sums[x][y] = GREATEST + self.sums[ZERO][y];
             self.sums[y][x] = self.sums[y][ZERO];
@@ -84,6 +88,9 @@ impl Facts {
     /// x := x + k: every shown fact of x moves with it, the always-known ones
     /// too; then the new x is known to be in range.
     pub fn shift(mut self, x: Node, k: i64) -> Facts {
+        if self.contradictory {
+            return self;
+        }
         for y in self.nodes().filter(|&y| y != x) {
             self.sums[x][y] += k;
             self.sums[y][x] -= k;

@@ -9,8 +9,9 @@ mod routine;
 use crate::fast_check;
 use crate::rng::Rng;
 use oracle::answer::RunInput;
-use oracle::draft::{self, Draft};
-use oracle::table::MAX_STATEMENTS;
+use oracle::checker;
+use oracle::draft::Draft;
+use oracle::table::{decode, MAX_STATEMENTS};
 use routine::Writer;
 
 /// A table and what a run of it is lent.
@@ -37,7 +38,7 @@ fn table(rng: &mut Rng) -> Vec<i32> {
     };
     draft.statements = Writer { rng, layout: &layout }.body(size as usize, 0);
     draft.statements.truncate(MAX_STATEMENTS);
-    if rng.chance(64) {
+    if rng.chance(55) {
         repair(rng, &mut draft);
     }
     let fault = rng.below(100);
@@ -53,16 +54,14 @@ fn table(rng: &mut Rng) -> Vec<i32> {
     words
 }
 
-/// Takes out statements that are refused by 6 to 9 until none is; now and then
+/// Takes out statements that are refused by 6, 8 or 9 until none is; now and then
 /// leaves the rest as it is.
 fn repair(rng: &mut Rng, draft: &mut Draft) {
     while let Err(refusal) = fast_check::check(&draft.words()) {
         if refusal.cause < 6 || draft.statements.is_empty() || rng.chance(4) {
             return;
         }
-        // A contradiction goes away with the statement before, most often.
-        let back = usize::from(refusal.cause == 7 && rng.chance(60));
-        draft.remove((refusal.place as usize).saturating_sub(back), false);
+        draft.remove(refusal.place as usize, false);
     }
 }
 
@@ -74,29 +73,28 @@ pub fn accepted(seed: u64, statements: usize, variables: usize) -> Vec<i32> {
     let layout = layout::with_size(&mut rng, &mut draft, variables);
     while draft.statements.len() < statements {
         // A part that is accepted after what is there, and leaves no
-        // contradiction behind: a last statement after it is accepted too.
+        // contradiction behind: a table that is dead from there on measures nothing.
         let mut longer = draft.clone();
         let room = statements - draft.statements.len();
         longer.statements.extend(Writer { rng: &mut rng, layout: &layout }.body(room.min(4), 0));
         repair(&mut rng, &mut longer);
         let length = longer.statements.len();
-        if length > statements || length <= draft.statements.len() {
-            continue;
-        }
-        let mut probe = longer.clone();
-        probe.statements.push(draft::dynamic_check(draft::with_variable(0, 4, 0)));
-        let ends_well = length == statements || fast_check::check(&probe.words()).is_ok();
-        if ends_well && fast_check::check(&longer.words()).is_ok() {
+        if length <= statements && length > draft.statements.len() && ends_alive(&longer) {
             draft = longer;
         }
     }
     draft.words()
 }
 
+/// Whether a table is accepted and its facts do not contradict at its end.
+fn ends_alive(draft: &Draft) -> bool {
+    let routine = decode(&draft.words());
+    routine.is_ok_and(|r| checker::walk(&r, &mut |_, _| {}).is_ok_and(|facts| !facts.contradictory()))
+}
+
 #[cfg(test)]
 mod tests {
     use super::*;
-    use oracle::table::decode;
 
     #[test]
     fn a_case_is_always_the_same() {

@@ -2,7 +2,7 @@
 
 use super::*;
 
-fn negation(relation: i32) -> i32 {
+pub(super) fn negation(relation: i32) -> i32 {
     oracle::syntax::negation(relation as usize) as i32
 }
 
@@ -49,9 +49,10 @@ impl Writer<'_> {
         bundle(inner)
     }
 
-    /// A dead block where the condition is known to be false: refusal 7 tells.
+    /// A block that is dead where the condition is known to be false: only there is all that it holds accepted.
     pub(super) fn sensor(&mut self, condition: Cond) -> Chunk {
-        if_else(condition, vec![self.harmless()], Chunk::new())
+        let then = if self.rng.chance(70) { self.unshown() } else { vec![self.harmless()] };
+        if_else(condition, then, Chunk::new())
     }
 
     /// A fact, then an assignment to what it names, then the question whether it is known.
@@ -226,20 +227,11 @@ impl Writer<'_> {
         Some(bundle(inner))
     }
 
-    /// Contradictions, deep nesting, and other things that come seldom.
+    /// Deep nesting, and other things that come seldom.
     pub(super) fn rare(&mut self, depth: usize) -> Option<Chunk> {
-        match self.rng.below(5) {
-            0 => {
-                let condition = self.condition();
-                let [a, relation, form, b] = condition;
-                let negated = [a, negation(relation), form, b];
-                Some(vec![dynamic_check(condition), dynamic_check(negated)])
-            }
-            1 => {
-                let x = self.integer()?;
-                Some(vec![dynamic_check(with_variable(x, LESS, x))])
-            }
-            2 => Some(if_else(self.condition(), Chunk::new(), Chunk::new())),
+        match self.rng.below(4) {
+            0 => Some(if_else(self.condition(), Chunk::new(), Chunk::new())),
+            1 if self.rng.chance(20) => Some(vec![dynamic_check(self.never()?)]),
             _ if depth == 0 => {
                 let deepest = MAX_DEPTH + 1 - self.rng.pick(&[0, 1, 1, 1, 2, 3]);
                 Some(self.nest(deepest))

@@ -24,7 +24,7 @@ impl Writer<'_> {
     }
 
     fn chunk(&mut self, depth: usize) -> Chunk {
-        let chunk = match self.rng.below(39) {
+        let chunk = match self.rng.below(41) {
             0 | 1 => Some(vec![self.simple()]),
             2 | 3 => Some(vec![self.check()]),
             4 => self.lower_count(),
@@ -46,7 +46,8 @@ impl Writer<'_> {
             28 => self.there_and_back(),
             29..=31 => self.forgotten(depth),
             32 => self.wrapping(),
-            33 if depth < MAX_DEPTH => {
+            33 | 34 => self.dead_code(depth),
+            35 if depth < MAX_DEPTH => {
                 let condition = self.condition();
                 Some(self.sensor(condition))
             }
@@ -346,5 +347,7 @@ impl Writer<'_> {
     }
 }
 
+#[path = "dead.rs"]
+mod dead;
 #[path = "patterns.rs"]
 mod patterns;

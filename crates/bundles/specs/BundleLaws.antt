@@ -5,10 +5,9 @@ use mathlib.Core.Bool.{Bool, true, false}
 use mathlib.Core.List.{List, [], _∷_}
 use native.Mathlib.Omega.{arith}
 use lib.IntN.{ℤ}
-use Rattle.facts.specs.Store.{contradictory}
 use Rattle.facts.specs.declared.FactSet.{FactSet}
 use Rattle.refusals.specs.declared.Refusal.{Refusal}
-use Rattle.refusals.specs.declared.Refusal.the-variants.{Contradiction, BundleAccess}
+use Rattle.refusals.specs.declared.Refusal.the-variants.{BundleAccess}
 use Rattle.sections.specs.declared.Sections.{Sections}
 use Rattle.statements.specs.declared.Simple.{Simple}
 use Rattle.statements.specs.declared.Statement.{Statement}
@@ -16,7 +15,7 @@ use Rattle.statements.specs.declared.Statement.the-variants.{Plain, If, While, 
 use Rattle.statements.specs.declared.StatementRead.the-variants.{Read, Unread}
 use Rattle.statements.specs.Statements.{statementAt}
 use Rattle.blocks.specs.Tree.{simples, simplesFrom}
-use Rattle.blocks.specs.Layout.{also, when}
+use Rattle.blocks.specs.Layout.{also}
 use Rattle.flow.specs.FlowLaws.{simples-some}
 use Rattle.rules.specs.Stored.{factsAfter, effect, unshown, accessShown, bundleFacts, bundleBounds, bundleFaults, boundsAfter}
 use Rattle.rules.specs.Rules.{accessAt, boundsAt}
@@ -45,10 +44,6 @@ pub pass : (xs ys : List Refusal) → xs ≡ [] → also xs ys ≡ ys
 unfolding also
 pass xs ys e = rw e
 
-pub skip : (b : Bool) (r : Refusal) (ys : List Refusal) → b ≡ false → also (when b r) ys ≡ ys
-unfolding also when
-skip b r ys e = rw e
-
 -- A part that is refused is the answer.
 refuse-part : (xs ys : List Refusal) {v : Verdict} {r : Refusal} → v ≡ verdictOf xs → v ≡ Refused r → (v ≡ verdictOf (also xs ys)) × (also xs ys ≡ [] → ⊥)
 unfolding also verdictOf
@@ -59,16 +54,6 @@ pub stops : {zs : List Refusal} (xs ys : List Refusal) {g : FactSet} {w : Walked
 stops xs ys z e p =
     let h = refuse-part xs ys e p in
     record { said = h .0 ∙ ap verdictOf (sym z); kept = λ q. absurd (h .1 (sym z ∙ q)) }
-
-pub no-fault : (b : Bool) (r : Refusal) → when b r ≡ [] → b ≡ false
-unfolding when
-no-fault true r e = cc
-no-fault false r e = refl
-
--- A test that refuses.
-pub fault-verdict : (b : Bool) (r : Refusal) → b ≡ true → Refused r ≡ verdictOf (when b r)
-unfolding when verdictOf
-fault-verdict b r e = rw e
 
 access-verdict : (b : Bool) (a : ℕ) → b ≡ false → Refused (BundleAccess a) ≡ verdictOf (accessAt b a)
 unfolding accessAt verdictOf
@@ -139,10 +124,9 @@ also-assoc [] ys zs = refl
 also-assoc (x ∷ xs) ys zs = ap (λ (l : List Refusal). x ∷ l) (also-assoc xs ys zs)
 
 line-some : (E : Environment) (head a : ℕ) (s : Simple) (ss : List Simple) (f : FactSet) (K : List Bounds)
-    → lineFaults E head a (s ∷ ss) f K ≡ also (when (contradictory f) (Contradiction a)) (also (accessAt (accessShown E f K s) a)
-    (lineFaults E head (a + 1) ss (factsAfter s f) (boundsAfter (effect E f s) K)))
+    → lineFaults E head a (s ∷ ss) f K ≡ also (accessAt (accessShown E f K s) a) (lineFaults E head (a + 1) ss (factsAfter s f) (boundsAfter (effect E f s) K))
 unfolding walkRules.bundleFaults walkRules.bundleFacts walkRules.bundleBounds
-line-some E head a s ss f K = also-assoc _ _ _ ∙ ap (also (when (contradictory f) (Contradiction a))) (also-assoc _ _ _)
+line-some E head a s ss f K = also-assoc _ _ _
 
 module _ {T : List ℤ} {h : Sections} {E : Environment} {head count : ℕ} {f₀ : FactSet} {K₀ : List Bounds} {at left : ℕ} {f : FactSet} {K : List Bounds}
     (k : Held T h E head count f₀ K₀ at left f K) where
@@ -172,25 +156,21 @@ module _ {T : List ℤ} {h : Sections} {E : Environment} {head count : ℕ} {f�
       line : simples left T h at ≡ p ∷ simples (left - 1) T h (at + 1)
       line = simples-some left T h at _ some (e ∙ ap Read d)
 
-      line-here : lineFaults E head (head + 1) (simples count T h (head + 1)) f₀ K₀ ≡ also (when (contradictory f) (Contradiction at)) (also (accessAt (accessShown E f K p) at)
-          (lineFaults E head (at + 1) (simples (left - 1) T h (at + 1)) (factsAfter p f) (boundsAfter (effect E f p) K)))
+      line-here : lineFaults E head (head + 1) (simples count T h (head + 1)) f₀ K₀ ≡ also (accessAt (accessShown E f K p) at)
+          (lineFaults E head (at + 1) (simples (left - 1) T h (at + 1)) (factsAfter p f) (boundsAfter (effect E f p) K))
       line-here = k .blamed ∙ (ap (λ (ss : List Simple). lineFaults E head at ss f K) line ∙ line-some E head at p (simples (left - 1) T h (at + 1)) f K)
 
-      pub held-contrary : {w : Walked} → contradictory f ≡ true → w .verdict ≡ Refused (Contradiction at) → WalksBundle E head (simples count T h (head + 1)) f₀ K₀ w
-      held-contrary c v = stops _ _ line-here (v ∙ fault-verdict (contradictory f) (Contradiction at) c) v
+      pub held-access : {w : Walked} {b : Bool} → b ≡ accessShown E f K p → b ≡ false → w .verdict ≡ Refused (BundleAccess at)
+          → WalksBundle E head (simples count T h (head + 1)) f₀ K₀ w
+      held-access a t v = stops _ _ line-here (v ∙ access-verdict (accessShown E f K p) at (sym a ∙ t)) v
 
-      module _ (calm : contradictory f ≡ false) where
-        pub held-access : {w : Walked} {b : Bool} → b ≡ accessShown E f K p → b ≡ false → w .verdict ≡ Refused (BundleAccess at)
-            → WalksBundle E head (simples count T h (head + 1)) f₀ K₀ w
-        held-access a t v = stops _ _ (line-here ∙ skip _ _ _ calm) (v ∙ access-verdict (accessShown E f K p) at (sym a ∙ t)) v
-
-        pub held-more : {b : Bool} {g : FactSet} {L : List Bounds} {x : Effect} → b ≡ accessShown E f K p → b ≡ true → g ≡ factsAfter p f → x ≡ effect E f p → L ≡ boundsAfter x K
-            → Held T h E head count f₀ K₀ (at + 1) (left - 1) g L
-        held-more {b} {g} {L} a t q x l = record {
-          blamed = line-here ∙ (skip _ _ _ calm ∙ (pass _ _ (access-pass (accessShown E f K p) at (sym a ∙ t))
-              ∙ ap₂ (lineFaults E head (at + 1) (simples (left - 1) T h (at + 1))) (sym q) (sym (l ∙ ap (λ (y : Effect). boundsAfter y K) x))));
-          left-facts = k .left-facts ∙ (ap (λ (ss : List Simple). bundleFacts ss f) line ∙ facts-some q);
-        }
-          where
-            facts-some : {g : FactSet} → g ≡ factsAfter p f → bundleFacts (p ∷ simples (left - 1) T h (at + 1)) f ≡ bundleFacts (simples (left - 1) T h (at + 1)) g
-            facts-some q = facts-more p (simples (left - 1) T h (at + 1)) f ∙ ap (bundleFacts (simples (left - 1) T h (at + 1))) (sym q)
+      pub held-more : {b : Bool} {g : FactSet} {L : List Bounds} {x : Effect} → b ≡ accessShown E f K p → b ≡ true → g ≡ factsAfter p f → x ≡ effect E f p → L ≡ boundsAfter x K
+          → Held T h E head count f₀ K₀ (at + 1) (left - 1) g L
+      held-more {b} {g} {L} a t q x l = record {
+        blamed = line-here ∙ (pass _ _ (access-pass (accessShown E f K p) at (sym a ∙ t))
+            ∙ ap₂ (lineFaults E head (at + 1) (simples (left - 1) T h (at + 1))) (sym q) (sym (l ∙ ap (λ (y : Effect). boundsAfter y K) x)));
+        left-facts = k .left-facts ∙ (ap (λ (ss : List Simple). bundleFacts ss f) line ∙ facts-some q);
+      }
+        where
+          facts-some : {g : FactSet} → g ≡ factsAfter p f → bundleFacts (p ∷ simples (left - 1) T h (at + 1)) f ≡ bundleFacts (simples (left - 1) T h (at + 1)) g
+          facts-some q = facts-more p (simples (left - 1) T h (at + 1)) f ∙ ap (bundleFacts (simples (left - 1) T h (at + 1))) (sym q)

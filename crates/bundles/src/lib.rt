@@ -63,12 +63,6 @@ pub fn walk_bundle(
         let Statement::Plain(simple) = statement else {
             break;
         };
-        if facts.contradicts() {
-            return Walked {
-                verdict: Verdict::Refused(Refusal::Contradiction(at)),
-                facts,
-            };
-        }
         if !access_shown(environment, facts, known, simple) {
             return Walked {
                 verdict: Verdict::Refused(Refusal::BundleAccess(at)),

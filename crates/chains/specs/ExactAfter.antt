@@ -1,7 +1,7 @@
 -- Each operation keeps the fact set exact, for what is known after it.
 use Prim.Native.Nat.{ℕ, _+_, _-_, _^_, _≤_, _<_, min, max}
 use mathlib.Core.Path.{_≡_, refl, sym, ap, _∙_}
-use mathlib.Core.Logic.{_≢_, inl, inr}
+use mathlib.Core.Logic.{_≢_, inr}
 use mathlib.Core.Bool.{Bool, true, false, false≢true, cond}
 use native.Mathlib.Omega.{arith}
 use native.Mathlib.Decide.{ℕ-discrete}
@@ -12,9 +12,9 @@ use Rattle.sums.specs.Sums.{concatenated, negated}
 use Rattle.facts.specs.Store.{sumAt, leastSum, shown, newSet, lowered, marked, added, reassigned, dropped, ranged, shifted, related, joinedSum, joined}
 use Rattle.sums.specs.SumsLaws.{concat-plain}
 use Rattle.facts.specs.StoreLaws.{least-node, shown-clear, not-shown, added-shown, added-closed, added-lowered, dropped-variable, ranged-variable, shifted-variable, joined-first, joined-second, joined-both, sum-new, sum-lowered, sum-reassigned, sum-joined, anewAt}
-use Rattle.chains.specs.Facts.{Variables, Node, Comparable, same-kind, from-zero, to-zero, Known, Always, lower, upper, Shown, Contradiction, With, before, fact, Without, kept, always, raise, Moved, moved, Shifted, Both, both}
+use Rattle.chains.specs.Facts.{Variables, Node, Comparable, same-kind, from-zero, to-zero, Known, Always, lower, upper, Shown, Contradiction, With, before, fact, Without, always, contradicted, raise, Moved, moved, Shifted, Both, both}
 use Rattle.chains.specs.LeastSums.{LeastSums}
-use Rattle.chains.specs.History.{Another, Slight}
+use Rattle.chains.specs.History.{Slight}
 use Rattle.chains.specs.Chains.{one, more-contradiction, contradiction-of, zero-node, left-node, right-node, always-comparable, Sane, shows-every, closed, least-same, least-known}
 use Rattle.chains.specs.Operations.{with-comparable, without-comparable, moved-comparable, both-comparable, new-least, add-shown, add-contradiction, add-least, anewSums, anew-least, shift-least, closure-least}
 use Rattle.chains.specs.Join.{joinAt, join-least}
@@ -140,12 +140,8 @@ added-exact vars f K h x y k r =
 without-sane : (vars : Variables) (x : ℕ) (K : Known) → Sane vars (Without vars x K)
 without-sane vars x K = record { related = without-comparable vars K x; ranged = λ a b c w. always w }
 
-without-clash : (vars : Variables) (x : ℕ) (K : Known) → Sane vars K → Another vars x → Contradiction K → Contradiction (Without vars x K)
-without-clash vars x K s o c =
-    let v = o .other in
-    let h : v < vars .count = o .variable in
-    let hv : Node vars v = search (inl, inr) in
-    contradiction-of (one (kept {c = bias - 1} (o .apart) (o .apart) (same-kind h h refl) (shows-every vars K s c v v (bias - 1) hv hv))) (omega arith)
+without-clash : (vars : Variables) (x : ℕ) (K : Known) → Contradiction K → Contradiction (Without vars x K)
+without-clash vars x K c = contradiction-of (one (contradicted {c = bias - 1} c (same-kind (vars .some) (vars .some) refl))) (omega arith)
 
 -- x between bottom and top, which are plain numbers.
 module _ (vars : Variables) (f : FactSet) (K : Known) (h : Exact vars f K) (x : ℕ) (hx : x < vars .count) where
@@ -184,20 +180,20 @@ module _ (vars : Variables) (f : FactSet) (K : Known) (h : Exact vars f K) (x : 
     ranged = λ a b c w. before (before (always w));
   }
 
-  pub ranged-exact : (Contradiction K → Another vars x) → (bottom top : ℕ) → bottom ≤ top → top ≤ maxValue → Exact vars (ranged f x bottom top) (Ranged bottom top)
+  pub ranged-exact : (bottom top : ℕ) → bottom ≤ top → top ≤ maxValue → Exact vars (ranged f x bottom top) (Ranged bottom top)
   unfolding reassigned
-  ranged-exact rest bottom top l m = rw (ranged-variable f x bottom top (omega arith)) (record {
+  ranged-exact bottom top l m = rw (ranged-variable f x bottom top (omega arith)) (record {
     sane = ranged-sane bottom top;
     least = λ e. reassigned-least bottom top l m e;
-    clash = λ e. more-contradiction (λ a b c w. before (before w)) (without-clash vars x K (h .sane) (rest (h .clash e)) (h .clash e));
+    clash = λ e. more-contradiction (λ a b c w. before (before w)) (without-clash vars x K (h .clash e));
   })
 
-  pub dropped-exact : (Contradiction K → Another vars x) → Exact vars (dropped f x) (Without vars x K)
+  pub dropped-exact : Exact vars (dropped f x) (Without vars x K)
   unfolding reassigned
-  dropped-exact rest = rw (dropped-variable f x (omega arith)) (record {
+  dropped-exact = rw (dropped-variable f x (omega arith)) (record {
     sane = without-sane vars x K;
     least = λ e. least-known within (λ a b c w. before (before w)) (reassigned-least 0 maxValue (omega arith) (omega arith) e);
-    clash = λ e. without-clash vars x K (h .sane) (rest (h .clash e)) (h .clash e);
+    clash = λ e. without-clash vars x K (h .clash e);
   })
     where
       within : (a b c : ℕ) → Ranged 0 maxValue a b c → Without vars x K a b c

@@ -74,10 +74,12 @@ pub data With (K : Known) (x y k : ℕ) : ℕ → ℕ → ℕ → Type 0 where
   before : {a b c : ℕ} → K a b c → With K x y k a b c
   fact : With K x y k x y k
 
--- "To drop x: keep each shown fact without x"; and what is always known.
+-- "To drop x: keep each shown fact without x"; and what is always known. Point 11: "Dropping keeps a contradiction, also where no other variable is left":
+-- where the facts contradict, every fact is kept.
 pub data Without (vars : Variables) (x : ℕ) (K : Known) : ℕ → ℕ → ℕ → Type 0 where
   kept : {a b c : ℕ} → a ≢ x → b ≢ x → Comparable vars a b → Shown K a b c → Without vars x K a b c
   always : {a b c : ℕ} → Always vars a b c → Without vars x K a b c
+  contradicted : {a b c : ℕ} → Contradiction K → Comparable vars a b → Without vars x K a b c
 
 -- By how much a shift of x by k raises a node: x by k, any other by 0; with the bias.
 abbrev pub raise : Bool → ℕ → ℕ

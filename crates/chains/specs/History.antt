@@ -1,8 +1,7 @@
 -- What was done to the facts, as data, and what is known then, in the paper's words.
 use Prim.Native.Nat.{ℕ, _+_, _-_, _≤_, _<_}
-use mathlib.Core.Logic.{_≢_}
 use Rattle.sums.specs.Numbers.{bias, maxValue, zeroVar}
-use Rattle.chains.specs.Facts.{Variables, Comparable, Known, Always, Contradiction, With, Without, Shifted, Both}
+use Rattle.chains.specs.Facts.{Variables, Comparable, Known, Always, With, Without, Shifted, Both}
 
 pub data History : Type 0 where
   new : History
@@ -11,12 +10,6 @@ pub data History : Type 0 where
   range : History → ℕ → ℕ → ℕ → History
   shift : History → ℕ → ℕ → History
   join : History → History → History
-
--- Where the facts contradict, dropping x keeps the contradiction only if another variable is left to tell it.
-pub record Another (vars : Variables) (x : ℕ) : Type 0 where
-  pub other : ℕ
-  pub variable : other < vars .count
-  pub apart : other ≢ x
 
 -- A shift is by at most 2^32 + 1 either way.
 pub record Slight (k : ℕ) : Type 0 where
@@ -33,11 +26,11 @@ module _ (vars : Variables) where
   known (shift h x k) = Shifted vars x k (known h)
   known (join h g) = Both vars (known h) (known g)
 
-  -- The arguments of each operation are legal. Of contradictory facts a variable is dropped only where another is left.
+  -- The arguments of each operation are legal.
   abbrev pub Legal : History → Type 0
   Legal new = Unit {0}
   Legal (add h x y k) = Legal h × Comparable vars x y
-  Legal (drop h x) = Legal h × (x < vars .count) × (Contradiction (known h) → Another vars x)
-  Legal (range h x bottom top) = Legal h × (x < vars .count) × (Contradiction (known h) → Another vars x) × (bottom ≤ top) × (top ≤ maxValue)
+  Legal (drop h x) = Legal h × (x < vars .count)
+  Legal (range h x bottom top) = Legal h × (x < vars .count) × (bottom ≤ top) × (top ≤ maxValue)
   Legal (shift h x k) = Legal h × (x < vars .count) × Slight k
   Legal (join h g) = Legal h × Legal g

@@ -23,8 +23,8 @@ module _ (vars : Variables) where
   pub exact : (h : History) → Legal vars h → Exact vars (made (vars .pointer) h) (known vars h)
   exact new l = new-exact vars
   exact (add h x y k) l = added-exact vars (made (vars .pointer) h) (known vars h) (exact h (l .0)) x y k (l .1)
-  exact (drop h x) l = dropped-exact vars (made (vars .pointer) h) (known vars h) (exact h (l .0)) x (l .1) (l .2)
-  exact (range h x bottom top) l = ranged-exact vars (made (vars .pointer) h) (known vars h) (exact h (l .0)) x (l .1) (l .2) bottom top (l .3) (l .4)
+  exact (drop h x) l = dropped-exact vars (made (vars .pointer) h) (known vars h) (exact h (l .0)) x (l .1)
+  exact (range h x bottom top) l = ranged-exact vars (made (vars .pointer) h) (known vars h) (exact h (l .0)) x (l .1) bottom top (l .2) (l .3)
   exact (shift h x k) l = shifted-exact vars (made (vars .pointer) h) (known vars h) (exact h (l .0)) x k (l .1) (l .2)
   exact (join h g) l = joined-exact vars (made (vars .pointer) h) (made (vars .pointer) g) (known vars h) (known vars g) (exact h (l .0)) (exact g (l .1))
 

@@ -10,9 +10,9 @@ use lib.Dec.{leb, eqb}
 use Rattle.sums.specs.Numbers.{bias, maxValue, zeroVar}
 use Rattle.facts.specs.Store.{newSum}
 use Rattle.facts.specs.StoreLaws.{anewAt}
-use Rattle.chains.specs.Facts.{Variables, Node, Comparable, from-zero, to-zero, Known, Always, lower, upper, ChainWithin, Shown, Contradiction, With, before, fact, Without, kept, always, Both, both, Moved, moved}
+use Rattle.chains.specs.Facts.{Variables, Node, Comparable, from-zero, to-zero, Known, Always, lower, upper, ChainWithin, Shown, Contradiction, With, before, fact, Without, kept, always, contradicted, Both, both, Moved, moved}
 use Rattle.chains.specs.LeastSums.{LeastSums}
-use Rattle.chains.specs.Chains.{append, weaken, one, none, more-shown, contradiction-of, Pair, comparable, zeros, mixed, pair, zero-node, left-node, right-node, always-comparable, Closed, lowest-of, at-most, closed, through-zero}
+use Rattle.chains.specs.Chains.{append, weaken, one, none, more-shown, contradiction-of, Pair, comparable, zeros, mixed, pair, zero-node, left-node, right-node, always-comparable, Closed, lowest-of, at-most, closed, through-zero, no-contradiction}
 
 -- ---- each operation keeps to comparable pairs
 
@@ -24,6 +24,7 @@ module _ (vars : Variables) (K : Known) where
   pub without-comparable : (x a b c : ℕ) → Without vars x K a b c → Comparable vars a b
   without-comparable x a b c (kept m n r s) = r
   without-comparable x a b c (always r) = always-comparable vars r
+  without-comparable x a b c (contradicted z r) = r
 
   pub moved-comparable : (by : ℕ → ℕ) (a b c : ℕ) → Moved vars by K a b c → Comparable vars a b
   moved-comparable by a b c (moved r s e) = r
@@ -243,6 +244,7 @@ module _ (vars : Variables) (D : ℕ → ℕ → ℕ) (K : Known) (related : (x 
         cover : (a b c : ℕ) → Anew a b c → E a b ≤ c
         cover a b c (before (before (kept m n s t))) = rw (ne-eqb a x m, ne-eqb b x n) (at-most vars D K related l (left-node vars s) (right-node vars s) t)
         cover a b c (before (before (always f))) = in-range a b c f
+        cover a b c (before (before (contradicted z s))) = absurd (no-contradiction vars D K related l z)
         cover a b c (before fact) = rw (eq-eqb x x refl, not-x) (omega (arith, C .own y y-node))
         cover a b c fact = rw (eq-eqb x x refl, not-x) (omega (arith, C .own y y-node))
 

@@ -5,10 +5,10 @@ use mathlib.Core.Bool.{Bool, true, false}
 use mathlib.Core.List.{List, []}
 use native.Mathlib.Omega.{arith}
 use lib.IntN.{ℤ}
-use Rattle.facts.specs.Store.{contradictory, joined}
+use Rattle.facts.specs.Store.{joined}
 use Rattle.facts.specs.declared.FactSet.{FactSet}
 use Rattle.refusals.specs.declared.Refusal.{Refusal}
-use Rattle.refusals.specs.declared.Refusal.the-variants.{StatementRecord, Contradiction}
+use Rattle.refusals.specs.declared.Refusal.the-variants.{StatementRecord}
 use Rattle.sections.specs.declared.Sections.{Sections}
 use Rattle.conditions.specs.ConditionLaws.{offset-small}
 use Rattle.conditions.specs.declared.Condition.{Condition}
@@ -21,7 +21,7 @@ use Rattle.statements.specs.Statements.{statementAt}
 use Rattle.statements.specs.StatementLaws.{read-typed, read-limits, read-counts-if, read-counts-while, read-counts-bundle}
 use Rattle.blocks.specs.Tree.{Block, nil, unread, simples, node, parse}
 use Rattle.blocks.specs.TreeLaws.{parse-none, parse-end, parse-some}
-use Rattle.blocks.specs.Layout.{also, when}
+use Rattle.blocks.specs.Layout.{also}
 use Rattle.flow.specs.Targets.{targetsFrom}
 use Rattle.rules.specs.Stored.{factsAfter, conditionFacts, loopFacts, effect, unshown, bundleFacts, bundleBounds, bundleFaults, blockFacts, blockFaults, boundsAfter}
 use Rattle.rules.specs.BoundsRules.{isPointer}
@@ -39,7 +39,7 @@ use Rattle.rules.specs.declared.Effect.{Effect}
 use Rattle.rules.specs.declared.Verdict.{Verdict}
 use Rattle.rules.specs.declared.Verdict.the-variants.{Accepted, Refused}
 use Rattle.bundles.specs.declared.Walked.{Walked}
-use Rattle.bundles.specs.BundleLaws.{pass, skip, stops, fault-verdict, ends, carry, also-assoc, none-refused, applied-facts, applied-effect, lineFaults}
+use Rattle.bundles.specs.BundleLaws.{pass, stops, ends, carry, also-assoc, none-refused, applied-facts, applied-effect, lineFaults}
 use Rattle.rules.specs.Rules as walkRules
 
 -- A walk of the one block is a walk of the other.
@@ -84,7 +84,7 @@ pub record Turn (T : List ℤ) (h : Sections) (E : Environment) (end allowed : �
   pub within : at < end
   pub read : statementAt T h at ≡ Read s
 
--- What a statement's faults are: first the contradiction, then those of its kind.
+-- What a statement's faults are, by its kind.
 abbrev rest : List ℤ → Sections → ℕ → ℕ → ℕ → Block
 rest T h left x y = parse (left - 1) T h x y
 
@@ -114,7 +114,7 @@ module _ (T : List ℤ) (h : Sections) (E : Environment) (at left end : ℕ) (f 
   kindFacts (While c n) = blockFacts T h E (rest T h left (at + 1 + n) end) (conditionFacts (loopFacts (targetsFrom T h (at + 1) n) f) (negatedOf c))
   kindFacts (Bundle n) = blockFacts T h E (rest T h left (at + 1 + n) end) (bundleFacts (simples n T h (at + 1)) f)
 
-  faults-here : (s : Statement) → blockFaults T h E (at-statement s) f ≡ also (when (contradictory f) (Contradiction at)) (kindFaults s)
+  faults-here : (s : Statement) → blockFaults T h E (at-statement s) f ≡ kindFaults s
   unfolding walkRules.blockFaults
   faults-here (Plain s) = refl
   faults-here (If c n m) = refl
@@ -162,18 +162,11 @@ module _ {T : List ℤ} {h : Sections} {E : Environment} {end allowed : ℕ} {b 
   plain-ranged {p} u = read-ranged T h at p (u .read)
 
   module _ (s : Statement) (u : Turn T h E end allowed b f₀ at left f s) where
-    whole : blockFaults T h E b f₀ ≡ also (when (contradictory f) (Contradiction at)) (kindFaults T h E at left end f s)
-    whole = u .so-far .same .blamed ∙ (ap (λ (x : Block). blockFaults T h E x f) (parse-some left T h at end _ (u .some) (u .within) (u .read)) ∙ faults-here T h E at left end f s)
+    here : blockFaults T h E b f₀ ≡ kindFaults T h E at left end f s
+    here = u .so-far .same .blamed ∙ (ap (λ (x : Block). blockFaults T h E x f) (parse-some left T h at end _ (u .some) (u .within) (u .read)) ∙ faults-here T h E at left end f s)
 
     whole-facts : blockFacts T h E b f₀ ≡ kindFacts T h E at left end f s
     whole-facts = u .so-far .same .left ∙ (ap (λ (x : Block). blockFacts T h E x f) (parse-some left T h at end _ (u .some) (u .within) (u .read)) ∙ facts-here T h E at left end f s)
-
-    pub turn-contrary : {w : Walked} → contradictory f ≡ true → w .verdict ≡ Refused (Contradiction at) → Walks T h E b f₀ w
-    turn-contrary c v = stops _ _ whole (v ∙ fault-verdict (contradictory f) (Contradiction at) c) v
-
-    module _ (calm : contradictory f ≡ false) where
-      here : blockFaults T h E b f₀ ≡ kindFaults T h E at left end f s
-      here = whole ∙ skip _ _ _ calm
 
   -- The next turn.
   next : {s : Statement} {x : ℕ} {g i : FactSet} → Turn T h E end allowed b f₀ at left f s
@@ -184,30 +177,30 @@ module _ {T : List ℤ} {h : Sections} {E : Environment} {end allowed : ℕ} {b 
     less = omega (arith, u .so-far .less);
   }
 
-  module _ {p : Simple} (u : Turn T h E end allowed b f₀ at left f (Plain p)) (calm : contradictory f ≡ false) {d : Applied} (e : d ≡ applied (E .lengths) f p)
+  module _ {p : Simple} (u : Turn T h E end allowed b f₀ at left f (Plain p)) {d : Applied} (e : d ≡ applied (E .lengths) f p)
       {v : Verdict} (z : v ≡ verdictOf (boundsAt at (unshown E (d .facts) (boundsAfter (d .effect) (E .declared))))) where
     shown-here : v ≡ verdictOf (boundsAt at (unshown E (factsAfter p f) (boundsAfter (effect E f p) (E .declared))))
     shown-here = z ∙ ap₂ (λ (g : FactSet) (x : Effect). verdictOf (boundsAt at (unshown E g (boundsAfter x (E .declared))))) (applied-facts E f p e) (applied-effect E f p e)
 
     pub plain-refused : {w : Walked} {r : Refusal} → w .verdict ≡ v → v ≡ Refused r → Walks T h E b f₀ w
-    plain-refused q x = stops _ _ (here (Plain p) u calm) (q ∙ shown-here) (q ∙ x)
+    plain-refused q x = stops _ _ (here (Plain p) u) (q ∙ shown-here) (q ∙ x)
 
     pub turn-plain : v ≡ Accepted → Kept T h E end allowed b f₀ (at + 1) (left - 1) (d .facts)
-    turn-plain x = next u (here (Plain p) u calm ∙ pass _ _ (none-refused _ shown-here x)) (whole-facts (Plain p) u) (applied-facts E f p e)
+    turn-plain x = next u (here (Plain p) u ∙ pass _ _ (none-refused _ shown-here x)) (whole-facts (Plain p) u) (applied-facts E f p e)
 
   -- Nothing has to be shown again.
-  pub turn-untouched : {p : Simple} → Turn T h E end allowed b f₀ at left f (Plain p) → contradictory f ≡ false → {d : Applied} → d ≡ applied (E .lengths) f p
+  pub turn-untouched : {p : Simple} → Turn T h E end allowed b f₀ at left f (Plain p) → {d : Applied} → d ≡ applied (E .lengths) f p
       → {named : List Bool} → named ≡ namedIn E → touches named (E .pointers) (d .effect) ≡ false → Kept T h E end allowed b f₀ (at + 1) (left - 1) (d .facts)
   unfolding boundsAt verdictOf
-  turn-untouched u calm {d} e r x = turn-plain u calm e {v = Accepted} (sym (ap (λ (ps : List ℕ). verdictOf (boundsAt at ps)) (unnamed E (d .effect) r x (d .facts)))) refl
+  turn-untouched u {d} e r x = turn-plain u e {v = Accepted} (sym (ap (λ (ps : List ℕ). verdictOf (boundsAt at ps)) (unnamed E (d .effect) r x (d .facts)))) refl
 
-  module _ {c : Condition} {n m : ℕ} (u : Turn T h E end allowed b f₀ at left f (If c n m)) (calm : contradictory f ≡ false)
+  module _ {c : Condition} {n m : ℕ} (u : Turn T h E end allowed b f₀ at left f (If c n m))
       {g : FactSet} (e : g ≡ conditionFacts f c) {r : Walked} (w : Walks T h E (rest T h left (at + 1) (at + 1 + n)) g r) where
     then-walk : Walks T h E (rest T h left (at + 1) (at + 1 + n)) (conditionFacts f c) r
     then-walk = rw e at w
 
     pub then-refused : {v : Refusal} → r .verdict ≡ Refused v → Walks T h E b f₀ r
-    then-refused x = stops _ _ (here (If c n m) u calm) (then-walk .said) x
+    then-refused x = stops _ _ (here (If c n m) u) (then-walk .said) x
 
     module _ (q : r .verdict ≡ Accepted) {i : FactSet} {d : Condition} (j : d ≡ negatedOf c) (k : i ≡ conditionFacts f d) {o : Walked}
         (z : Walks T h E (rest T h left (at + 1 + n) (at + 1 + n + m)) i o) where
@@ -218,29 +211,29 @@ module _ {T : List ℤ} {h : Sections} {E : Environment} {end allowed : ℕ} {b 
       then-clear = none-refused _ (then-walk .said) q
 
       pub else-refused : {v : Refusal} → o .verdict ≡ Refused v → Walks T h E b f₀ o
-      else-refused x = stops _ _ (here (If c n m) u calm ∙ pass _ _ then-clear) (else-walk .said) x
+      else-refused x = stops _ _ (here (If c n m) u ∙ pass _ _ then-clear) (else-walk .said) x
 
       pub turn-if : {x : FactSet} → o .verdict ≡ Accepted → x ≡ joined (isPointer E) (r .facts) (o .facts) → Kept T h E end allowed b f₀ (at + 1 + n + m) (left - 1) x
       turn-if x y =
           let else-clear = none-refused _ (else-walk .said) x in
-          next u (here (If c n m) u calm ∙ (pass _ _ then-clear ∙ pass _ _ else-clear)) (whole-facts (If c n m) u) (y ∙ ap₂ (joined (isPointer E)) (then-walk .kept then-clear) (else-walk .kept else-clear))
+          next u (here (If c n m) u ∙ (pass _ _ then-clear ∙ pass _ _ else-clear)) (whole-facts (If c n m) u) (y ∙ ap₂ (joined (isPointer E)) (then-walk .kept then-clear) (else-walk .kept else-clear))
 
-  module _ {c : Condition} {n : ℕ} (u : Turn T h E end allowed b f₀ at left f (While c n)) (calm : contradictory f ≡ false)
+  module _ {c : Condition} {n : ℕ} (u : Turn T h E end allowed b f₀ at left f (While c n))
       {l : FactSet} (y : l ≡ loopFacts (targetsFrom T h (at + 1) n) f) {g : FactSet} (e : g ≡ conditionFacts l c) {r : Walked} (w : Walks T h E (rest T h left (at + 1) (at + 1 + n)) g r) where
     body-walk : Walks T h E (rest T h left (at + 1) (at + 1 + n)) (conditionFacts (loopFacts (targetsFrom T h (at + 1) n) f) c) r
     body-walk = rw (e, y) at w
 
     pub body-refused : {v : Refusal} → r .verdict ≡ Refused v → Walks T h E b f₀ r
-    body-refused x = stops _ _ (here (While c n) u calm) (body-walk .said) x
+    body-refused x = stops _ _ (here (While c n) u) (body-walk .said) x
 
     pub turn-while : {d : Condition} {i : FactSet} → r .verdict ≡ Accepted → d ≡ negatedOf c → i ≡ conditionFacts l d → Kept T h E end allowed b f₀ (at + 1 + n) (left - 1) i
     turn-while x j k =
-        next u (here (While c n) u calm ∙ pass _ _ (none-refused _ (body-walk .said) x)) (whole-facts (While c n) u) (k ∙ ap₂ conditionFacts y j)
+        next u (here (While c n) u ∙ pass _ _ (none-refused _ (body-walk .said) x)) (whole-facts (While c n) u) (k ∙ ap₂ conditionFacts y j)
 
-  module _ {n : ℕ} (u : Turn T h E end allowed b f₀ at left f (Bundle n)) (calm : contradictory f ≡ false)
+  module _ {n : ℕ} (u : Turn T h E end allowed b f₀ at left f (Bundle n))
       {r : Walked} (w : WalksBundle E at (simples n T h (at + 1)) f (E .declared) r) where
     bundle-here : blockFaults T h E b f₀ ≡ also (lineFaults E at (at + 1) (simples n T h (at + 1)) f (E .declared)) (blockFaults T h E (rest T h left (at + 1 + n) end) (bundleFacts (simples n T h (at + 1)) f))
-    bundle-here = here (Bundle n) u calm ∙ sym (also-assoc _ _ _)
+    bundle-here = here (Bundle n) u ∙ sym (also-assoc _ _ _)
 
     pub bundle-refused : {v : Refusal} → r .verdict ≡ Refused v → Walks T h E b f₀ r
     bundle-refused x = stops _ _ bundle-here (w .said) x

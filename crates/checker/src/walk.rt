@@ -56,12 +56,6 @@ pub(crate) fn walk(
                 facts,
             };
         };
-        if facts.contradicts() {
-            return Walked {
-                verdict: Verdict::Refused(Refusal::Contradiction(at)),
-                facts,
-            };
-        }
         let inner = at + 1;
         match statement {
             Statement::Plain(simple) => {

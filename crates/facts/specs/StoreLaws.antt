@@ -4,7 +4,7 @@ use mathlib.Core.Path.{_≡_, refl, sym, ap, _∙_}
 use mathlib.Core.Logic.{_≢_}
 use mathlib.Core.Bool.{Bool, true, false, _&&_, cond}
 use borrow.Author.Tests.{lt-ltb, le-ltb, eqb-true, eqb-false, eq-eqb, ne-eqb}
-use lib.Dec.{ltb, leb, eqb}
+use lib.Dec.{leb, eqb}
 use lib.Seq.{getD-set-same, getD-set-other}
 use native.Mathlib.Omega.{arith}
 use Rattle.sums.specs.Numbers.{bias, maxValue, zeroVar}
@@ -144,15 +144,6 @@ module _ (f : FactSet) (x : ℕ) where
   pub dropped-variable : x ≤ 15 → dropped f x ≡ reassigned f x zeroVar (bias + maxValue) bias
   unfolding dropped
   dropped-variable h = passed _ _ (le-ltb _ _ h)
-
-  -- Dropping keeps the mark.
-  pub mark-dropped : dropped f x .contradiction ≡ f .contradiction
-  unfolding dropped reassigned
-  mark-dropped = go (ltb 15 x)
-    where
-      go : (b : Bool) → cond b f (reassigned f x zeroVar (bias + maxValue) bias) .contradiction ≡ f .contradiction
-      go true = refl
-      go false = refl
 
   pub ranged-variable : (low high : ℕ) → x ≤ 15 → ranged f x low high ≡ reassigned f x zeroVar (bias + high) (bias - low)
   unfolding ranged

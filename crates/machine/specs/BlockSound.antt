@@ -134,7 +134,7 @@ module _ (T : List ℤ) (h : Sections) (E : Environment) (D : List ℕ) (room : 
     line-step a [] F K after P l q i = absurd i
     line-step a (s ∷ ss) F K after P l q (inl i) =
         let typed = read-typed T h a (Plain s) (l .0) in
-        let shown = access-passed (accessShown E F K s) a (no-first _ _ (no-rest _ _ q)) in
+        let shown = access-passed (accessShown E F K s) a (no-first _ _ q) in
         let next = lead (a + 1) (length ss) after in
         rw (step-at P a _ _ (i .0) (l .0) (l .1))
         (checked (GoalLine a (s ∷ ss) F K after (memoryOf P)) P next (failing E (P .values) s) (performed D s (memoryOf P))
@@ -144,7 +144,7 @@ module _ (T : List ℤ) (h : Sections) (E : Environment) (D : List ℕ) (room : 
         (performed D s (memoryOf P)) (performed-good T h E D room S F K (memoryOf P) (i .1) s typed (ready-inside s F K (memoryOf P) typed shown (i .1)) e)))
     line-step a (s ∷ ss) F K after P l q (inr i) =
         fine-map (λ d n w. (into (w .0), λ z r. w .1 z (among-right z (target s) (targets ss) r)))
-        (line-step (a + 1) ss (factsAfter s F) (boundsAfter (effect E F s) K) after P (l .2) (no-rest _ _ (no-rest _ _ q)) i)
+        (line-step (a + 1) ss (factsAfter s F) (boundsAfter (effect E F s) K) after P (l .2) (no-rest _ _ q) i)
 
     -- The end of a bundle: all declared bounds are shown.
     bundle-out : (a : ℕ) (ss : List Simple) (r : Block) (F : FactSet) (after d : ℕ) (m : Memory) → Linked T h f r after
@@ -261,7 +261,7 @@ module _ (T : List ℤ) (h : Sections) (E : Environment) (D : List ℕ) (room : 
     block-step nil F after P l q i = absurd i
     block-step (plain a s r) F after P l q (inl i) =
         let typed = read-typed T h a (Plain s) (l .0) in
-        let shown = bounds-passed a _ (no-first _ _ (no-rest _ _ q)) in
+        let shown = bounds-passed a _ (no-first _ _ q) in
         rw (step-at P a _ _ (i .0) (l .0) (l .1))
         (checked (Goal (plain a s r) F after (memoryOf P)) P (entry r after) (failing E (P .values) s) (performed D s (memoryOf P))
         (λ e.
@@ -273,22 +273,22 @@ module _ (T : List ℤ) (h : Sections) (E : Environment) (D : List ℕ) (room : 
         (performed D s (memoryOf P)) (performed-good T h E D room S F (E .declared) (memoryOf P) (i .1) s typed (ready-outside s F (memoryOf P) typed (i .1)) e)))
     block-step (plain a s r) F after P l q (inr i) =
         fine-map (λ d n w. (into (w .0), λ z u. w .1 z (among-right z (target s) (assigned r) u)))
-        (block-step r (factsAfter s F) after P (l .2) (no-rest _ _ (no-rest _ _ q)) i)
+        (block-step r (factsAfter s F) after P (l .2) (no-rest _ _ q) i)
     block-step (branch a c t e r) F after P l q (inl i) =
         rw (step-at P a _ _ (i .0) (l .0) (l .1)) (branch-head a c t e r F after l P (i .1) (conditionHolds (P .values) c) refl)
     block-step (branch a c t e r) F after P l q (inr (inl i)) =
         fine-map (λ d n w. (then-out a c t e r F after l d n (w .0), λ z u. w .1 z (among-left z (assigned t) (assigned e ++ assigned r) u)))
-        (block-step t (conditionFacts F c) (entry r after) P (l .2) (no-first _ _ (no-rest _ _ q)) i)
+        (block-step t (conditionFacts F c) (entry r after) P (l .2) (no-first _ _ q) i)
     block-step (branch a c t e r) F after P l q (inr (inr (inl i))) =
         fine-map
         (λ d n w.
         (else-out a c t e r F after l d n (w .0), λ z u. w .1 z (among-left z (assigned e) (assigned r) (among-right z (assigned t) (assigned e ++ assigned r) u))))
-        (block-step e (conditionFacts F (negatedOf c)) (entry r after) P (l .3) (no-first _ _ (no-rest _ _ (no-rest _ _ q))) i)
+        (block-step e (conditionFacts F (negatedOf c)) (entry r after) P (l .3) (no-first _ _ (no-rest _ _ q)) i)
     block-step (branch a c t e r) F after P l q (inr (inr (inr i))) =
         fine-map
         (λ d n w.
         (into (into (into (w .0))), λ z u. w .1 z (among-right z (assigned e) (assigned r) (among-right z (assigned t) (assigned e ++ assigned r) u))))
-        (block-step r (sidesJoined T h E (blockFacts T h E t (conditionFacts F c)) (blockFacts T h E e (conditionFacts F (negatedOf c)))) after P (l .4) (no-rest _ _ (no-rest _ _ (no-rest _ _ q))) i)
+        (block-step r (sidesJoined T h E (blockFacts T h E t (conditionFacts F c)) (blockFacts T h E e (conditionFacts F (negatedOf c)))) after P (l .4) (no-rest _ _ (no-rest _ _ q)) i)
     block-step (loop a c k t r) F after P l q (inl (w, inl i)) =
         rw (step-at P a _ _ (i .0) (l .0) (l .1)) (loop-head a c k t r F after l P w (i .1) (conditionHolds (P .values) c) refl)
     block-step (loop a c k t r) F after P l q (inl (w, inr i)) =
@@ -297,23 +297,23 @@ module _ (T : List ℤ) (h : Sections) (E : Environment) (D : List ℕ) (room : 
           loop-out a c k t r F after l d n (framed-step a c k t r F after l (memoryOf P) n w (x .1)) (x .0),
           λ z u. x .1 z (among-left z (assigned t) (assigned r) u),
         ))
-        (block-step t (conditionFacts (headFacts T h E D room a k F) c) a P (l .3) (no-first _ _ (no-rest _ _ q)) i)
+        (block-step t (conditionFacts (headFacts T h E D room a k F) c) a P (l .3) (no-first _ _ q) i)
     block-step (loop a c k t r) F after P l q (inr i) =
         fine-map (λ d n w. (into (w .0), λ z u. w .1 z (among-right z (assigned t) (assigned r) u)))
-        (block-step r (conditionFacts (headFacts T h E D room a k F) (negatedOf c)) after P (l .4) (no-rest _ _ (no-rest _ _ q)) i)
+        (block-step r (conditionFacts (headFacts T h E D room a k F) (negatedOf c)) after P (l .4) (no-rest _ _ q) i)
     block-step (bundle a ss r) F after P l q (inl i) =
         let next = lead (a + 1) (length ss) (entry r after) in
-        let shown = bounds-passed a _ (no-first _ _ (no-rest _ _ (no-rest _ _ q))) in
+        let shown = bounds-passed a _ (no-first _ _ (no-rest _ _ q)) in
         rw (step-at P a _ _ (i .0) (l .0) (l .1))
         (leads next (memoryOf P) (
           bundle-out a ss r F after next (memoryOf P) (l .3) shown (enter-line (a + 1) ss F (E .declared) (entry r after) next (memoryOf P) refl (i .1)),
           λ z u. refl,
         ))
     block-step (bundle a ss r) F after P l q (inr (inl i)) =
-        let shown = bounds-passed a _ (no-first _ _ (no-rest _ _ (no-rest _ _ q))) in
+        let shown = bounds-passed a _ (no-first _ _ (no-rest _ _ q)) in
         fine-map (λ d n w. (bundle-out a ss r F after d n (l .3) shown (w .0), λ z u. w .1 z (among-left z (targets ss) (assigned r) u)))
-        (line-step (a + 1) ss F (E .declared) (entry r after) P (l .2) (no-first _ _ (no-rest _ _ q)) i)
+        (line-step (a + 1) ss F (E .declared) (entry r after) P (l .2) (no-first _ _ q) i)
     block-step (bundle a ss r) F after P l q (inr (inr i)) =
         fine-map (λ d n w. (into (into (w .0)), λ z u. w .1 z (among-right z (targets ss) (assigned r) u)))
-        (block-step r (bundleFacts ss F) after P (l .3) (no-rest _ _ (no-rest _ _ (no-rest _ _ q))) i)
+        (block-step r (bundleFacts ss F) after P (l .3) (no-rest _ _ (no-rest _ _ q)) i)
     block-step (unread a) F after P l q i = absurd l

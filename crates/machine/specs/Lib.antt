@@ -10,6 +10,7 @@ pub mod AccessSound
 pub mod SimpleSound
 pub mod PerformedSound
 pub mod Places
+pub mod NeverDue
 pub mod BlockSound
 pub mod Standing
 pub mod EntrySound

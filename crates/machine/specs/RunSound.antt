@@ -1,6 +1,6 @@
 -- Soundness: at every point of a begun run of an accepted routine the machine has a step or has ended, every access is inside its origin object, and
 -- outside bundles the declared bounds of every pointer are true.
-use Prim.Native.Nat.{ℕ, zero, suc, _≤_}
+use Prim.Native.Nat.{ℕ, zero, suc, _≤_, _<_}
 use mathlib.Core.Path.{_≡_, refl}
 use mathlib.Core.Logic.{_≢_, _⊎_, inl, inr}
 use mathlib.Core.Bool.{Bool, true, false}
@@ -10,7 +10,7 @@ use borrow.Author.Tests.{ltb-true}
 use lib.Dec.{ltb}
 use lib.IntN.{ℤ}
 use lib.ListN.{length}
-use Rattle.facts.specs.Store.{newSet}
+use Rattle.facts.specs.Store.{newSet, contradictory}
 use Rattle.sections.specs.declared.Sections.{Sections}
 use Rattle.statements.specs.Statements.{statementAt}
 use Rattle.statements.specs.StatementLaws.{read-typed, read-within}
@@ -29,7 +29,8 @@ use Rattle.flow.specs.SuccessorLaws.{flow-right}
 use Rattle.rules.specs.FactsTrue.{Agree}
 use Rattle.rules.specs.BoundsRules.{isPointer, declared}
 use Rattle.rules.specs.EnvironmentLaws.{Declares, environment-declares}
-use Rattle.rules.specs.Stored.{blockFacts, faults}
+use Rattle.rules.specs.Stored.{store, blockFacts, faults}
+use Rattle.rules.specs.FactsBefore.{factsBefore}
 use Rattle.rules.specs.Verdict.{environmentOf}
 use Rattle.rules.specs.AcceptedLaws.{clear}
 use Rattle.rules.specs.declared.Environment.{Environment}
@@ -41,6 +42,7 @@ use Rattle.machine.specs.AccessSound.{Inside, Ready, inside-origin, acce
 use Rattle.machine.specs.Places.{Linked, linked, Stands, At}
 use Rattle.machine.specs.BlockSound.{Fine, leads, stops, enter, block-step}
 use Rattle.machine.specs.Standing.{Standing, standing}
+use Rattle.machine.specs.NeverDue.{consistent}
 use Rattle.machine.specs.EntrySound.{true-test, begun-good}
 
 module _ (T : List ℤ) (h : Sections) (E : Environment) (D : List ℕ) (room : ℕ) where
@@ -218,3 +220,19 @@ module _ (T : List ℤ) (h : Sections) (formed : formOf T ≡ WellFormed h) (acc
   -- Of a table that the checker accepts and a run that is begun, the claim holds at every point: after any number t of steps.
   pub sound : (t : ℕ) → Sound T h (environmentOf T h) D (length cs) (pointAfter T h (environmentOf T h) D t (start T h (environmentOf T h) D cs vs os))
   sound t = sound-from T h (environmentOf T h) D (length cs) begun-setting t (start T h (environmentOf T h) D cs vs os) begun-invariant
+
+  abbrev E : Environment
+  E = environmentOf T h
+
+  abbrev point : ℕ → Point
+  point t = pointAfter T h E D t (start T h E D cs vs os)
+
+  -- A statement whose facts contradict is never due. (Point 11 walks it like any other, and no run comes to it.)
+  pub never-due : (t : ℕ) → point t .due < h .statements → contradictory (factsBefore store T h E (tree T h) newSet (point t .due)) ≡ false
+  never-due t l = go (point-kept T h E D (length cs) begun-setting t (start T h E D cs vs os) begun-invariant .place)
+    where
+      go : At T h E D (length cs) (tree T h) newSet (point t .due) (memoryOf (point t))
+          ⊎ Stands T h E D (length cs) (h .statements) (blockFacts T h E (tree T h) newSet) (E .declared) (point t .due) (memoryOf (point t))
+          → contradictory (factsBefore store T h E (tree T h) newSet (point t .due)) ≡ false
+      go (inl x) = consistent T h E D (length cs) (tree T h) 0 newSet (point t .due) (memoryOf (point t)) (table-laid T h (begun-setting .laid) .numbered) x
+      go (inr x) = absurd (omega (arith, x .0))

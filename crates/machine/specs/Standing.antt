@@ -75,7 +75,7 @@ module _ (T : List ℤ) (h : Sections) (E : Environment) (D : List ℕ) (room : 
     standing-line a [] F K after d m l q i = absurd i
     standing-line a (s ∷ ss) F K after d m l q (inl i) =
         let e = i .0 in
-        let shown = access-passed (accessShown E F K s) a (no-first _ _ (no-rest _ _ q)) in
+        let shown = access-passed (accessShown E F K s) a (no-first _ _ q) in
         let read : statementAt T h d ≡ Read (Plain s) = ap (statementAt T h) e ∙ l .0 in
         record {
           facts = F;
@@ -87,7 +87,7 @@ module _ (T : List ℤ) (h : Sections) (E : Environment) (D : List ℕ) (room : 
           last = omega arith;
         }
     standing-line a (s ∷ ss) F K after d m l q (inr i) =
-        let w = standing-line (a + 1) ss (factsAfter s F) (boundsAfter (effect E F s) K) after d m (l .2) (no-rest _ _ (no-rest _ _ q)) i in
+        let w = standing-line (a + 1) ss (factsAfter s F) (boundsAfter (effect E F s) K) after d m (l .2) (no-rest _ _ q) i in
         record { facts = w .facts; bounds = w .bounds; good = w .good; within = w .within; ready = w .ready; first = omega (arith, w .first); last = omega (arith, w .last) }
 
     -- Inside a bundle.
@@ -110,30 +110,30 @@ module _ (T : List ℤ) (h : Sections) (E : Environment) (D : List ℕ) (room : 
     unfolding walkRules.blockFaults inBundle
     standing nil F after d m l q i = absurd i
     standing (plain a s r) F after d m l q (inl i) = standing-here (plain a s r) a d (Plain s) F m (l .0) (i .0) (i .1)
-    standing (plain a s r) F after d m l q (inr i) = widened r (plain a s r) d m (λ e. e) (standing r (factsAfter s F) after d m (l .2) (no-rest _ _ (no-rest _ _ q)) i)
+    standing (plain a s r) F after d m l q (inr i) = widened r (plain a s r) d m (λ e. e) (standing r (factsAfter s F) after d m (l .2) (no-rest _ _ q) i)
     standing (branch a c t e r) F after d m l q (inl i) = standing-here (branch a c t e r) a d (If c (size t) (size e)) F m (l .0) (i .0) (i .1)
     standing (branch a c t e r) F after d m l q (inr (inl i)) =
         widened t (branch a c t e r) d m (λ u. neither (inBundle t d) (inBundle e d || inBundle r d) u .0)
-        (standing t (conditionFacts F c) (entry r after) d m (l .2) (no-first _ _ (no-rest _ _ q)) i)
+        (standing t (conditionFacts F c) (entry r after) d m (l .2) (no-first _ _ q) i)
     standing (branch a c t e r) F after d m l q (inr (inr (inl i))) =
         widened e (branch a c t e r) d m (λ u. neither (inBundle e d) (inBundle r d) (neither (inBundle t d) (inBundle e d || inBundle r d) u .1) .0)
-        (standing e (conditionFacts F (negatedOf c)) (entry r after) d m (l .3) (no-first _ _ (no-rest _ _ (no-rest _ _ q))) i)
+        (standing e (conditionFacts F (negatedOf c)) (entry r after) d m (l .3) (no-first _ _ (no-rest _ _ q)) i)
     standing (branch a c t e r) F after d m l q (inr (inr (inr i))) =
         widened r (branch a c t e r) d m (λ u. neither (inBundle e d) (inBundle r d) (neither (inBundle t d) (inBundle e d || inBundle r d) u .1) .1)
         (standing r (sidesJoined T h E (blockFacts T h E t (conditionFacts F c)) (blockFacts T h E e (conditionFacts F (negatedOf c)))) after d m (l .4)
-        (no-rest _ _ (no-rest _ _ (no-rest _ _ q))) i)
+        (no-rest _ _ (no-rest _ _ q)) i)
     standing (loop a c k t r) F after d m l q (inl (w, inl i)) =
         standing-here (loop a c k t r) a d (While c (size t)) (headFacts T h E D room a k F) m (l .0) (i .0) (i .1)
     standing (loop a c k t r) F after d m l q (inl (w, inr i)) =
         widened t (loop a c k t r) d m (λ u. neither (inBundle t d) (inBundle r d) u .0)
-        (standing t (conditionFacts (headFacts T h E D room a k F) c) a d m (l .3) (no-first _ _ (no-rest _ _ q)) i)
+        (standing t (conditionFacts (headFacts T h E D room a k F) c) a d m (l .3) (no-first _ _ q) i)
     standing (loop a c k t r) F after d m l q (inr i) =
         widened r (loop a c k t r) d m (λ u. neither (inBundle t d) (inBundle r d) u .1)
-        (standing r (conditionFacts (headFacts T h E D room a k F) (negatedOf c)) after d m (l .4) (no-rest _ _ (no-rest _ _ q)) i)
+        (standing r (conditionFacts (headFacts T h E D room a k F) (negatedOf c)) after d m (l .4) (no-rest _ _ q) i)
     standing (bundle a ss r) F after d m l q (inl i) = standing-here (bundle a ss r) a d (Bundle (length ss)) F m (l .0) (i .0) (i .1)
     standing (bundle a ss r) F after d m l q (inr (inl i)) =
-        standing-inside a ss r d m (standing-line (a + 1) ss F (E .declared) (entry r after) d m (l .2) (no-first _ _ (no-rest _ _ q)) i)
+        standing-inside a ss r d m (standing-line (a + 1) ss F (E .declared) (entry r after) d m (l .2) (no-first _ _ q) i)
     standing (bundle a ss r) F after d m l q (inr (inr i)) =
         widened r (bundle a ss r) d m (λ u. neither (ltb a d && ltb d (a + 1 + length ss)) (inBundle r d) u .1)
-        (standing r (bundleFacts ss F) after d m (l .3) (no-rest _ _ (no-rest _ _ (no-rest _ _ q))) i)
+        (standing r (bundleFacts ss F) after d m (l .3) (no-rest _ _ (no-rest _ _ q)) i)
     standing (unread a) F after d m l q i = absurd l

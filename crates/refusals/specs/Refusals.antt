@@ -1,9 +1,9 @@
 -- The paper's number and place of each refusal.
 use Prim.Native.Nat.{ℕ}
 use Rattle.refusals.specs.declared.Refusal.{Refusal}
-use Rattle.refusals.specs.declared.Refusal.the-variants.{Length, Directory, ObjectLength, VariableRecord, StatementRecord, BlockLayout, Contradiction, BoundsNotShown, BundleAccess, MemorySize, DirectoryPair, EntryLengths, EntryValue}
+use Rattle.refusals.specs.declared.Refusal.the-variants.{Length, Directory, ObjectLength, VariableRecord, StatementRecord, BlockLayout, BoundsNotShown, BundleAccess, MemorySize, DirectoryPair, EntryLengths, EntryValue}
 
--- "Causes of refusal", the column "No."
+-- "Causes of refusal", the column "No." Point 11: "Refusal 7 no longer occurs."
 abbrev pub number : Refusal → ℕ
 number Length = 1
 number Directory = 2
@@ -11,7 +11,6 @@ number (ObjectLength o) = 3
 number (VariableRecord v) = 4
 number (StatementRecord s) = 5
 number (BlockLayout s) = 6
-number (Contradiction s) = 7
 number (BoundsNotShown s p) = 8
 number (BundleAccess s) = 9
 number MemorySize = 10
@@ -27,7 +26,6 @@ place (ObjectLength o) = o
 place (VariableRecord v) = v
 place (StatementRecord s) = s
 place (BlockLayout s) = s
-place (Contradiction s) = s
 place (BoundsNotShown s p) = s
 place (BundleAccess s) = s
 place MemorySize = 0
@@ -43,7 +41,6 @@ pointer (ObjectLength o) = 0
 pointer (VariableRecord v) = 0
 pointer (StatementRecord s) = 0
 pointer (BlockLayout s) = 0
-pointer (Contradiction s) = 0
 pointer (BoundsNotShown s p) = p
 pointer (BundleAccess s) = 0
 pointer MemorySize = 0

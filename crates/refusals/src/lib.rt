@@ -10,7 +10,6 @@ pub enum Refusal {
     VariableRecord(usize),
     StatementRecord(usize),
     BlockLayout(usize),
-    Contradiction(usize),
     BoundsNotShown { statement: usize, pointer: usize },
     BundleAccess(usize),
     MemorySize,
@@ -29,7 +28,6 @@ pub fn refusal_number(r: Refusal) -> u32
         Refusal::VariableRecord(_) => 4,
         Refusal::StatementRecord(_) => 5,
         Refusal::BlockLayout(_) => 6,
-        Refusal::Contradiction(_) => 7,
         Refusal::BoundsNotShown {
             statement: _,
             pointer: _,
@@ -52,7 +50,6 @@ pub fn refusal_place(r: Refusal) -> usize
         Refusal::VariableRecord(v) => v,
         Refusal::StatementRecord(a) => a,
         Refusal::BlockLayout(a) => a,
-        Refusal::Contradiction(a) => a,
         Refusal::BoundsNotShown {
             statement,
             pointer: _,
@@ -76,7 +73,6 @@ pub fn refusal_pointer(r: Refusal) -> usize
         Refusal::VariableRecord(_) => 0,
         Refusal::StatementRecord(_) => 0,
         Refusal::BlockLayout(_) => 0,
-        Refusal::Contradiction(_) => 0,
         Refusal::BoundsNotShown {
             statement: _,
             pointer,

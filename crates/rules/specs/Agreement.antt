@@ -10,12 +10,10 @@ use lib.ListN.{length}
 use lib.Dec.{eqb}
 use Rattle.sums.specs.Numbers.{bias, zeroVar}
 use Rattle.arrays.specs.TabulateLaws.{tabulate-alike}
-use Rattle.facts.specs.Store.{contradictory}
 use Rattle.facts.specs.declared.FactSet.{FactSet}
 use Rattle.chains.specs.Facts.{Variables}
 use Rattle.chains.specs.History.{History}
 use Rattle.refusals.specs.declared.Refusal.{Refusal}
-use Rattle.refusals.specs.declared.Refusal.the-variants.{Contradiction}
 use Rattle.sections.specs.Typed.{IsSmall}
 use Rattle.sections.specs.declared.Sections.{Sections}
 use Rattle.conditions.specs.Negation.{negatedOf}
@@ -30,12 +28,11 @@ use Rattle.table.specs.Form.{formOf}
 use Rattle.table.specs.FormLaws.{Formed, well-formed}
 use Rattle.table.specs.declared.Form.{Form}
 use Rattle.table.specs.declared.Form.the-variants as form
-use Rattle.blocks.specs.Layout.{also, when, layout}
+use Rattle.blocks.specs.Layout.{also, layout}
 use Rattle.blocks.specs.Tree.{Block, nil, plain, branch, loop, bundle, unread, tree}
 use Rattle.flow.specs.Shape.{size, ReadsLine, Reads, Formed as Shaped}
-use Rattle.flow.specs.Targets.{targetsFrom}
 use Rattle.flow.specs.ShapeLaws.{table-laid}
-use Rattle.rules.specs.FactRules.{factsAfter, conditionFacts, loopFacts}
+use Rattle.rules.specs.FactRules.{factsAfter, conditionFacts}
 use Rattle.rules.specs.BoundsRules.{isPointer, declared, known, names, consIf, shiftEnd, shiftBounds, effectOn, boundsAfter, effect, endAtMost, knownAtMost, boundsShown, unshownFrom, unshown, accessShown}
 use Rattle.rules.specs.Rules.{accessAt, boundsAt, bundleFacts, bundleBounds, bundleFaults, blockFacts, blockFaults}
 use Rattle.rules.specs.Verdict.{environmentOf, sectionFaults, formFaults, faults, verdictOf}
@@ -43,7 +40,7 @@ use Rattle.rules.specs.RuleLaws.{no-first, no-rest}
 use Rattle.rules.specs.EnvironmentLaws.{environment-declares}
 use Rattle.rules.specs.Stored.{store}
 use Rattle.rules.specs.ByChains.{Decider, Decides, byChains, variables, DecidesTable}
-use Rattle.rules.specs.Representation.{Represents, represents-new, represents-join, contradictory-represented, shown-represented, end-represented, range-represented, condition-represented, negated-represented, after-represented, body-represented}
+use Rattle.rules.specs.Representation.{Represents, represents-new, represents-join, shown-represented, end-represented, range-represented, condition-represented, negated-represented, after-represented, body-represented}
 use Rattle.rules.specs.Fair.{FairKnown, FairBounds, FairAll, FairEffect, later, constant-moved, after-fair, declared-fair, statement-fair}
 use Rattle.rules.specs.declared.KnownEnd.{KnownEnd}
 use Rattle.rules.specs.declared.KnownEnd.the-variants.{Known, Unknown}
@@ -81,11 +78,6 @@ same-verdict [] [] s = refl
 same-verdict [] (y ∷ ys) s = absurd s
 same-verdict (x ∷ xs) [] s = absurd s
 same-verdict (x ∷ xs) (y ∷ ys) s = ap Refused s
-
-calm-of : (b : Bool) (r : Refusal) → when b r ≡ [] → b ≡ false
-unfolding when
-calm-of true r e = let o : _≡_ {A = ℕ} 0 1 = cc in absurd (omega arith)
-calm-of false r e = refl
 
 same-bounds : {a b c d : KnownEnd} → a ≡ c → b ≡ d → _≡_ {A = Bounds} (record { lower = a; upper = b }) (record { lower = c; upper = d })
 same-bounds p q = rw (p, q)
@@ -184,9 +176,6 @@ module _ (T : List ℤ) (h : Sections) (w : Formed T h) (q : Decider) (right : D
     access-agrees n K (Store p i k x) l a s = declared-agree n p K l (s .pointer .below) a
     access-agrees n K (Check c) l a s = refl
 
-    contradiction-agrees : (a : ℕ) → SameFirst (when (contradictory f) (Contradiction a)) (when (q .contradictory H) (Contradiction a))
-    contradiction-agrees a = same-of _ _ (ap (λ (b : Bool). when b (Contradiction a)) (contradictory-represented vars q right t))
-
   -- ---- a bundle, after n of its statements
 
   record LineAgrees (n a : ℕ) (ss : List Simple) (H : History) (f : FactSet) (K : List Bounds) : Type 0 where
@@ -196,19 +185,17 @@ module _ (T : List ℤ) (h : Sections) (w : Formed T h) (q : Decider) (right : D
     fair : bundleFaults store E a ss f K ≡ [] → FairAll vars (n + length ss) (bundleBounds store E ss f K)
 
   line-step : (n a : ℕ) (s : Simple) (ss : List Simple) {H : History} {f : FactSet} (K : List Bounds) → n ≤ 16 → SimpleTyped T h s → FairAll vars n K → Represents vars H f
-      → (contradictory f ≡ false → LineAgrees (n + 1) (a + 1) ss (factsAfter (byChains q) s H) (factsAfter store s f) (boundsAfter store (effect store E f s) K))
+      → LineAgrees (n + 1) (a + 1) ss (factsAfter (byChains q) s H) (factsAfter store s f) (boundsAfter store (effect store E f s) K)
       → LineAgrees n a (s ∷ ss) H f K
   unfolding bundleFaults bundleFacts bundleBounds
   line-step n a s ss {H} {f} K l y g t rest =
       let e : boundsAfter (byChains q) (effect (byChains q) E H s) K ≡ boundsAfter store (effect store E f s) K = after-agrees t n K s l g y in
       let m : n + suc (length ss) ≡ n + 1 + length ss = omega arith in
       record {
-        faults = same-also _ _ _ _ (contradiction-agrees t a)
-            (λ z. same-also _ _ _ _ (same-of _ _ (ap (λ (b : Bool). accessAt b a) (access-agrees t n K s l g y)))
-            (λ u. rw e (rest (calm-of _ _ z) .faults)));
-        represents = λ z. rest (calm-of _ _ (no-first _ _ z)) .represents (no-rest _ _ (no-rest _ _ z));
-        bounds = λ z. rw e (rest (calm-of _ _ (no-first _ _ z)) .bounds (no-rest _ _ (no-rest _ _ z)));
-        fair = λ z. rw m (rest (calm-of _ _ (no-first _ _ z)) .fair (no-rest _ _ (no-rest _ _ z)));
+        faults = same-also _ _ _ _ (same-of _ _ (ap (λ (b : Bool). accessAt b a) (access-agrees t n K s l g y))) (λ u. rw e (rest .faults));
+        represents = λ z. rest .represents (no-rest _ _ z);
+        bounds = λ z. rw e (rest .bounds (no-rest _ _ z));
+        fair = λ z. rw m (rest .fair (no-rest _ _ z));
       }
 
   line-agrees : (n a : ℕ) (ss : List Simple) {H : History} {f : FactSet} (K : List Bounds) → n + length ss ≤ 16 → ReadsLine T h a ss → FairAll vars n K → Represents vars H f → LineAgrees n a ss H f K
@@ -217,8 +204,8 @@ module _ (T : List ℤ) (h : Sections) (w : Formed T h) (q : Decider) (right : D
   line-agrees n a (s ∷ ss) {H} {f} K l r g t =
       let y = read-typed T h a (Plain s) (r .0) in
       line-step n a s ss K (omega arith) y g t
-      (λ c. line-agrees (n + 1) (a + 1) ss (boundsAfter store (effect store E f s) K) (omega arith) (r .1)
-      (after-fair vars n (effect store E f s) K (omega arith) (statement-fair T h w f s y) g) (after-represented T h (w .limits) q right t c s y))
+      (line-agrees (n + 1) (a + 1) ss (boundsAfter store (effect store E f s) K) (omega arith) (r .1)
+      (after-fair vars n (effect store E f s) K (omega arith) (statement-fair T h w f s y) g) (after-represented T h (w .limits) q right t s y))
 
   -- ---- a block
 
@@ -230,70 +217,64 @@ module _ (T : List ℤ) (h : Sections) (w : Formed T h) (q : Decider) (right : D
   bounds-fault a {ps} {qs} e = same-of _ _ (ap (boundsAt a) e)
 
   plain-agrees : (a : ℕ) (s : Simple) (r : Block) {H : History} {f : FactSet} → SimpleTyped T h s → Represents vars H f
-      → (contradictory f ≡ false → BlockAgrees r (factsAfter (byChains q) s H) (factsAfter store s f)) → BlockAgrees (plain a s r) H f
+      → BlockAgrees r (factsAfter (byChains q) s H) (factsAfter store s f) → BlockAgrees (plain a s r) H f
   unfolding blockFaults blockFacts
   plain-agrees a s r {H} {f} y t rest =
       let e : boundsAfter (byChains q) (effect (byChains q) E H s) (E .declared) ≡ boundsAfter store (effect store E f s) (E .declared) =
       after-agrees t 0 (E .declared) s (omega arith) (declared-fair T h w) y in
       record {
-        faults = same-also _ _ _ _ (contradiction-agrees t a) (λ z. let c = calm-of _ _ z in
-            same-also _ _ _ _
-            (rw e (bounds-fault a (unshown-agrees (after-represented T h (w .limits) q right t c s y) 1 _ (omega arith)
+        faults = same-also _ _ _ _
+            (rw e (bounds-fault a (unshown-agrees (after-represented T h (w .limits) q right t s y) 1 _ (omega arith)
             (after-fair vars 0 (effect store E f s) (E .declared) (omega arith) (statement-fair T h w f s y) (declared-fair T h w)))))
-            (λ u. rest c .faults));
-        represents = λ z. rest (calm-of _ _ (no-first _ _ z)) .represents (no-rest _ _ (no-rest _ _ z));
+            (λ u. rest .faults);
+        represents = λ z. rest .represents (no-rest _ _ z);
       }
 
-  bundle-agrees : (a : ℕ) (ss : List Simple) (r : Block) {H : History} {f : FactSet} → length ss ≤ 16 → LineAgrees 0 (a + 1) ss H f (E .declared) → Represents vars H f
+  bundle-agrees : (a : ℕ) (ss : List Simple) (r : Block) {H : History} {f : FactSet} → length ss ≤ 16 → LineAgrees 0 (a + 1) ss H f (E .declared)
       → (Represents vars (bundleFacts (byChains q) ss H) (bundleFacts store ss f) → BlockAgrees r (bundleFacts (byChains q) ss H) (bundleFacts store ss f)) → BlockAgrees (bundle a ss r) H f
   unfolding blockFaults blockFacts
-  bundle-agrees a ss r {H} {f} l i t rest =
+  bundle-agrees a ss r l i rest =
       record {
-        faults = same-also _ _ _ _ (contradiction-agrees t a) (λ z.
-            same-also _ _ _ _ (i .faults) (λ u.
+        faults = same-also _ _ _ _ (i .faults) (λ u.
             let b = i .bounds u in
-            same-also _ _ _ _ (rw b (bounds-fault a (unshown-agrees (i .represents u) (0 + length ss) _ (omega arith) (i .fair u)))) (λ v. rest (i .represents u) .faults)));
-        represents = λ z. let e = no-rest _ _ z in rest (i .represents (no-first _ _ e)) .represents (no-rest _ _ (no-rest _ _ e));
+            same-also _ _ _ _ (rw b (bounds-fault a (unshown-agrees (i .represents u) (0 + length ss) _ (omega arith) (i .fair u)))) (λ v. rest (i .represents u) .faults));
+        represents = λ z. rest (i .represents (no-first _ _ z)) .represents (no-rest _ _ (no-rest _ _ z));
       }
 
-  branch-agrees : (a : ℕ) (c : Condition) (x y u : Block) {H : History} {f : FactSet} → Represents vars H f
+  branch-agrees : (a : ℕ) (c : Condition) (x y u : Block) {H : History} {f : FactSet}
       → BlockAgrees x (conditionFacts (byChains q) H c) (conditionFacts store f c) → BlockAgrees y (conditionFacts (byChains q) H (negatedOf c)) (conditionFacts store f (negatedOf c))
       → ((G : History) (g : FactSet) → Represents vars G g → BlockAgrees u G g) → BlockAgrees (branch a c x y u) H f
   unfolding blockFaults blockFacts
-  branch-agrees a c x y u t i j rest =
+  branch-agrees a c x y u i j rest =
       record {
-        faults = same-also _ _ _ _ (contradiction-agrees t a) (λ z.
-            same-also _ _ _ _ (i .faults) (λ z₁. same-also _ _ _ _ (j .faults) (λ z₂. rest _ _ (represents-join vars (i .represents z₁) (j .represents z₂)) .faults)));
-        represents = λ z. let e₁ = no-rest _ _ z in let e₂ = no-rest _ _ e₁ in rest _ _ (represents-join vars (i .represents (no-first _ _ e₁)) (j .represents (no-first _ _ e₂))) .represents (no-rest _ _ e₂);
+        faults = same-also _ _ _ _ (i .faults) (λ z₁. same-also _ _ _ _ (j .faults) (λ z₂. rest _ _ (represents-join vars (i .represents z₁) (j .represents z₂)) .faults));
+        represents = λ z. let e = no-rest _ _ z in rest _ _ (represents-join vars (i .represents (no-first _ _ z)) (j .represents (no-first _ _ e))) .represents (no-rest _ _ e);
       }
 
   loop-agrees : (a : ℕ) (c : Condition) (n : ℕ) (x u : Block) {H : History} {f : FactSet} → Represents vars H f → Sides T h (c .left) (c .right) (c .offset)
       → ((G : History) (g : FactSet) → Represents vars G g → BlockAgrees x G g) → ((G : History) (g : FactSet) → Represents vars G g → BlockAgrees u G g) → BlockAgrees (loop a c n x u) H f
   unfolding blockFaults blockFacts
-  loop-agrees a c n x u {H} {f} t s body rest =
+  loop-agrees a c n x u t s body rest =
+      let l = body-represented T h (w .limits) q right t (a + 1) n in
       record {
-        faults = same-also _ _ _ _ (contradiction-agrees t a) (λ z. let l = left (calm-of _ _ z) in
-            same-also _ _ _ _ (body _ _ (condition-represented T h (w .limits) q right l c s) .faults) (λ z₁. rest _ _ (negated-represented T h (w .limits) q right l c s) .faults));
-        represents = λ z. rest _ _ (negated-represented T h (w .limits) q right (left (calm-of _ _ (no-first _ _ z))) c s) .represents (no-rest _ _ (no-rest _ _ z));
+        faults = same-also _ _ _ _ (body _ _ (condition-represented T h (w .limits) q right l c s) .faults) (λ z. rest _ _ (negated-represented T h (w .limits) q right l c s) .faults);
+        represents = λ z. rest _ _ (negated-represented T h (w .limits) q right l c s) .represents (no-rest _ _ z);
       }
-    where
-      left : contradictory f ≡ false → Represents vars (loopFacts (byChains q) (targetsFrom T h (a + 1) n) H) (loopFacts store (targetsFrom T h (a + 1) n) f)
-      left k = body-represented T h (w .limits) q right t k (a + 1) n
 
   block-agrees : (d : ℕ) (b : Block) {H : History} {f : FactSet} → Shaped d b → Reads T h b → Represents vars H f → BlockAgrees b H f
   unfolding blockFaults blockFacts
   block-agrees d nil o r t = record { faults = tt; represents = λ z. t }
   block-agrees d (plain a s u) o r t =
       let y = read-typed T h a (Plain s) (r .0) in
-      plain-agrees a s u y t (λ c. block-agrees d u (o .1) (r .1) (after-represented T h (w .limits) q right t c s y))
+      plain-agrees a s u y t (block-agrees d u (o .1) (r .1) (after-represented T h (w .limits) q right t s y))
   block-agrees d (branch a c x y u) o r t =
       let s = read-typed T h a (If c (size x) (size y)) (r .0) .condition .sides in
-      branch-agrees a c x y u t (block-agrees (d + 1) x (o .1) (r .1) (condition-represented T h (w .limits) q right t c s))
+      branch-agrees a c x y u (block-agrees (d + 1) x (o .1) (r .1) (condition-represented T h (w .limits) q right t c s))
       (block-agrees (d + 1) y (o .2) (r .2) (negated-represented T h (w .limits) q right t c s)) (λ G g t′. block-agrees d u (o .3) (r .3) t′)
   block-agrees d (loop a c n x u) o r t =
       loop-agrees a c n x u t (read-typed T h a (While c (size x)) (r .0) .condition .sides) (λ G g t′. block-agrees (d + 1) x (o .2) (r .1) t′) (λ G g t′. block-agrees d u (o .3) (r .2) t′)
   block-agrees d (bundle a ss u) o r t =
-      bundle-agrees a ss u (o .2) (line-agrees 0 (a + 1) ss (E .declared) (omega (arith, o .2)) (r .1) (declared-fair T h w) t) t (λ t′. block-agrees d u (o .3) (r .2) t′)
+      bundle-agrees a ss u (o .2) (line-agrees 0 (a + 1) ss (E .declared) (omega (arith, o .2)) (r .1) (declared-fair T h w) t) (λ t′. block-agrees d u (o .3) (r .2) t′)
   block-agrees d (unread a) o r t = absurd o
 
 -- ---- the whole table

@@ -7,7 +7,7 @@ use mathlib.Core.Bool.{Bool, true}
 use mathlib.Core.List.{List}
 use lib.IntN.{ℤ}
 use Rattle.sums.specs.Numbers.{bias}
-use Rattle.chains.specs.Facts.{Variables, Node, Shown, EndShown, Contradiction}
+use Rattle.chains.specs.Facts.{Variables, Node, Shown, EndShown}
 use Rattle.chains.specs.History.{History, new, add, drop, range, shift, join, known, Legal}
 use Rattle.refusals.specs.declared.Refusal.{Refusal}
 use Rattle.sections.specs.Sections.{Limits}
@@ -22,14 +22,12 @@ use Rattle.rules.specs.declared.Verdict.{Verdict}
 
 -- Answers to the questions about what is known after a history.
 pub record Decider : Type 0 where
-  pub contradictory : History → Bool
   pub shown : History → ℕ → ℕ → ℕ → Bool
   pub endShown : History → ℕ → ℕ → ℕ → ℕ → ℕ → ℕ → Bool
 
 -- The decider says yes exactly where the paper's sentence about chains of the known facts is true.
 -- (What it says after histories that no routine has, or of numbers that no variable has, is left open: no verdict depends on it.)
 pub record Decides (vars : Variables) (d : Decider) : Type 0 where
-  pub contradictory : (h : History) → Legal vars h → (d .contradictory h ≡ true) ↔ Contradiction (known vars h)
   pub shown : (h : History) → Legal vars h → (x y k : ℕ) → Node vars x → Node vars y → (d .shown h x y k ≡ true) ↔ Shown (known vars h) x y k
   pub endShown : (h : History) → Legal vars h → (q n k r m j : ℕ) → Node vars q → Node vars n → Node vars r → Node vars m
       → (d .endShown h q n k r m j ≡ true) ↔ EndShown (known vars h) q n k r m j
@@ -44,7 +42,6 @@ byChains d = record {
   ranged = range;
   shifted = shift;
   joined = λ pointer h g. join h g;
-  contradictory = d .contradictory;
   shown = d .shown;
   endShown = d .endShown;
   endLess = λ k e. Known (record { pointer = e .pointer; integer = e .integer; constant = e .constant + bias - k });

@@ -16,7 +16,7 @@ use Rattle.chains.specs.LeastSums.{LeastSums}
 use Rattle.chains.specs.Chains.{sinks}
 use Rattle.chains.specs.Exact.{Exact}
 use Rattle.chains.specs.History.{known}
-use Rattle.chains.specs.HistoryLaws.{made, exact, shows-exactly, contradicts-exactly}
+use Rattle.chains.specs.HistoryLaws.{made, exact, shows-exactly}
 use Rattle.table.specs.Form.{formOf}
 use Rattle.table.specs.declared.Form.{Form}
 use Rattle.table.specs.declared.Form.the-variants as form
@@ -48,14 +48,12 @@ end-test vars f K h q n k r m j hq hn hr hm = go (f .contradiction) refl
 
 abbrev storeDecider : (ℕ → Bool) → Decider
 storeDecider pointer = record {
-  contradictory = λ h. contradictory (made pointer h);
   shown = λ h. shown (made pointer h);
   endShown = λ h. endTest (made pointer h);
 }
 
 stored-decides : (vars : Variables) → Decides vars (storeDecider (vars .pointer))
 stored-decides vars = record {
-  contradictory = contradicts-exactly vars;
   shown = shows-exactly vars;
   endShown = λ h l. end-test vars (made (vars .pointer) h) (known vars h) (exact vars h l);
 }

@@ -18,7 +18,6 @@ pub record FactSets : Type 1 where
   pub shifted : Facts → ℕ → ℕ → Facts
   -- What both sides show; which variables are pointers.
   pub joined : (ℕ → Bool) → Facts → Facts → Facts
-  pub contradictory : Facts → Bool
   -- shown f x y k: x <= y + k
   pub shown : Facts → ℕ → ℕ → ℕ → Bool
   -- endShown f q n k r m j: the end (q, n, k) is at most the end (r, m, j).

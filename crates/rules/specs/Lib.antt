@@ -9,6 +9,7 @@ pub mod FactRules
 pub mod BoundsRules
 pub mod Rules
 pub mod Verdict
+pub mod FactsBefore
 pub mod Ranges
 pub mod RuleLaws
 pub mod AcceptedLaws

@@ -11,12 +11,11 @@ use lib.IntN.{ℤ}
 use Rattle.sums.specs.Numbers.{bias, maxValue, zeroVar}
 use Rattle.sums.specs.Sums.{roomAbove}
 use Rattle.arrays.specs.TabulateLaws.{getD-tabulate}
-use Rattle.facts.specs.Store.{contradictory, shown, endShown, newSet, added, dropped, ranged, shifted, joined}
-use Rattle.facts.specs.StoreLaws.{mark-dropped}
-use Rattle.chains.specs.Facts.{Variables, Node, Comparable, same-kind, from-zero, to-zero, Known, empty, EndShown, Contradiction}
+use Rattle.facts.specs.Store.{shown, endShown, newSet, added, dropped, ranged, shifted, joined}
+use Rattle.chains.specs.Facts.{Variables, Node, Comparable, same-kind, from-zero, to-zero, Known, empty, EndShown}
 use Rattle.chains.specs.Exact.{Exact, end-exact}
-use Rattle.chains.specs.History.{History, new, add, drop, range, shift, join, known, Legal, Another, Slight}
-use Rattle.chains.specs.HistoryLaws.{made, exact, shows-exactly, contradicts-exactly}
+use Rattle.chains.specs.History.{History, new, add, drop, range, shift, join, known, Legal, Slight}
+use Rattle.chains.specs.HistoryLaws.{made, exact, shows-exactly}
 use Rattle.facts.specs.declared.FactSet.{FactSet}
 use Rattle.sections.specs.Sections.{kindAt, integerAt, pointerAt, Limits}
 use Rattle.sections.specs.SectionsLaws.{both}
@@ -94,26 +93,17 @@ module _ (vars : Variables) where
     represents-shift : (x k : ℕ) → x < vars .count → Slight k → Represents vars (shift H x k) (shifted f x k)
     represents-shift x k h s = record { legal = (t .legal, h, s); same = ap (λ (s : FactSet). shifted s x k) (t .same) }
 
-    module _ (calm : contradictory f ≡ false) where
-      consistent : (x : ℕ) → Contradiction (known vars H) → Another vars x
-      consistent x c =
-          let e : made (vars .pointer) H .contradiction ≡ f .contradiction = ap (λ (s : FactSet). s .contradiction) (t .same) in
-          absurd (false≢true (sym calm ∙ (sym e ∙ contradicts-exactly vars H (t .legal) .1 c)))
+    represents-drop : (x : ℕ) → x < vars .count → Represents vars (drop H x) (dropped f x)
+    represents-drop x h = record { legal = (t .legal, h); same = ap (λ (s : FactSet). dropped s x) (t .same) }
 
-      represents-drop : (x : ℕ) → x < vars .count → Represents vars (drop H x) (dropped f x)
-      represents-drop x h = record { legal = (t .legal, h, consistent x); same = ap (λ (s : FactSet). dropped s x) (t .same) }
-
-      represents-range : (x bottom top : ℕ) → x < vars .count → bottom ≤ top → top ≤ maxValue → Represents vars (range H x bottom top) (ranged f x bottom top)
-      represents-range x bottom top h l m = record { legal = (t .legal, h, consistent x, l, m); same = ap (λ (s : FactSet). ranged s x bottom top) (t .same) }
+    represents-range : (x bottom top : ℕ) → x < vars .count → bottom ≤ top → top ≤ maxValue → Represents vars (range H x bottom top) (ranged f x bottom top)
+    represents-range x bottom top h l m = record { legal = (t .legal, h, l, m); same = ap (λ (s : FactSet). ranged s x bottom top) (t .same) }
 
   -- ---- the rules over the paper's facts
 
   module _ (q : Decider) (right : Decides vars q) where
     -- What is asked.
     module _ {H : History} {f : FactSet} (t : Represents vars H f) where
-      pub contradictory-represented : contradictory f ≡ q .contradictory H
-      contradictory-represented = let e = t .same in rw e at (same-test (contradictory (made (vars .pointer) H)) (q .contradictory H) (contradicts-exactly vars H (t .legal)) (right .contradictory H (t .legal)))
-
       pub shown-represented : (x y k : ℕ) → Node vars x → Node vars y → shown f x y k ≡ q .shown H x y k
       shown-represented x y k hx hy =
           let e = t .same in
@@ -149,23 +139,18 @@ module _ (vars : Variables) where
       represents-relation (suc (suc (suc (suc (suc n))))) = represents-pick (eqb y zeroVar && eqb k 0) (represents-positive t x h) t
 
     -- Variables dropped before a loop.
-    record Calm (H : History) (f : FactSet) : Type 0 where
-      represents : Represents vars H f
-      calm : contradictory f ≡ false
+    represents-dropped : (b : Bool) {H : History} {f : FactSet} (n : ℕ) → (b ≡ true → n < vars .count) → Represents vars H f → Represents vars (cond b (drop H n) H) (cond b (dropped f n) f)
+    represents-dropped true n h t = represents-drop t n (h refl)
+    represents-dropped false n h t = t
 
-    calm-pick : (b : Bool) {H : History} {f : FactSet} (n : ℕ) → (b ≡ true → n < vars .count) → Calm H f → Calm (cond b (drop H n) H) (cond b (dropped f n) f)
-    calm-pick true {H} {f} n h c = record { represents = represents-drop (c .represents) (c .calm) n (h refl); calm = mark-dropped f n ∙ c .calm }
-    calm-pick false n h c = c
-
-    calm-dropped : (n : ℕ) (lost : ℕ → Bool) {H : History} {f : FactSet} → ((v : ℕ) → lost v ≡ true → v < vars .count) → Calm H f → Calm (droppedEach (byChains q) n lost H) (droppedEach store n lost f)
+    represents-each : (n : ℕ) (lost : ℕ → Bool) {H : History} {f : FactSet} → ((v : ℕ) → lost v ≡ true → v < vars .count) → Represents vars H f → Represents vars (droppedEach (byChains q) n lost H) (droppedEach store n lost f)
     unfolding droppedEach
-    calm-dropped zero lost h c = c
-    calm-dropped (suc n) lost h c = calm-pick (lost n) n (h n) (calm-dropped n lost h c)
+    represents-each zero lost h t = t
+    represents-each (suc n) lost h t = represents-dropped (lost n) n (h n) (represents-each n lost h t)
 
-    represents-loop : {H : History} {f : FactSet} (xs : List ℕ) → ((v : ℕ) → among v xs ≡ true → v < vars .count) → Represents vars H f → contradictory f ≡ false
-        → Represents vars (loopFacts (byChains q) xs H) (loopFacts store xs f)
+    represents-loop : {H : History} {f : FactSet} (xs : List ℕ) → ((v : ℕ) → among v xs ≡ true → v < vars .count) → Represents vars H f → Represents vars (loopFacts (byChains q) xs H) (loopFacts store xs f)
     unfolding loopFacts
-    represents-loop xs h t c = calm-dropped 16 (λ v. among v xs) h (record { represents = t; calm = c }) .represents
+    represents-loop xs h t = represents-each 16 (λ v. among v xs) h t
 
 -- ---- the variables of a table
 
@@ -271,28 +256,28 @@ module _ (T : List ℤ) (h : Sections) (w : Limits h) where
     unfolding negatedOf
     negated-represented t c s = condition-represented t (negatedOf c) s
 
-    pub after-represented : {H : History} {f : FactSet} → Represents vars H f → contradictory f ≡ false → (s : Simple) → SimpleTyped T h s → Represents vars (factsAfter (byChains q) s H) (factsAfter store s f)
+    pub after-represented : {H : History} {f : FactSet} → Represents vars H f → (s : Simple) → SimpleTyped T h s → Represents vars (factsAfter (byChains q) s H) (factsAfter store s f)
     unfolding factsAfter sumFacts offsetFacts
-    after-represented t c (Literal x k) s = represents-range vars t c x k k (s .target .below) (omega arith) (omega (arith, s .value))
-    after-represented {H} {f} t c (AddConstant x y k) s =
-        let d = represents-drop vars t c x (s .target .below) in
+    after-represented t (Literal x k) s = represents-range vars t x k k (s .target .below) (omega arith) (omega (arith, s .value))
+    after-represented {H} {f} t (AddConstant x y k) s =
+        let d = represents-drop vars t x (s .target .below) in
         let e : inRange store f y k ≡ inRange (byChains q) H y k = range-represented vars q right t y k (inr (s .source .below)) in
         rw (← e) (represents-pick vars (inRange store f y k)
         (represents-pick vars (eqb x y) (represents-shift vars t x k (s .target .below) (slight (s .constant)))
         (represents-equated vars q right d x y k (two-integers (s .target) (s .source)) (two-integers (s .source) (s .target))))
         d)
-    after-represented t c (Arithmetic x y z op) s = represents-drop vars t c x (s .target .below)
-    after-represented t c (Null p) s = represents-range vars t c p 0 0 (s .below) (omega arith) (omega arith)
-    after-represented t c (Address p o) s = represents-range vars t c p 1 maxValue (s .target .below) (omega arith) (omega arith)
-    after-represented t c (PointerOffset p r k) s =
+    after-represented t (Arithmetic x y z op) s = represents-drop vars t x (s .target .below)
+    after-represented t (Null p) s = represents-range vars t p 0 0 (s .below) (omega arith) (omega arith)
+    after-represented t (Address p o) s = represents-range vars t p 1 maxValue (s .target .below) (omega arith) (omega arith)
+    after-represented t (PointerOffset p r k) s =
         let moved = represents-pick vars (eqb p r) (represents-shift vars t p k (s .target .below) (slight (s .constant)))
-        (represents-equated vars q right (represents-drop vars t c p (s .target .below)) p r k (two-pointers (s .target) (s .source)) (two-pointers (s .source) (s .target))) in
+        (represents-equated vars q right (represents-drop vars t p (s .target .below)) p r k (two-pointers (s .target) (s .source)) (two-pointers (s .source) (s .target))) in
         represents-pick vars (eqb k bias) moved (represents-positive vars q right moved p (s .target .below))
-    after-represented t c (PointerIndex p r i) s = represents-range vars t c p 1 maxValue (s .target .below) (omega arith) (omega arith)
-    after-represented t c (Load x p i k) s = represents-drop vars t c x (s .value .below)
-    after-represented t c (Store p i k x) s = t
-    after-represented t c (Check d) s = condition-represented t d (s .sides)
+    after-represented t (PointerIndex p r i) s = represents-range vars t p 1 maxValue (s .target .below) (omega arith) (omega arith)
+    after-represented t (Load x p i k) s = represents-drop vars t x (s .value .below)
+    after-represented t (Store p i k x) s = t
+    after-represented t (Check d) s = condition-represented t d (s .sides)
 
-    pub body-represented : {H : History} {f : FactSet} → Represents vars H f → contradictory f ≡ false → (a n : ℕ)
+    pub body-represented : {H : History} {f : FactSet} → Represents vars H f → (a n : ℕ)
         → Represents vars (loopFacts (byChains q) (targetsFrom T h a n) H) (loopFacts store (targetsFrom T h a n) f)
-    body-represented t c a n = represents-loop vars q right (targetsFrom T h a n) (λ v e. targets-below v a n e) t c
+    body-represented t a n = represents-loop vars q right (targetsFrom T h a n) (λ v e. targets-below v a n e) t

@@ -25,7 +25,7 @@ use Rattle.rules.specs.Verdict.{environmentOf, verdictOf}
 use Rattle.rules.specs.ByChains.{Decided, chainFaults}
 use Rattle.rules.specs.Decidable.{decided}
 use Rattle.rules.specs.Agreement.{verdict-agrees}
-use Rattle.refusals.specs.declared.Refusal.the-variants.{Contradiction, BoundsNotShown, BundleAccess}
+use Rattle.refusals.specs.declared.Refusal.the-variants.{BoundsNotShown, BundleAccess}
 use Rattle.rules.specs.declared.Verdict.{Verdict}
 use Rattle.rules.specs.declared.Verdict.the-variants.{Accepted, Refused}
 use Rattle.rules.specs.BoundsRules as boundsRules
@@ -75,9 +75,9 @@ routines =
     -- (k) while n > 0, n := n - 1
     routine (pos 6 ∷ pos 0 ∷ pos 6 ∷ pos 16 ∷ pos 22 ∷ pos 14 ∷ pos 1 ∷ pos 0 ∷ pos 0 ∷ negsuc 0 ∷ pos 0 ∷ pos 0 ∷ pos 1 ∷ pos 0 ∷ pos 0 ∷ pos 0 ∷ pos 0 ∷ pos 0 ∷ pos 0 ∷ pos 0 ∷ pos 0 ∷ pos 0 ∷ pos 12 ∷ pos 1 ∷ pos 2 ∷ pos 1 ∷ pos 0 ∷ pos 1 ∷ pos 0 ∷ pos 2 ∷ pos 1 ∷ pos 1 ∷ negsuc 0 ∷ pos 0 ∷ pos 0 ∷ pos 0 ∷ [])
     (Accepted) ∷
-    -- (l) check n < n, then any statement
+    -- (l) check n < n, then any statement. Point 11: "Routine (l) is accepted if nothing else is wrong with it."
     routine (pos 6 ∷ pos 0 ∷ pos 6 ∷ pos 16 ∷ pos 22 ∷ pos 14 ∷ pos 1 ∷ pos 0 ∷ pos 0 ∷ negsuc 0 ∷ pos 0 ∷ pos 0 ∷ pos 1 ∷ pos 0 ∷ pos 0 ∷ pos 0 ∷ pos 0 ∷ pos 0 ∷ pos 0 ∷ pos 0 ∷ pos 0 ∷ pos 0 ∷ pos 10 ∷ pos 1 ∷ pos 0 ∷ pos 0 ∷ pos 1 ∷ pos 0 ∷ pos 0 ∷ pos 1 ∷ pos 1 ∷ pos 0 ∷ pos 0 ∷ pos 0 ∷ pos 0 ∷ pos 0 ∷ [])
-    (Refused (Contradiction 1)) ∷
+    (Accepted) ∷
     []
 
 computed : map (λ (r : Routine). verdictOf (faults (r .table))) routines ≡ map (λ (r : Routine). r .verdict) routines

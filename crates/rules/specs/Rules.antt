@@ -4,12 +4,12 @@ use mathlib.Core.Bool.{Bool, true, false}
 use mathlib.Core.List.{List, [], _∷_}
 use lib.IntN.{ℤ}
 use Rattle.refusals.specs.declared.Refusal.{Refusal}
-use Rattle.refusals.specs.declared.Refusal.the-variants.{StatementRecord, Contradiction, BoundsNotShown, BundleAccess}
+use Rattle.refusals.specs.declared.Refusal.the-variants.{StatementRecord, BoundsNotShown, BundleAccess}
 use Rattle.sections.specs.declared.Sections.{Sections}
 use Rattle.conditions.specs.Negation.{negatedOf}
 use Rattle.statements.specs.declared.Simple.{Simple}
 use Rattle.blocks.specs.Tree.{Block, nil, plain, branch, loop, bundle, unread}
-use Rattle.blocks.specs.Layout.{also, when}
+use Rattle.blocks.specs.Layout.{also}
 use Rattle.flow.specs.Targets.{targetsFrom}
 use Rattle.rules.specs.FactSets.{FactSets}
 use Rattle.rules.specs.FactRules.{factsAfter, conditionFacts, loopFacts}
@@ -30,11 +30,7 @@ boundsAt a [] = []
 boundsAt a (p ∷ ps) = BoundsNotShown a p ∷ []
 
 module _ (S : FactSets) where
-  open FactSets S using (Facts, joined, contradictory)
-
-  -- "facts contradict before a statement"
-  abbrev pub contradictionAt : Facts → ℕ → List Refusal
-  contradictionAt f a = when (contradictory f) (Contradiction a)
+  open FactSets S using (Facts, joined)
 
   -- ---- the statements of a bundle, from number a on
 
@@ -49,7 +45,7 @@ module _ (S : FactSets) where
   unfoldable pub bundleFaults : Environment → ℕ → List Simple → Facts → List Bounds → List Refusal
   bundleFaults E a [] f K = []
   bundleFaults E a (s ∷ ss) f K =
-      also (contradictionAt f a) (also (accessAt (accessShown S E f K s) a) (bundleFaults E (a + 1) ss (factsAfter S s f) (boundsAfter S (effect S E f s) K)))
+      also (accessAt (accessShown S E f K s) a) (bundleFaults E (a + 1) ss (factsAfter S s f) (boundsAfter S (effect S E f s) K))
 
   -- ---- blocks. Outside a bundle the known bounds are the declared ones: "all declared bounds must be shown and become the known ones".
 
@@ -67,23 +63,21 @@ module _ (S : FactSets) where
     blockFacts (bundle a ss r) f = blockFacts r (bundleFacts ss f)
     blockFacts (unread a) f = f
 
-    -- All faults of a block in table order: "statements in table order: 7, 9, the statement, 8".
+    -- All faults of a block in table order: "statements in table order: 9, the statement, 8". Point 11: "A statement whose facts contradict is now walked
+    -- like any other, with every fact shown."
     unfoldable pub blockFaults : Block → Facts → List Refusal
     blockFaults nil f = []
     blockFaults (plain a s r) f =
-        also (contradictionAt f a) (also (boundsAt a (unshown S E (factsAfter S s f) (boundsAfter S (effect S E f s) (E .declared)))) (blockFaults r (factsAfter S s f)))
+        also (boundsAt a (unshown S E (factsAfter S s f) (boundsAfter S (effect S E f s) (E .declared)))) (blockFaults r (factsAfter S s f))
     blockFaults (branch a c t e r) f =
-        also (contradictionAt f a)
-        (also (blockFaults t (conditionFacts S f c))
+        also (blockFaults t (conditionFacts S f c))
         (also (blockFaults e (conditionFacts S f (negatedOf c)))
-        (blockFaults r (sidesJoined (blockFacts t (conditionFacts S f c)) (blockFacts e (conditionFacts S f (negatedOf c)))))))
+        (blockFaults r (sidesJoined (blockFacts t (conditionFacts S f c)) (blockFacts e (conditionFacts S f (negatedOf c))))))
     blockFaults (loop a c n t r) f =
-        also (contradictionAt f a)
-        (also (blockFaults t (conditionFacts S (loopFacts S (targetsFrom T h (a + 1) n) f) c))
-        (blockFaults r (conditionFacts S (loopFacts S (targetsFrom T h (a + 1) n) f) (negatedOf c))))
+        also (blockFaults t (conditionFacts S (loopFacts S (targetsFrom T h (a + 1) n) f) c))
+        (blockFaults r (conditionFacts S (loopFacts S (targetsFrom T h (a + 1) n) f) (negatedOf c)))
     blockFaults (bundle a ss r) f =
-        also (contradictionAt f a)
-        (also (bundleFaults E (a + 1) ss f (E .declared))
+        also (bundleFaults E (a + 1) ss f (E .declared))
         (also (boundsAt a (unshown S E (bundleFacts ss f) (bundleBounds E ss f (E .declared))))
-        (blockFaults r (bundleFacts ss f))))
+        (blockFaults r (bundleFacts ss f)))
     blockFaults (unread a) f = StatementRecord a ∷ []

@@ -43,7 +43,6 @@ store = record {
   ranged = sets.ranged;
   shifted = sets.shifted;
   joined = sets.joined;
-  contradictory = sets.contradictory;
   shown = sets.shown;
   -- The same end is at most itself, by two empty chains: the facts need not be asked.
   endShown = λ f q n k r m j. eqb q r && eqb n m && eqb k j || sets.endShown f q n k r m j;
@@ -118,9 +117,6 @@ abbrev pub accessShown : Environment → FactSet → List Bounds → Simple → 
 accessShown = bounds.accessShown store
 
 -- ---- the walk
-
-abbrev pub contradictionAt : FactSet → ℕ → List Refusal
-contradictionAt = walk.contradictionAt store
 
 abbrev pub bundleFacts : List Simple → FactSet → FactSet
 bundleFacts = walk.bundleFacts store

@@ -7,7 +7,7 @@ use native.Mathlib.Omega.{arith}
 use Rattle.statements.specs.declared.StatementRead.the-variants.{Read}
 use Rattle.statements.specs.StatementLaws.{read-within, read-limits}
 use Rattle.effects.specs.FactRulesLaws.{carried-out, read-ranged}
-use Rattle.bundles.specs.BundleLaws.{Held, held-none, held-done, held-unread, held-other, held-contrary, held-access, held-more, applied-facts, applied-effect, applied-short}
+use Rattle.bundles.specs.BundleLaws.{Held, held-none, held-done, held-unread, held-other, held-access, held-more, applied-facts, applied-effect, applied-short}
 use Rattle.blocks.proofs.Variants.{not-plain}
 use Rattle.bundles.proofs.walk_bundle.Statement.{statement}
 use Rattle.bundles.proofs.walk_bundle.Tie as tie
@@ -24,16 +24,15 @@ walk-bundle-spec =
     (tie.spec
     Inv-loop μ-loop (λ c. search needs)
     (λ c. held-none _ _ _ _ _ _ _)
-    (λ c κs. search needs) (λ c. search needs) (λ c. search needs) (λ c. search needs) (λ c κs. search needs)
-    (λ c. held-contrary (c .before .before .before .before .before .before .before .before .before .before .loop .inv) (c .before .before .before .before .before .before .before .before .before .loop-test .taken) (sym (c .before .before .before .before .before .before .before .before .read-due .ensures) ∙ (c .before .before .before .before .before .before .got .given .1)) (c .before .before .before .statement .given .1) (sym (c .before .contradicts .ensures) ∙ (c .if1 .taken)) refl)
+    (λ c κs. search needs) (λ c. search needs) (λ c. search needs) (λ c. search needs)
     (λ c κs. search needs)
-    (λ c. held-access (c .before .before .before .before .before .before .before .before .before .before .before .before .loop .inv) (c .before .before .before .before .before .before .before .before .before .before .before .loop-test .taken) (sym (c .before .before .before .before .before .before .before .before .before .before .read-due .ensures) ∙ (c .before .before .before .before .before .before .before .before .got .given .1)) (c .before .before .before .before .before .statement .given .1) (sym (c .before .before .before .contradicts .ensures) ∙ (c .before .before .if1 .left)) (c .before .access-shown .ensures) (not-true _ (c .if2 .taken)) refl)
+    (λ c. held-access (c .before .before .before .before .before .before .before .before .before .before .loop .inv) (c .before .before .before .before .before .before .before .before .before .loop-test .taken) (sym (c .before .before .before .before .before .before .before .before .read-due .ensures) ∙ (c .before .before .before .before .before .before .got .given .1)) (c .before .before .before .statement .given .1) (c .before .access-shown .ensures) (not-true _ (c .if1 .taken)) refl)
     (λ c κs. search needs) (λ c κs. search needs)
-    (λ c κs. (read-ranged _ _ _ _ (sym (c .before .before .before .before .before .before .before .before .before .before .before .before .read-due .ensures) ∙ (c .before .before .before .before .before .before .before .before .before .before .got .given .1) ∙ ap Read (c .before .before .before .before .before .before .before .statement .given .1))))
-    (λ c κs. applied-short (c .before .before .before .before .before .before .before .before .before .before .before .before .before .before .before .before .before .before .args .environment) _ _ (carried-out _ _ _ _ (c .before .before .asked-sum .ensures) (c .before .in-range .ensures) (c .plan-statement .ensures) refl) (c .before .before .before .before .before .before .before .before .before .before .before .before .before .before .before .before .before .before .pre .0) (read-ranged _ _ _ _ (sym (c .before .before .before .before .before .before .before .before .before .before .before .before .before .read-due .ensures) ∙ (c .before .before .before .before .before .before .before .before .before .before .before .got .given .1) ∙ ap Read (c .before .before .before .before .before .before .before .before .statement .given .1))))
+    (λ c κs. (read-ranged _ _ _ _ (sym (c .before .before .before .before .before .before .before .before .before .before .read-due .ensures) ∙ (c .before .before .before .before .before .before .before .before .got .given .1) ∙ ap Read (c .before .before .before .before .before .statement .given .1))))
+    (λ c κs. applied-short (c .before .before .before .before .before .before .before .before .before .before .before .before .before .before .before .before .args .environment) _ _ (carried-out _ _ _ _ (c .before .before .asked-sum .ensures) (c .before .in-range .ensures) (c .plan-statement .ensures) refl) (c .before .before .before .before .before .before .before .before .before .before .before .before .before .before .before .before .pre .0) (read-ranged _ _ _ _ (sym (c .before .before .before .before .before .before .before .before .before .before .before .read-due .ensures) ∙ (c .before .before .before .before .before .before .before .before .before .got .given .1) ∙ ap Read (c .before .before .before .before .before .before .statement .given .1))))
     (λ c κs. search needs)
-    (λ c. omega (arith, read-within _ _ _ _ (sym (c .before .before .before .before .before .before .before .before .before .before .before .before .before .before .before .read-due .ensures) ∙ (c .before .before .before .before .before .before .before .before .before .before .before .before .before .got .given .1)), read-limits _ _ _ _ (sym (c .before .before .before .before .before .before .before .before .before .before .before .before .before .before .before .read-due .ensures) ∙ (c .before .before .before .before .before .before .before .before .before .before .before .before .before .got .given .1))))
-    (λ c. omega (arith, (c .before .before .before .before .before .before .before .before .before .before .before .before .before .before .before .before .loop-test .taken))) (λ c. omega (arith, (c .before .before .before .before .before .before .before .before .before .before .before .before .before .before .before .before .loop-test .taken)))
-    (λ c. held-more (c .before .before .before .before .before .before .before .before .before .before .before .before .before .before .before .before .before .loop .inv) (c .before .before .before .before .before .before .before .before .before .before .before .before .before .before .before .before .loop-test .taken) (sym (c .before .before .before .before .before .before .before .before .before .before .before .before .before .before .before .read-due .ensures) ∙ (c .before .before .before .before .before .before .before .before .before .before .before .before .before .got .given .1)) (c .before .before .before .before .before .before .before .before .before .before .statement .given .1) (sym (c .before .before .before .before .before .before .before .before .contradicts .ensures) ∙ (c .before .before .before .before .before .before .before .if1 .left)) (c .before .before .before .before .before .before .access-shown .ensures) (not-false _ (c .before .before .before .before .before .if2 .left)) (applied-facts (c .before .before .before .before .before .before .before .before .before .before .before .before .before .before .before .before .before .before .before .before .args .environment) _ _ (carried-out _ _ _ _ (c .before .before .before .before .asked-sum .ensures) (c .before .before .before .in-range .ensures) (c .before .before .plan-statement .ensures) (c .after .ensures))) (applied-effect (c .before .before .before .before .before .before .before .before .before .before .before .before .before .before .before .before .before .before .before .before .args .environment) _ _ (carried-out _ _ _ _ (c .before .before .before .before .asked-sum .ensures) (c .before .before .before .in-range .ensures) (c .before .before .plan-statement .ensures) (c .after .ensures))) (c .before .bounds-after .ensures))
+    (λ c. omega (arith, read-within _ _ _ _ (sym (c .before .before .before .before .before .before .before .before .before .before .before .before .before .read-due .ensures) ∙ (c .before .before .before .before .before .before .before .before .before .before .before .got .given .1)), read-limits _ _ _ _ (sym (c .before .before .before .before .before .before .before .before .before .before .before .before .before .read-due .ensures) ∙ (c .before .before .before .before .before .before .before .before .before .before .before .got .given .1))))
+    (λ c. omega (arith, (c .before .before .before .before .before .before .before .before .before .before .before .before .before .before .loop-test .taken))) (λ c. omega (arith, (c .before .before .before .before .before .before .before .before .before .before .before .before .before .before .loop-test .taken)))
+    (λ c. held-more (c .before .before .before .before .before .before .before .before .before .before .before .before .before .before .before .loop .inv) (c .before .before .before .before .before .before .before .before .before .before .before .before .before .before .loop-test .taken) (sym (c .before .before .before .before .before .before .before .before .before .before .before .before .before .read-due .ensures) ∙ (c .before .before .before .before .before .before .before .before .before .before .before .got .given .1)) (c .before .before .before .before .before .before .before .before .statement .given .1) (c .before .before .before .before .before .before .access-shown .ensures) (not-false _ (c .before .before .before .before .before .if1 .left)) (applied-facts (c .before .before .before .before .before .before .before .before .before .before .before .before .before .before .before .before .before .before .args .environment) _ _ (carried-out _ _ _ _ (c .before .before .before .before .asked-sum .ensures) (c .before .before .before .in-range .ensures) (c .before .before .plan-statement .ensures) (c .after .ensures))) (applied-effect (c .before .before .before .before .before .before .before .before .before .before .before .before .before .before .before .before .before .before .args .environment) _ _ (carried-out _ _ _ _ (c .before .before .before .before .asked-sum .ensures) (c .before .before .before .in-range .ensures) (c .before .before .plan-statement .ensures) (c .after .ensures))) (c .before .bounds-after .ensures))
     (λ c κs. search needs)
     (λ c. ⊎-elim (λ w. held-done (c .before .before .loop .inv) (w .left) (c .end-bundle .ensures)) (⊎-elim (λ w. held-unread (c .before .before .loop .inv) (w .0 .taken) (sym (w .1 .ensures) ∙ w .3 .given .1) (c .end-bundle .ensures)) (λ w. held-other (c .before .before .loop .inv) (w .0 .taken) (sym (w .1 .ensures) ∙ w .3 .given .1) (not-plain _ (w .5 .keys2)) (c .end-bundle .ensures))) (c .before .loop-test .came)))

@@ -9,7 +9,7 @@ use borrow.Fn.PlainCycle.{Measures, is, falls, and}
 use Rattle.blocks.specs.Tree.{parse}
 use Rattle.effects.specs.FactRulesLaws.{carried-out}
 use Rattle.bundles.specs.BundleLaws.{applied-short}
-use Rattle.checker.specs.WalkLaws.{Kept, Turn, arm, placed, falls as left-falls, negated-offset, if-counts, while-count, bundle-count, if-offset, while-offset, plain-ranged, kept-none, kept-done, kept-end, kept-unread, turn-contrary, plain-refused, turn-plain, turn-untouched, then-refused, else-refused, turn-if, body-refused, turn-while, bundle-refused, turn-bundle}
+use Rattle.checker.specs.WalkLaws.{Kept, Turn, arm, placed, falls as left-falls, negated-offset, if-counts, while-count, bundle-count, if-offset, while-offset, plain-ranged, kept-none, kept-done, kept-end, kept-unread, plain-refused, turn-plain, turn-untouched, then-refused, else-refused, turn-if, body-refused, turn-while, bundle-refused, turn-bundle}
 use Rattle.checker.proofs.walk.walk.Reads as walk
 use Rattle.checker.proofs.walk.walk.Kinds as walk-kinds
 use Rattle.checker.proofs.walk.+walk.Lts-walk as walk-lts
@@ -22,7 +22,6 @@ use Rattle.effects.proofs.assume.Reads as assume-reads
 use Rattle.declared.proofs.check_effect.Reads as check-effect-reads
 use Rattle.loops.proofs.lose.Reads as lose-reads
 use Rattle.bundles.proofs.walk_bundle.Reads as walk-bundle-reads
-use Rattle.facts.proofs.FactSet.contradicts.Reads as contradicts-reads
 use Rattle.facts.proofs.FactSet.join.Reads as join-reads
 use Rattle.conditions.proofs.negated.Reads as negated-reads
 use Rattle.reader.proofs.read_due.Reads as read-due-reads
@@ -39,7 +38,7 @@ abbrev walk-below : ℕ → In 1 walk-kinds.ps
 walk-below t = and 1 walk-kinds.ps (falls 1 walk-kinds.ps _<_ μ-walk t) walk.Pre
 
 abbrev callees : ℕ → walk-lts.Claims
-callees t = (read-due-reads.Asked, read-due-reads.Learnt, contradicts-reads.Asked, contradicts-reads.Learnt, asked-sum-reads.Asked, asked-sum-reads.Learnt, in-range-reads.Asked, in-range-reads.Learnt, plan-statement-reads.Asked, plan-statement-reads.Learnt, after-reads.Asked, after-reads.Learnt, touches-reads.Asked, touches-reads.Learnt, check-effect-reads.Asked, check-effect-reads.Learnt, assume-reads.Asked, assume-reads.Learnt, walk-below t, walk.Post, negated-reads.Asked, negated-reads.Learnt, join-reads.Asked, join-reads.Learnt, lose-reads.Asked, lose-reads.Learnt, walk-bundle-reads.Asked, walk-bundle-reads.Learnt)
+callees t = (read-due-reads.Asked, read-due-reads.Learnt, asked-sum-reads.Asked, asked-sum-reads.Learnt, in-range-reads.Asked, in-range-reads.Learnt, plan-statement-reads.Asked, plan-statement-reads.Learnt, after-reads.Asked, after-reads.Learnt, touches-reads.Asked, touches-reads.Learnt, check-effect-reads.Asked, check-effect-reads.Learnt, assume-reads.Asked, assume-reads.Learnt, walk-below t, walk.Post, negated-reads.Asked, negated-reads.Learnt, join-reads.Asked, join-reads.Learnt, lose-reads.Asked, lose-reads.Learnt, walk-bundle-reads.Asked, walk-bundle-reads.Learnt)
 
 abbrev Inv : walk-lts.InvT-loop
 Inv table sections environment named first end allowed lengths pointers at₀ left₀ facts₀ at left facts = Kept table sections environment end allowed (parse allowed table sections first end) facts₀ at left facts
@@ -48,15 +47,15 @@ abbrev μ : walk-lts.MeasureT-loop
 μ table sections environment named first end allowed lengths pointers at₀ left₀ facts₀ at left facts = left
 
 -- the turn, once its statement is read
-turn : (t : ℕ) (d : walk-lts.After-contradicts (callees t) (walk-at t) walk.Post Inv μ)
-    → Turn (now (d .before .before .before .before .before .before .before .before .before .before .args .table)) (d .before .before .before .before .before .before .before .before .before .before .args .sections) (d .before .before .before .before .before .before .before .before .before .before .args .environment) (d .before .before .before .before .before .before .before .before .before .before .args .end) (d .before .before .before .before .before .before .before .before .before .before .args .allowed)
-    (parse (d .before .before .before .before .before .before .before .before .before .before .args .allowed) (now (d .before .before .before .before .before .before .before .before .before .before .args .table)) (d .before .before .before .before .before .before .before .before .before .before .args .sections) (d .before .before .before .before .before .before .before .before .before .before .args .first) (d .before .before .before .before .before .before .before .before .before .before .args .end)) (d .before .before .before .before .before .before .before .before .before .before .args .given)
-    (d .before .before .before .before .before .before .before .loop .at) (d .before .before .before .before .before .before .before .loop .left) (d .before .before .before .before .before .before .before .loop .facts) (d .before .before .got .given .0 .0)
+turn : (t : ℕ) (d : walk-lts.After-known-told (callees t) (walk-at t) walk.Post Inv μ)
+    → Turn (now (d .before .before .before .before .before .before .before .before .before .args .table)) (d .before .before .before .before .before .before .before .before .before .args .sections) (d .before .before .before .before .before .before .before .before .before .args .environment) (d .before .before .before .before .before .before .before .before .before .args .end) (d .before .before .before .before .before .before .before .before .before .args .allowed)
+    (parse (d .before .before .before .before .before .before .before .before .before .args .allowed) (now (d .before .before .before .before .before .before .before .before .before .args .table)) (d .before .before .before .before .before .before .before .before .before .args .sections) (d .before .before .before .before .before .before .before .before .before .args .first) (d .before .before .before .before .before .before .before .before .before .args .end)) (d .before .before .before .before .before .before .before .before .before .args .given)
+    (d .before .before .before .before .before .before .loop .at) (d .before .before .before .before .before .before .loop .left) (d .before .before .before .before .before .before .loop .facts) (d .before .got .given .0 .0)
 turn t d = record {
-  so-far = d .before .before .before .before .before .before .before .loop .inv;
-  some = d .before .before .before .before .before .before .loop-test .taken;
-  within = d .before .before .before .before .before .if1 .left;
-  read = sym (d .before .before .before .before .read-due .ensures) ∙ d .before .before .got .given .1;
+  so-far = d .before .before .before .before .before .before .loop .inv;
+  some = d .before .before .before .before .before .loop-test .taken;
+  within = d .before .before .before .before .if1 .left;
+  read = sym (d .before .before .before .read-due .ensures) ∙ d .before .got .given .1;
 }
 
 pub +walk-spec : {M : Type 1} → statement M
@@ -64,56 +63,54 @@ pub +walk-spec : {M : Type 1} → statement M
     (λ c. kept-none _ _ _ _ _ _ _)
     (λ c. search needs) (λ c κs. search needs) (λ c. search needs) (λ c. search needs)
     (λ c. kept-unread (c .before .before .before .before .before .loop .inv) (c .before .before .before .before .loop-test .taken) (c .before .before .before .if1 .left) (sym (c .before .before .read-due .ensures) ∙ c .enum-told .given .1) refl)
-    (λ c κs. search needs)
-    (λ c. turn-contrary _ (turn t (c .before)) (sym (c .before .contradicts .ensures) ∙ c .if2 .taken) refl)
-    (λ c. omega (arith, placed (turn t (c .before))))
+    (λ c. omega (arith, placed (turn t (c))))
     (λ c. search needs)
     (λ c κs. search needs) (λ c κs. search needs)
-    (λ c κs. plain-ranged (arm (turn t (c .before .before .before .before .before .before)) (c .before .before .before .statement .given .1)))
+    (λ c κs. plain-ranged (arm (turn t (c .before .before .before .before .before)) (c .before .before .before .statement .given .1)))
     (λ c κs. search needs) (λ c κs. search needs)
-    (λ c κs. applied-short (c .before .before .before .before .before .before .before .before .before .before .before .before .before .before .before .before .before .before .before .before .args .environment) _ _ (carried-out _ _ _ _ (c .before .before .before .before .before .asked-sum .ensures) (c .before .before .before .before .in-range .ensures) (c .before .before .before .plan-statement .ensures) (c .before .before .after .ensures)) (c .before .before .before .before .before .before .before .before .before .before .before .before .before .before .before .before .before .before .before .before .pre .1 .0) (plain-ranged (arm (turn t (c .before .before .before .before .before .before .before .before .before .before)) (c .before .before .before .before .before .before .before .statement .given .1))))
+    (λ c κs. applied-short (c .before .before .before .before .before .before .before .before .before .before .before .before .before .before .before .before .before .before .args .environment) _ _ (carried-out _ _ _ _ (c .before .before .before .before .before .asked-sum .ensures) (c .before .before .before .before .in-range .ensures) (c .before .before .before .plan-statement .ensures) (c .before .before .after .ensures)) (c .before .before .before .before .before .before .before .before .before .before .before .before .before .before .before .before .before .before .pre .1 .0) (plain-ranged (arm (turn t (c .before .before .before .before .before .before .before .before .before)) (c .before .before .before .before .before .before .before .statement .given .1))))
     (λ c. search needs) (λ c. search needs)
-    (λ c. plain-refused (arm (turn t (c .before .before .before .before .before .before .before .before .before .before .before .before .before)) (c .before .before .before .before .before .before .before .before .before .before .statement .given .1)) (sym (c .before .before .before .before .before .before .before .before .before .before .before .before .before .contradicts .ensures) ∙ c .before .before .before .before .before .before .before .before .before .before .before .before .if2 .left) (carried-out _ _ _ _ (c .before .before .before .before .before .before .before .before .asked-sum .ensures) (c .before .before .before .before .before .before .before .in-range .ensures) (c .before .before .before .before .before .before .plan-statement .ensures) (c .before .before .before .before .before .after .ensures)) (c .before .before .check-effect .ensures) refl (c .enum-told3 .given .1))
-    (λ c. omega (arith, (turn t (c .before .before .before .before .before .before .before .before .before .before .before .before .before)) .some))
-    (λ c. turn-plain (arm (turn t (c .before .before .before .before .before .before .before .before .before .before .before .before .before)) (c .before .before .before .before .before .before .before .before .before .before .statement .given .1)) (sym (c .before .before .before .before .before .before .before .before .before .before .before .before .before .contradicts .ensures) ∙ c .before .before .before .before .before .before .before .before .before .before .before .before .if2 .left) (carried-out _ _ _ _ (c .before .before .before .before .before .before .before .before .asked-sum .ensures) (c .before .before .before .before .before .before .before .in-range .ensures) (c .before .before .before .before .before .before .plan-statement .ensures) (c .before .before .before .before .before .after .ensures)) (c .before .before .check-effect .ensures) (c .enum-told2 .given .1))
-    (λ c. omega (arith, (turn t (c .before .before .before .before .before .before .before .before .before .before)) .some))
-    (λ c. turn-untouched (arm (turn t (c .before .before .before .before .before .before .before .before .before .before)) (c .before .before .before .before .before .before .before .statement .given .1)) (sym (c .before .before .before .before .before .before .before .before .before .before .contradicts .ensures) ∙ c .before .before .before .before .before .before .before .before .before .if2 .left) (carried-out _ _ _ _ (c .before .before .before .before .before .asked-sum .ensures) (c .before .before .before .before .in-range .ensures) (c .before .before .before .plan-statement .ensures) (c .before .before .after .ensures)) (c .before .before .before .before .before .before .before .before .before .before .before .before .before .before .before .before .before .before .before .before .pre .1 .1) (sym (c .before .touches .ensures) ∙ c .if3 .left))
+    (λ c. plain-refused (arm (turn t (c .before .before .before .before .before .before .before .before .before .before .before .before)) (c .before .before .before .before .before .before .before .before .before .before .statement .given .1)) (carried-out _ _ _ _ (c .before .before .before .before .before .before .before .before .asked-sum .ensures) (c .before .before .before .before .before .before .before .in-range .ensures) (c .before .before .before .before .before .before .plan-statement .ensures) (c .before .before .before .before .before .after .ensures)) (c .before .before .check-effect .ensures) refl (c .enum-told3 .given .1))
+    (λ c. omega (arith, (turn t (c .before .before .before .before .before .before .before .before .before .before .before .before)) .some))
+    (λ c. turn-plain (arm (turn t (c .before .before .before .before .before .before .before .before .before .before .before .before)) (c .before .before .before .before .before .before .before .before .before .before .statement .given .1)) (carried-out _ _ _ _ (c .before .before .before .before .before .before .before .before .asked-sum .ensures) (c .before .before .before .before .before .before .before .in-range .ensures) (c .before .before .before .before .before .before .plan-statement .ensures) (c .before .before .before .before .before .after .ensures)) (c .before .before .check-effect .ensures) (c .enum-told2 .given .1))
+    (λ c. omega (arith, (turn t (c .before .before .before .before .before .before .before .before .before)) .some))
+    (λ c. turn-untouched (arm (turn t (c .before .before .before .before .before .before .before .before .before)) (c .before .before .before .before .before .before .before .statement .given .1)) (carried-out _ _ _ _ (c .before .before .before .before .before .asked-sum .ensures) (c .before .before .before .before .in-range .ensures) (c .before .before .before .plan-statement .ensures) (c .before .before .after .ensures)) (c .before .before .before .before .before .before .before .before .before .before .before .before .before .before .before .before .before .before .pre .1 .1) (sym (c .before .touches .ensures) ∙ c .if2 .left))
     (λ c. search needs)
-    (λ c. let u = (arm (turn t (c .before .before .before .before)) (c .before .statement2 .given .1)) in omega (arith, placed u, if-counts u))
-    (λ c. let u = (arm (turn t (c .before .before .before .before)) (c .before .statement2 .given .1)) in omega (arith, placed u, if-counts u))
-    (λ c κs. if-offset (arm (turn t (c .before .before .before .before)) (c .before .statement2 .given .1)))
+    (λ c. let u = (arm (turn t (c .before .before .before)) (c .before .statement2 .given .1)) in omega (arith, placed u, if-counts u))
+    (λ c. let u = (arm (turn t (c .before .before .before)) (c .before .statement2 .given .1)) in omega (arith, placed u, if-counts u))
+    (λ c κs. if-offset (arm (turn t (c .before .before .before)) (c .before .statement2 .given .1)))
     (λ c κs. search needs)
-    (λ c κs. (left-falls (turn t (c .before .before .before .before .before .before)) (c .before .before .before .before .before .before .before .before .before .before .before .before .before .before .before .before .pre .0), c .before .before .before .before .before .before .before .before .before .before .before .before .before .before .before .before .pre .1))
+    (λ c κs. (left-falls (turn t (c .before .before .before .before .before)) (c .before .before .before .before .before .before .before .before .before .before .before .before .before .before .pre .0), c .before .before .before .before .before .before .before .before .before .before .before .before .before .before .pre .1))
     (λ c. search needs) (λ c. search needs)
-    (λ c. then-refused (arm (turn t (c .before .before .before .before .before .before .before .before .before)) (c .before .before .before .before .before .before .statement2 .given .1)) (sym (c .before .before .before .before .before .before .before .before .before .contradicts .ensures) ∙ c .before .before .before .before .before .before .before .before .if2 .left) (c .before .before .before .after2 .ensures ∙ c .before .before .before .before .assume .ensures _) (c .before .before .walk .ensures) (c .enum-told5 .given .1))
+    (λ c. then-refused (arm (turn t (c .before .before .before .before .before .before .before .before)) (c .before .before .before .before .before .before .statement2 .given .1)) (c .before .before .before .after2 .ensures ∙ c .before .before .before .before .assume .ensures _) (c .before .before .walk .ensures) (c .enum-told5 .given .1))
     (λ c κs. search needs)
-    (λ c κs. negated-offset _ _ (c .negated .ensures) (if-offset (arm (turn t (c .before .before .before .before .before .before .before .before .before .before)) (c .before .before .before .before .before .before .before .statement2 .given .1))))
+    (λ c κs. negated-offset _ _ (c .negated .ensures) (if-offset (arm (turn t (c .before .before .before .before .before .before .before .before .before)) (c .before .before .before .before .before .before .before .statement2 .given .1))))
     (λ c κs. search needs)
-    (λ c κs. (left-falls (turn t (c .before .before .before .before .before .before .before .before .before .before .before .before)) (c .before .before .before .before .before .before .before .before .before .before .before .before .before .before .before .before .before .before .before .before .before .before .pre .0), c .before .before .before .before .before .before .before .before .before .before .before .before .before .before .before .before .before .before .before .before .before .before .pre .1))
+    (λ c κs. (left-falls (turn t (c .before .before .before .before .before .before .before .before .before .before .before)) (c .before .before .before .before .before .before .before .before .before .before .before .before .before .before .before .before .before .before .before .before .pre .0), c .before .before .before .before .before .before .before .before .before .before .before .before .before .before .before .before .before .before .before .before .pre .1))
     (λ c. search needs) (λ c. search needs)
-    (λ c. else-refused (arm (turn t (c .before .before .before .before .before .before .before .before .before .before .before .before .before .before .before)) (c .before .before .before .before .before .before .before .before .before .before .before .before .statement2 .given .1)) (sym (c .before .before .before .before .before .before .before .before .before .before .before .before .before .before .before .contradicts .ensures) ∙ c .before .before .before .before .before .before .before .before .before .before .before .before .before .before .if2 .left) (c .before .before .before .before .before .before .before .before .before .after2 .ensures ∙ c .before .before .before .before .before .before .before .before .before .before .assume .ensures _) (c .before .before .before .before .before .before .before .before .walk .ensures) (c .before .before .before .before .before .before .enum-told4 .given .1) (c .before .before .before .before .before .negated .ensures) (c .before .before .before .after3 .ensures ∙ c .before .before .before .before .assume2 .ensures _) (c .before .before .walk2 .ensures) (c .enum-told7 .given .1))
+    (λ c. else-refused (arm (turn t (c .before .before .before .before .before .before .before .before .before .before .before .before .before .before)) (c .before .before .before .before .before .before .before .before .before .before .before .before .statement2 .given .1)) (c .before .before .before .before .before .before .before .before .before .after2 .ensures ∙ c .before .before .before .before .before .before .before .before .before .before .assume .ensures _) (c .before .before .before .before .before .before .before .before .walk .ensures) (c .before .before .before .before .before .before .enum-told4 .given .1) (c .before .before .before .before .before .negated .ensures) (c .before .before .before .after3 .ensures ∙ c .before .before .before .before .assume2 .ensures _) (c .before .before .walk2 .ensures) (c .enum-told7 .given .1))
     (λ c κs. search needs)
-    (λ c. omega (arith, (turn t (c .before .before .before .before .before .before .before .before .before .before .before .before .before .before .before .before .before)) .some))
-    (λ c. turn-if (arm (turn t (c .before .before .before .before .before .before .before .before .before .before .before .before .before .before .before .before .before)) (c .before .before .before .before .before .before .before .before .before .before .before .before .before .before .statement2 .given .1)) (sym (c .before .before .before .before .before .before .before .before .before .before .before .before .before .before .before .before .before .contradicts .ensures) ∙ c .before .before .before .before .before .before .before .before .before .before .before .before .before .before .before .before .if2 .left) (c .before .before .before .before .before .before .before .before .before .before .before .after2 .ensures ∙ c .before .before .before .before .before .before .before .before .before .before .before .before .assume .ensures _) (c .before .before .before .before .before .before .before .before .before .before .walk .ensures) (c .before .before .before .before .before .before .before .before .enum-told4 .given .1) (c .before .before .before .before .before .before .before .negated .ensures) (c .before .before .before .before .before .after3 .ensures ∙ c .before .before .before .before .before .before .assume2 .ensures _) (c .before .before .before .before .walk2 .ensures) (c .before .before .enum-told6 .given .1) (c .join .ensures))
+    (λ c. omega (arith, (turn t (c .before .before .before .before .before .before .before .before .before .before .before .before .before .before .before .before)) .some))
+    (λ c. turn-if (arm (turn t (c .before .before .before .before .before .before .before .before .before .before .before .before .before .before .before .before)) (c .before .before .before .before .before .before .before .before .before .before .before .before .before .before .statement2 .given .1)) (c .before .before .before .before .before .before .before .before .before .before .before .after2 .ensures ∙ c .before .before .before .before .before .before .before .before .before .before .before .before .assume .ensures _) (c .before .before .before .before .before .before .before .before .before .before .walk .ensures) (c .before .before .before .before .before .before .before .before .enum-told4 .given .1) (c .before .before .before .before .before .before .before .negated .ensures) (c .before .before .before .before .before .after3 .ensures ∙ c .before .before .before .before .before .before .assume2 .ensures _) (c .before .before .before .before .walk2 .ensures) (c .before .before .enum-told6 .given .1) (c .join .ensures))
     (λ c. search needs)
-    (λ c. let u = (arm (turn t (c .before .before .before .before)) (c .before .statement3 .given .1)) in omega (arith, placed u, while-count u))
-    (λ c κs. let u = (arm (turn t (c .before .before .before .before)) (c .before .statement3 .given .1)) in omega (arith, placed u, while-count u))
-    (λ c κs. while-offset (arm (turn t (c .before .before .before .before .before)) (c .before .before .statement3 .given .1)))
+    (λ c. let u = (arm (turn t (c .before .before .before)) (c .before .statement3 .given .1)) in omega (arith, placed u, while-count u))
+    (λ c κs. let u = (arm (turn t (c .before .before .before)) (c .before .statement3 .given .1)) in omega (arith, placed u, while-count u))
+    (λ c κs. while-offset (arm (turn t (c .before .before .before .before)) (c .before .before .statement3 .given .1)))
     (λ c κs. search needs)
-    (λ c κs. (left-falls (turn t (c .before .before .before .before .before .before .before)) (c .before .before .before .before .before .before .before .before .before .before .before .before .before .before .before .before .before .pre .0), c .before .before .before .before .before .before .before .before .before .before .before .before .before .before .before .before .before .pre .1))
+    (λ c κs. (left-falls (turn t (c .before .before .before .before .before .before)) (c .before .before .before .before .before .before .before .before .before .before .before .before .before .before .before .pre .0), c .before .before .before .before .before .before .before .before .before .before .before .before .before .before .before .pre .1))
     (λ c. search needs) (λ c. search needs)
-    (λ c. body-refused (arm (turn t (c .before .before .before .before .before .before .before .before .before .before)) (c .before .before .before .before .before .before .before .statement3 .given .1)) (sym (c .before .before .before .before .before .before .before .before .before .before .contradicts .ensures) ∙ c .before .before .before .before .before .before .before .before .before .if2 .left) (c .before .before .before .before .before .lose .ensures) (c .before .before .before .after4 .ensures ∙ c .before .before .before .before .assume3 .ensures _) (c .before .before .walk3 .ensures) (c .enum-told9 .given .1))
+    (λ c. body-refused (arm (turn t (c .before .before .before .before .before .before .before .before .before)) (c .before .before .before .before .before .before .before .statement3 .given .1)) (c .before .before .before .before .before .lose .ensures) (c .before .before .before .after4 .ensures ∙ c .before .before .before .before .assume3 .ensures _) (c .before .before .walk3 .ensures) (c .enum-told9 .given .1))
     (λ c κs. search needs)
-    (λ c κs. negated-offset _ _ (c .negated2 .ensures) (while-offset (arm (turn t (c .before .before .before .before .before .before .before .before .before .before .before)) (c .before .before .before .before .before .before .before .before .statement3 .given .1))))
+    (λ c κs. negated-offset _ _ (c .negated2 .ensures) (while-offset (arm (turn t (c .before .before .before .before .before .before .before .before .before .before)) (c .before .before .before .before .before .before .before .before .statement3 .given .1))))
     (λ c κs. search needs)
-    (λ c. omega (arith, (turn t (c .before .before .before .before .before .before .before .before .before .before .before .before .before)) .some))
-    (λ c. turn-while (arm (turn t (c .before .before .before .before .before .before .before .before .before .before .before .before .before)) (c .before .before .before .before .before .before .before .before .before .before .statement3 .given .1)) (sym (c .before .before .before .before .before .before .before .before .before .before .before .before .before .contradicts .ensures) ∙ c .before .before .before .before .before .before .before .before .before .before .before .before .if2 .left) (c .before .before .before .before .before .before .before .before .lose .ensures) (c .before .before .before .before .before .before .after4 .ensures ∙ c .before .before .before .before .before .before .before .assume3 .ensures _) (c .before .before .before .before .before .walk3 .ensures) (c .before .before .before .enum-told8 .given .1) (c .before .before .negated2 .ensures) (c .after5 .ensures ∙ c .before .assume4 .ensures _))
+    (λ c. omega (arith, (turn t (c .before .before .before .before .before .before .before .before .before .before .before .before)) .some))
+    (λ c. turn-while (arm (turn t (c .before .before .before .before .before .before .before .before .before .before .before .before)) (c .before .before .before .before .before .before .before .before .before .before .statement3 .given .1)) (c .before .before .before .before .before .before .before .before .lose .ensures) (c .before .before .before .before .before .before .after4 .ensures ∙ c .before .before .before .before .before .before .before .assume3 .ensures _) (c .before .before .before .before .before .walk3 .ensures) (c .before .before .before .enum-told8 .given .1) (c .before .before .negated2 .ensures) (c .after5 .ensures ∙ c .before .assume4 .ensures _))
     (λ c. search needs)
-    (λ c κs. (c .before .before .before .before .before .before .before .before .before .before .before .before .before .before .pre .1 .0, omega (arith, placed (turn t (c .before .before .before .before)))))
+    (λ c κs. (c .before .before .before .before .before .before .before .before .before .before .before .before .pre .1 .0, omega (arith, placed (turn t (c .before .before .before)))))
     (λ c. search needs) (λ c. search needs)
-    (λ c. bundle-refused (arm (turn t (c .before .before .before .before .before .before .before)) (c .before .before .before .before .statement4 .given .1)) (sym (c .before .before .before .before .before .before .before .contradicts .ensures) ∙ c .before .before .before .before .before .before .if2 .left) (c .before .before .walk-bundle .ensures) (c .enum-told11 .given .1))
-    (λ c. let u = (arm (turn t (c .before .before .before .before .before .before .before .before)) (c .before .before .before .before .before .statement4 .given .1)) in omega (arith, placed u, bundle-count u))
-    (λ c. omega (arith, (turn t (c .before .before .before .before .before .before .before .before)) .some))
-    (λ c. turn-bundle (arm (turn t (c .before .before .before .before .before .before .before .before)) (c .before .before .before .before .before .statement4 .given .1)) (sym (c .before .before .before .before .before .before .before .before .contradicts .ensures) ∙ c .before .before .before .before .before .before .before .if2 .left) (c .before .before .before .walk-bundle .ensures) (c .before .enum-told10 .given .1))
+    (λ c. bundle-refused (arm (turn t (c .before .before .before .before .before .before)) (c .before .before .before .before .statement4 .given .1)) (c .before .before .walk-bundle .ensures) (c .enum-told11 .given .1))
+    (λ c. let u = (arm (turn t (c .before .before .before .before .before .before .before)) (c .before .before .before .before .before .statement4 .given .1)) in omega (arith, placed u, bundle-count u))
+    (λ c. omega (arith, (turn t (c .before .before .before .before .before .before .before)) .some))
+    (λ c. turn-bundle (arm (turn t (c .before .before .before .before .before .before .before)) (c .before .before .before .before .before .statement4 .given .1)) (c .before .before .before .walk-bundle .ensures) (c .before .enum-told10 .given .1))
     (λ c. kept-done (c .before .loop .inv) (c .loop-test .left) refl refl)
     (λ c. kept-end (c .before .before .loop .inv) (c .if1 .taken) refl refl)
