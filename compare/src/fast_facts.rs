@@ -165,8 +165,12 @@ impl FastFacts {
                 self.add(y, x, -k);
             }
             Relation::NotEqual => {
-                if y == self.zero && k == 0 {
-                    self.add(y, x, -1);
+                let (below, above) = (self.shows(x, y, k), self.shows(y, x, -k));
+                if below {
+                    self.add(x, y, k - 1);
+                }
+                if above {
+                    self.add(y, x, -k - 1);
                 }
             }
         }

@@ -240,3 +240,28 @@ fn facts_use_the_value_that_a_literal_means() {
     assert_eq!(answer_with([0; 8], &[full.clone(), down]), "accepted");
     assert_eq!(answer_with([0; 8], &[full, around]), "refused 8 1 0");
 }
+
+#[test]
+fn not_equal_tells_in_every_place() {
+    // Integers and pointers; the dead block is accepted only where left < right is known.
+    for (left, right, dead) in [(X, N, move_pointer(P, P, 1)), (P, Q, add_constant(N, N, 1))] {
+        let strict = || if_else(with_variable(left, GREATER_EQUAL, right), vec![dead], vec![]);
+        let order = || vec![dynamic_check(with_variable(left, LESS_EQUAL, right))];
+        let (equal, unequal) = (with_variable(left, EQUAL, right), with_variable(left, NOT_EQUAL, right));
+        for chunk in [
+            [vec![dynamic_check(unequal)], strict()].concat(),
+            if_else(unequal, strict(), vec![]),
+            if_else(equal, vec![], strict()),
+            while_loop(unequal, strict()),
+            [while_loop(equal, vec![load(X, P, -1, 0)]), strict()].concat(),
+        ] {
+            let x_is_dropped = left == X && chunk[0][0] == 12 && chunk[0][2] == EQUAL;
+            let accepted = answer(&[order(), chunk.clone()]) == "accepted";
+            assert_eq!(accepted, !x_is_dropped, "{chunk:?}");
+            assert!(answer(&[chunk]).starts_with("refused 8"));
+        }
+        // At a while the order is asked after the drop.
+        let assigned = while_loop(unequal, [strict(), vec![set(X, 0), null(Q)]].concat());
+        assert!(answer(&[order(), assigned]).starts_with("refused 8"));
+    }
+}

@@ -116,8 +116,19 @@ impl Facts {
             Relation::Greater => self.add(y, x, -k - 1),
             Relation::GreaterEqual => self.add(y, x, -k),
             Relation::Equal => self.add(x, y, k).add(y, x, -k),
-            Relation::NotEqual if condition.right == Right::Literal(0) => self.add(ZERO, x, -1),
-            Relation::NotEqual => self,
+            Relation::NotEqual => self.differ(x, y, k),
+        }
+    }
+
+    /// Point 4: where x and y + k differ and "x <= y is shown there .., x <= y - 1 is now a fact, and the same from
+    /// the other side". Both sides are asked of the same facts.
+    fn differ(self, x: Node, y: Node, k: i64) -> Facts {
+        let (below, above) = (self.shows(x, y, k), self.shows(y, x, -k));
+        let facts = if below { self.add(x, y, k - 1) } else { self };
+        if above {
+            facts.add(y, x, -k - 1)
+        } else {
+            facts
         }
     }
 

@@ -195,11 +195,35 @@ fn contradictory_facts_show_everything_and_stay_so() {
     assert!(facts.clone().join(&facts).contradictory());
 }
 
+fn unequal(right: Right) -> Condition {
+    Condition { left: 0, relation: Relation::NotEqual, right }
+}
+
 #[test]
-fn not_equal_gives_a_fact_only_against_literal_0() {
-    let facts = Facts::new(&[Integer, Integer]).add(1, ZERO, 0);
-    let condition = |right| Condition { left: 0, relation: Relation::NotEqual, right };
-    assert!(facts.clone().assume(condition(Right::Literal(0))).shows(ZERO, 0, -1));
-    assert!(!facts.clone().assume(condition(Right::Variable(1))).shows(ZERO, 0, -1));
-    assert!(!facts.assume(condition(Right::Literal(1))).contradictory());
+fn not_equal_makes_an_order_strict() {
+    let facts = Facts::new(&[Integer, Integer]);
+    let other = unequal(Right::Variable(1));
+    let plain = facts.clone().assume(other);
+    assert!(!plain.shows(0, 1, -1) && !plain.shows(1, 0, -1));
+    let below = facts.clone().add(0, 1, 0).assume(other);
+    assert!(below.shows(0, 1, -1) && !below.shows(0, 1, -2) && !below.shows(1, 0, -1));
+    let above = facts.clone().add(1, 0, 0).assume(other);
+    assert!(above.shows(1, 0, -1) && !above.shows(0, 1, -1));
+    // Nothing where the order is only nearly shown.
+    let near = facts.clone().add(0, 1, 1).assume(other);
+    assert!(near.shows(0, 1, 1) && !near.shows(0, 1, 0));
+    let equal = facts.clone().add(0, 1, 0).add(1, 0, 0).assume(other);
+    assert!(equal.contradictory());
+    assert!(facts.assume(unequal(Right::Variable(0))).contradictory());
+}
+
+#[test]
+fn not_equal_to_a_literal_asks_the_range_too() {
+    let facts = Facts::new(&[Integer]);
+    assert!(facts.clone().assume(unequal(Right::Literal(0))).shows(ZERO, 0, -1));
+    assert!(facts.clone().assume(unequal(Right::Literal(u32::MAX))).shows(0, ZERO, GREATEST - 1));
+    let middle = facts.clone().assume(unequal(Right::Literal(5)));
+    assert!(!middle.shows(0, ZERO, GREATEST - 1) && !middle.shows(ZERO, 0, -1));
+    let up_to = facts.add(0, ZERO, 5).assume(unequal(Right::Literal(5)));
+    assert!(up_to.shows(0, ZERO, 4) && !up_to.shows(0, ZERO, 3) && !up_to.shows(ZERO, 0, -1));
 }

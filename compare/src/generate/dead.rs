@@ -8,8 +8,8 @@ impl Writer<'_> {
     pub(super) fn never(&mut self) -> Option<Cond> {
         let (x, p) = (self.integer(), self.pointer());
         Some(match self.rng.below(6) {
-            0 => with_variable(x?, self.rng.pick(&[LESS, GREATER]), x?),
-            1 => with_variable(p?, self.rng.pick(&[LESS, GREATER]), p?),
+            0 => with_variable(x?, self.rng.pick(&[LESS, GREATER, NOT_EQUAL]), x?),
+            1 => with_variable(p?, self.rng.pick(&[LESS, GREATER, NOT_EQUAL]), p?),
             2 => with_literal(p?, LESS, 0),
             3 => with_literal(x?, GREATER, -1),
             _ => with_literal(x?, LESS, 0),

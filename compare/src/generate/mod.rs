@@ -11,7 +11,7 @@ use crate::rng::Rng;
 use oracle::answer::RunInput;
 use oracle::checker;
 use oracle::draft::Draft;
-use oracle::table::{decode, MAX_STATEMENTS};
+use oracle::table::{decode, Routine, MAX_STATEMENTS};
 use routine::Writer;
 
 /// A table and what a run of it is lent.
@@ -38,6 +38,10 @@ fn table(rng: &mut Rng) -> Vec<i32> {
     };
     draft.statements = Writer { rng, layout: &layout }.body(size as usize, 0);
     draft.statements.truncate(MAX_STATEMENTS);
+    // What makes the rest of a routine dead would hide most of what is in it.
+    if rng.chance(70) {
+        revive(&mut draft);
+    }
     if rng.chance(55) {
         repair(rng, &mut draft);
     }
@@ -52,6 +56,29 @@ fn table(rng: &mut Rng) -> Vec<i32> {
         _ => {}
     }
     words
+}
+
+/// Takes out each top statement behind which facts contradict.
+fn revive(draft: &mut Draft) {
+    while let Some(s) = decode(&draft.words()).ok().and_then(|routine| makes_dead(&routine)) {
+        draft.remove(s, false);
+    }
+}
+
+/// The first top statement behind which facts contradict.
+fn makes_dead(routine: &Routine) -> Option<usize> {
+    let mut dead = vec![false; routine.statements.len()];
+    let end = checker::walk(routine, &mut |s, facts| dead[s] = facts.contradictory());
+    dead.push(end.is_ok_and(|facts| facts.contradictory()));
+    let mut s = 0;
+    while s < routine.statements.len() {
+        let next = s + routine.statements[s].size();
+        if dead[next] {
+            return Some(s);
+        }
+        s = next;
+    }
+    None
 }
 
 /// Takes out statements that are refused by 6, 8 or 9 until none is; now and then

@@ -81,7 +81,7 @@ impl Writer<'_> {
     }
 
     /// Some statement that assigns v.
-    fn assignment(&mut self, v: i32) -> Option<Record> {
+    pub(super) fn assignment(&mut self, v: i32) -> Option<Record> {
         let k = constant(self.rng);
         if self.layout.pointers.contains(&v) {
             let q = if self.rng.chance(50) { v } else { self.pointer()? };

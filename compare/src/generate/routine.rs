@@ -24,7 +24,7 @@ impl Writer<'_> {
     }
 
     fn chunk(&mut self, depth: usize) -> Chunk {
-        let chunk = match self.rng.below(41) {
+        let chunk = match self.rng.below(44) {
             0 | 1 => Some(vec![self.simple()]),
             2 | 3 => Some(vec![self.check()]),
             4 => self.lower_count(),
@@ -47,7 +47,8 @@ impl Writer<'_> {
             29..=31 => self.forgotten(depth),
             32 => self.wrapping(),
             33 | 34 => self.dead_code(depth),
-            35 if depth < MAX_DEPTH => {
+            35..=37 => self.unequal(depth),
+            38 if depth < MAX_DEPTH => {
                 let condition = self.condition();
                 Some(self.sensor(condition))
             }
@@ -94,7 +95,8 @@ impl Writer<'_> {
     }
 
     pub fn condition(&mut self) -> Cond {
-        let relation = self.rng.range(0, 5);
+        let relation =
+            self.rng.pick(&[LESS, GREATER_EQUAL, GREATER, LESS_EQUAL, EQUAL, NOT_EQUAL, NOT_EQUAL]);
         let pointer = self.rng.chance(35);
         let left = if pointer { self.pointer() } else { self.integer() };
         let Some(left) = left.or(self.integer()).or(self.pointer()) else {
@@ -265,7 +267,7 @@ impl Writer<'_> {
             body.extend(self.body(2, depth + 1));
         }
         body.push(add_constant(i, i, 1));
-        let to_count = with_variable(i, LESS, group.count);
+        let to_count = with_variable(i, self.rng.pick(&[LESS, LESS, NOT_EQUAL]), group.count);
         Some([vec![set(i, 0)], while_loop(to_count, body)].concat())
     }
 
@@ -351,3 +353,5 @@ impl Writer<'_> {
 mod dead;
 #[path = "patterns.rs"]
 mod patterns;
+#[path = "unequal.rs"]
+mod unequal;

@@ -1,30 +1,33 @@
--- The sum that is asked for: the source and the constant of kind 2, and for any other kind a plain copy.
-use Prim.Native.Nat.{ℕ}
-use Rattle.sums.specs.Numbers.{bias}
+-- What is asked of the facts before a statement or a condition changes them.
+use Prim.Native.Nat.{ℕ, _+_, _-_}
+use mathlib.Core.Bool.{true, false, not}
+use lib.Dec.{leb, eqb}
+use Rattle.sums.specs.Numbers.{bias, zeroVar}
+use Rattle.sums.specs.Sums.{roomAbove}
+use Rattle.changes.specs.declared.Questions.{Questions}
+use Rattle.conditions.specs.declared.Condition.{Condition}
 use Rattle.statements.specs.declared.Simple.{Simple}
 use Rattle.statements.specs.declared.Simple.the-variants.{Literal, AddConstant, Arithmetic, Null, Address, PointerOffset, PointerIndex, Load, Store, Check}
 
--- The sum of which a plan has to know whether it is in range.
-abbrev pub sourceAsked : Simple → ℕ
-sourceAsked (Literal x k) = 0
-sourceAsked (AddConstant x y k) = y
-sourceAsked (Arithmetic x y z op) = 0
-sourceAsked (Null p) = 0
-sourceAsked (Address p o) = 0
-sourceAsked (PointerOffset p q k) = 0
-sourceAsked (PointerIndex p q i) = 0
-sourceAsked (Load x p i k) = 0
-sourceAsked (Store p i k x) = 0
-sourceAsked (Check c) = 0
+abbrev pub nothingAsked : Questions
+nothingAsked = record { asked = false; chained = false; x = 0; y = 0; there = 0; back = 0 }
 
-abbrev pub constantAsked : Simple → ℕ
-constantAsked (Literal x k) = bias
-constantAsked (AddConstant x y k) = k
-constantAsked (Arithmetic x y z op) = bias
-constantAsked (Null p) = bias
-constantAsked (Address p o) = bias
-constantAsked (PointerOffset p q k) = bias
-constantAsked (PointerIndex p q i) = bias
-constantAsked (Load x p i k) = bias
-constantAsked (Store p i k x) = bias
-constantAsked (Check c) = bias
+-- Whether the sum y + k is in range; a plain copy always is.
+abbrev pub sumAsked : ℕ → ℕ → Questions
+sumAsked y k = record { asked = not (eqb k bias); chained = true; x = zeroVar; y = y; there = k; back = roomAbove k }
+
+-- The two sides of a condition that is == or !=: its negation asks the same.
+abbrev pub conditionAsked : Condition → Questions
+conditionAsked c = record { asked = leb 4 (c .relation); chained = false; x = c .left; y = c .right; there = bias + c .offset; back = bias - c .offset }
+
+abbrev pub statementAsked : Simple → Questions
+statementAsked (Literal x k) = nothingAsked
+statementAsked (AddConstant x y k) = sumAsked y k
+statementAsked (Arithmetic x y z op) = nothingAsked
+statementAsked (Null p) = nothingAsked
+statementAsked (Address p o) = nothingAsked
+statementAsked (PointerOffset p q k) = nothingAsked
+statementAsked (PointerIndex p q i) = nothingAsked
+statementAsked (Load x p i k) = nothingAsked
+statementAsked (Store p i k x) = nothingAsked
+statementAsked (Check c) = conditionAsked c

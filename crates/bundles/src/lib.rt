@@ -1,5 +1,5 @@
 // The walk over a bundle.
-use asked::asked_sum;
+use asked::ask_statement;
 use bounds::KnownBounds;
 use bounds::bounds_after;
 use declared::access_shown;
@@ -11,7 +11,7 @@ use refusals::Refusal;
 use rules::Environment;
 use rules::Verdict;
 use sections::Sections;
-use shown::in_range;
+use shown::answer;
 use statements::Statement;
 use statements::StatementRead;
 ghost use Prim.Native.Nat.{_+_, _^_, _<_};
@@ -69,9 +69,8 @@ pub fn walk_bundle(
                 facts,
             };
         }
-        let sum = asked_sum(simple);
-        let fits = in_range(facts, sum.source, sum.constant);
-        let plan = plan_statement(lengths, simple, fits);
+        let answers = answer(facts, ask_statement(simple));
+        let plan = plan_statement(lengths, simple, answers);
         let effect = plan.effect;
         known = bounds_after(effect, known);
         facts = facts.after(plan.change);

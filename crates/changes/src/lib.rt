@@ -23,6 +23,22 @@ pub struct Change {
     pub facts: [Fact; 3],
 }
 
+// What a change may have to know, where it is asked: whether x <= y + `there` is shown, and whether y <= x + `back` is. Where they are chained, the second
+// matters only if the first is shown.
+pub struct Questions {
+    pub asked: bool,
+    pub chained: bool,
+    pub x: usize,
+    pub y: usize,
+    pub there: u64,
+    pub back: u64,
+}
+
+pub struct Answers {
+    pub there: bool,
+    pub back: bool,
+}
+
 // Neither a variable nor zero.
 const NONE: usize = 17;
 

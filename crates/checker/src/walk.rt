@@ -1,5 +1,6 @@
 // The walk over the statements.
-use asked::asked_sum;
+use asked::ask_condition;
+use asked::ask_statement;
 use bundles::Walked;
 use bundles::walk_bundle;
 use conditions::negated;
@@ -13,7 +14,7 @@ use refusals::Refusal;
 use rules::Environment;
 use rules::Verdict;
 use sections::Sections;
-use shown::in_range;
+use shown::answer;
 use statements::Statement;
 use statements::StatementRead;
 use touched::Named;
@@ -59,9 +60,8 @@ pub(crate) fn walk(
         let inner = at + 1;
         match statement {
             Statement::Plain(simple) => {
-                let sum = asked_sum(simple);
-                let fits = in_range(facts, sum.source, sum.constant);
-                let plan = plan_statement(lengths, simple, fits);
+                let answers = answer(facts, ask_statement(simple));
+                let plan = plan_statement(lengths, simple, answers);
                 let effect = plan.effect;
                 facts = facts.after(plan.change);
                 if touches(named, pointers, effect) {
@@ -79,6 +79,7 @@ pub(crate) fn walk(
             } => {
                 let middle = inner + then_count;
                 let rest = middle + else_count;
+                let answers = answer(facts, ask_condition(condition));
                 let then = walk(
                     table,
                     sections,
@@ -87,7 +88,7 @@ pub(crate) fn walk(
                     inner,
                     middle,
                     left,
-                    facts.after(assume(condition)),
+                    facts.after(assume(condition, answers)),
                 );
                 let then_verdict = then.verdict;
                 let Verdict::Accepted = then_verdict else {
@@ -101,7 +102,7 @@ pub(crate) fn walk(
                     middle,
                     rest,
                     left,
-                    facts.after(assume(negated(condition))),
+                    facts.after(assume(negated(condition), answers)),
                 );
                 let other_verdict = other.verdict;
                 let Verdict::Accepted = other_verdict else {
@@ -114,6 +115,7 @@ pub(crate) fn walk(
             Statement::While { condition, count } => {
                 let rest = inner + count;
                 let lost = lose(table, sections, inner, count, facts);
+                let answers = answer(lost, ask_condition(condition));
                 let body = walk(
                     table,
                     sections,
@@ -122,13 +124,13 @@ pub(crate) fn walk(
                     inner,
                     rest,
                     left,
-                    lost.after(assume(condition)),
+                    lost.after(assume(condition, answers)),
                 );
                 let body_verdict = body.verdict;
                 let Verdict::Accepted = body_verdict else {
                     return body;
                 };
-                facts = lost.after(assume(negated(condition)));
+                facts = lost.after(assume(negated(condition), answers));
                 at = rest;
             }
             Statement::Bundle { count } => {

@@ -1,20 +1,22 @@
 -- What the functions of this crate give back, in terms of the rules: a change for a condition and a plan for a statement.
 use Prim.Native.Nat.{ℕ}
-use mathlib.Core.Bool.{Bool, _&&_, cond}
+use mathlib.Core.Bool.{Bool, _||_, _&&_, cond}
 use mathlib.Core.List.{List, []}
 use mathlib.Core.Path.{_≡_}
-use lib.Dec.{eqb}
+use lib.Dec.{leb, eqb}
+use Rattle.sums.specs.Numbers.{bias}
 use Rattle.facts.specs.Store.{addedFact, changed}
+use Rattle.changes.specs.declared.Answers.{Answers}
 use Rattle.changes.specs.declared.Change.{Change}
 use Rattle.changes.specs.declared.Fact.{Fact}
 use Rattle.facts.specs.declared.FactSet.{FactSet}
 use Rattle.statements.specs.declared.Simple.{Simple}
 use Rattle.statements.specs.declared.Simple.the-variants.{Literal, AddConstant, Arithmetic, Null, Address, PointerOffset, PointerIndex, Load, Store, Check}
 use Rattle.conditions.specs.declared.Condition.{Condition}
-use Rattle.rules.specs.Stored.{sumFacts, factsAfter, conditionFacts, effect}
+use Rattle.rules.specs.Stored.{differs, sumFacts, factsAfter, conditionFacts, effect}
 use Rattle.rules.specs.declared.Environment.{Environment}
 use Rattle.rules.specs.declared.Effect.{Effect}
-use Rattle.rules.specs.declared.Effect.the-variants.{Shift, Forget}
+use Rattle.rules.specs.declared.Effect.the-variants.{Keep, Shift, Forget}
 use Rattle.effects.specs.declared.Plan.{Plan}
 
 -- An environment of which only the lengths of objects matter, as to an effect.
@@ -29,18 +31,26 @@ pub record Applied : Type 0 where
 unfoldable pub applied : List ℕ → FactSet → Simple → Applied
 applied lengths f s = record { facts = factsAfter s f; effect = effect (withLengths lengths) f s }
 
--- The same, where `fits` tells whether the sum that the statement asks for is in range.
-unfoldable pub planned : Bool → List ℕ → FactSet → Simple → Applied
-planned fits lengths f (Literal x k) = applied lengths f (Literal x k)
-planned fits lengths f (AddConstant x y k) = record { facts = sumFacts fits (eqb x y) f x y k; effect = cond (fits && eqb x y) (Shift x k) (Forget x) }
-planned fits lengths f (Arithmetic x y z op) = applied lengths f (Arithmetic x y z op)
-planned fits lengths f (Null p) = applied lengths f (Null p)
-planned fits lengths f (Address p o) = applied lengths f (Address p o)
-planned fits lengths f (PointerOffset p q k) = applied lengths f (PointerOffset p q k)
-planned fits lengths f (PointerIndex p q i) = applied lengths f (PointerIndex p q i)
-planned fits lengths f (Load x p i k) = applied lengths f (Load x p i k)
-planned fits lengths f (Store p i k x) = applied lengths f (Store p i k x)
-planned fits lengths f (Check c) = applied lengths f (Check c)
+-- The facts that a condition gives, by the answers to what it asks: whether left <= right + offset and right + offset <= left are shown.
+unfoldable pub conditionGiven : Answers → FactSet → Condition → FactSet
+conditionGiven a f c = cond (leb 5 (c .relation)) (differs (a .there) (a .back) f (c .left) (c .right) (c .offset)) (conditionFacts f c)
+
+-- Whether a sum y + k is in range, by the answers; a plain copy always is.
+abbrev pub sumFits : Answers → ℕ → Bool
+sumFits a k = eqb k bias || a .there && a .back
+
+-- The facts after a statement and what it does to known bounds, by the answers to what it asks.
+unfoldable pub planned : Answers → List ℕ → FactSet → Simple → Applied
+planned a lengths f (Literal x k) = applied lengths f (Literal x k)
+planned a lengths f (AddConstant x y k) = record { facts = sumFacts (sumFits a k) (eqb x y) f x y k; effect = cond (sumFits a k && eqb x y) (Shift x k) (Forget x) }
+planned a lengths f (Arithmetic x y z op) = applied lengths f (Arithmetic x y z op)
+planned a lengths f (Null p) = applied lengths f (Null p)
+planned a lengths f (Address p o) = applied lengths f (Address p o)
+planned a lengths f (PointerOffset p q k) = applied lengths f (PointerOffset p q k)
+planned a lengths f (PointerIndex p q i) = applied lengths f (PointerIndex p q i)
+planned a lengths f (Load x p i k) = applied lengths f (Load x p i k)
+planned a lengths f (Store p i k x) = applied lengths f (Store p i k x)
+planned a lengths f (Check c) = record { facts = conditionGiven a f c; effect = Keep }
 
 -- ---- changes and plans
 
@@ -52,14 +62,14 @@ Makes r g = (f : FactSet) → changed f r ≡ g f
 abbrev pub Adds : Fact → (FactSet → FactSet) → Type 0
 Adds r g = (f : FactSet) → addedFact f r ≡ g f
 
--- The change makes of any facts those that the condition gives.
-abbrev pub Assumes : Condition → Change → Type 0
-Assumes c r = Makes r (λ f. conditionFacts f c)
+-- The change makes of any facts those that the condition gives, by these answers.
+abbrev pub Assumes : Condition → Answers → Change → Type 0
+Assumes c a r = Makes r (λ f. conditionGiven a f c)
 
 -- The plan makes of the facts f what is applied to them; and its effect is the statement's.
 abbrev pub Does : Plan → FactSet → Applied → Type 0
 Does r f a = record { facts = changed f (r .change); effect = r .effect } ≡ a
 
--- The plan for a statement, given whether its sum is in range: of any facts.
-abbrev pub Plans : List ℕ → Simple → Bool → Plan → Type 0
-Plans lengths s fits r = (f : FactSet) → Does r f (planned fits lengths f s)
+-- The plan for a statement, given the answers to what it asks: of any facts.
+abbrev pub Plans : List ℕ → Simple → Answers → Plan → Type 0
+Plans lengths s a r = (f : FactSet) → Does r f (planned a lengths f s)

@@ -1,20 +1,26 @@
 -- Laws of the facts after conditions and statements, as the code meets them.
-use Prim.Native.Nat.{ℕ, zero, suc, _+_, _-_}
-use mathlib.Core.Path.{_≡_, refl, sym, ap, ap₂, _∙_}
-use mathlib.Core.Bool.{Bool, true, false, cond}
+use Prim.Native.Nat.{ℕ, zero, suc, _+_, _-_, _%_}
+use mathlib.Core.Path.{_≡_, refl, ap, ap₂, _∙_}
+use mathlib.Core.Bool.{Bool, true, false, not, _&&_, _||_, cond}
 use mathlib.Core.List.{List}
 use mathlib.Core.Logic.{_≢_}
 use native.Mathlib.Omega.{arith}
-use borrow.Author.Tests.{eq-eqb, ne-eqb}
-use lib.Dec.{eqb}
+use borrow.Author.Tests.{leb-true, leb-false, le-leb, lt-leb, eqb-true, eqb-false, eq-eqb, ne-eqb}
+use lib.Dec.{leb, eqb}
 use lib.IntN.{ℤ}
 use Rattle.sums.specs.Numbers.{bias, zeroVar}
-use Rattle.facts.specs.Store.{inRange, added, changed, dropped, shifted}
+use Rattle.sums.specs.Sums.{roomAbove}
+use Rattle.facts.specs.Store.{shown, inRange, noAnswers, answered, added, addedFact, changed, dropped, shifted}
+use Rattle.changes.specs.declared.Fact.{Fact}
+use Rattle.changes.specs.declared.Answers.{Answers}
+use Rattle.changes.specs.declared.Questions.{Questions}
 use Rattle.facts.specs.declared.FactSet.{FactSet}
 use Rattle.sections.specs.declared.Sections.{Sections}
 use Rattle.sections.specs.Sections.{Limits}
 use Rattle.conditions.specs.ConditionLaws.{offset-small}
+use Rattle.conditions.specs.Negation.{negation, negatedOf}
 use Rattle.conditions.specs.declared.Condition.{Condition}
+use Rattle.changes.specs.declared.Change.{Change}
 use Rattle.statements.specs.declared.Simple.{Simple}
 use Rattle.statements.specs.declared.Simple.the-variants.{Literal, AddConstant, Arithmetic, Null, Address, PointerOffset, PointerIndex, Load, Store, Check}
 use Rattle.statements.specs.declared.Statement.the-variants.{Plain}
@@ -25,73 +31,72 @@ use Rattle.statements.specs.StatementLaws.{read-typed, read-limits}
 use Rattle.rules.specs.Stored.{equated, positive, differs, relationFacts, conditionFacts, sumFacts, offsetFacts, factsAfter, effect}
 use Rattle.rules.specs.Ranges.{InRange}
 use Rattle.effects.specs.declared.Plan.{Plan}
-use Rattle.asked.specs.declared.Sum.{Sum}
-use Rattle.asked.specs.Asked.{sourceAsked, constantAsked}
-use Rattle.effects.specs.Applied.{Applied, withLengths, applied, planned, Plans}
+use Rattle.asked.specs.Asked.{sumAsked, conditionAsked, statementAsked}
+use Rattle.effects.specs.Applied.{Applied, withLengths, applied, conditionGiven, sumFits, planned, Adds, Assumes, Plans}
 use Rattle.rules.specs.declared.Effect.{Effect}
-use Rattle.rules.specs.declared.Effect.the-variants.{Forget, Shift, Copy}
+use Rattle.rules.specs.declared.Effect.the-variants.{Keep, Forget, Shift, Copy}
 use Rattle.rules.specs.declared.Environment.{Environment}
 use Rattle.rules.specs.FactRules as factRules
 use Rattle.rules.specs.BoundsRules as boundsRules
 
 -- ---- conditions
 
-other-facts : (r : ℕ) (f : FactSet) (x y k : ℕ) → r ≢ 0 → r ≢ 1 → r ≢ 2 → r ≢ 3 → r ≢ 4 → relationFacts r f x y k ≡ differs f x y k
-unfolding factRules.relationFacts
-other-facts zero f x y k a b c d e = absurd (a refl)
-other-facts (suc zero) f x y k a b c d e = absurd (b refl)
-other-facts (suc (suc zero)) f x y k a b c d e = absurd (c refl)
-other-facts (suc (suc (suc zero))) f x y k a b c d e = absurd (d refl)
-other-facts (suc (suc (suc (suc zero)))) f x y k a b c d e = absurd (e refl)
-other-facts (suc (suc (suc (suc (suc r))))) f x y k a b c d e = refl
+other-relation : (r : ℕ) → r ≢ 0 → r ≢ 1 → r ≢ 2 → r ≢ 3 → r ≢ 4 → leb 5 r ≡ true
+other-relation zero a b c d e = absurd (a refl)
+other-relation (suc zero) a b c d e = absurd (b refl)
+other-relation (suc (suc zero)) a b c d e = absurd (c refl)
+other-relation (suc (suc (suc zero))) a b c d e = absurd (d refl)
+other-relation (suc (suc (suc (suc zero)))) a b c d e = absurd (e refl)
+other-relation (suc (suc (suc (suc (suc r))))) a b c d e = le-leb 5 (suc (suc (suc (suc (suc r))))) (omega arith)
 
 abbrev by : FactSet → Condition → ℕ → FactSet
 by f c r = relationFacts r f (c .left) (c .right) (c .offset)
 
-module _ (f : FactSet) (c : Condition) {g : FactSet} where
-  from : (r : ℕ) → c .relation ≡ r → g ≡ by f c r → g ≡ conditionFacts f c
-  unfolding factRules.conditionFacts
-  from r p e = e ∙ ap (by f c) (sym p)
+module _ (a : Answers) (f : FactSet) (c : Condition) {g : FactSet} where
+  from : (r : ℕ) → leb 5 r ≡ false → c .relation ≡ r → g ≡ by f c r → g ≡ conditionGiven a f c
+  unfolding conditionGiven factRules.conditionFacts
+  from r l p e = rw (p, l) e
 
-  pub condition-less : c .relation ≡ 0 → g ≡ added f (c .left) (c .right) (bias + c .offset - 1) → g ≡ conditionFacts f c
+  pub condition-less : c .relation ≡ 0 → g ≡ added f (c .left) (c .right) (bias + c .offset - 1) → g ≡ conditionGiven a f c
   unfolding factRules.relationFacts
-  condition-less p e = from 0 p e
+  condition-less p e = from 0 refl p e
 
-  pub condition-not-less : c .relation ≡ 1 → g ≡ added f (c .right) (c .left) (bias - c .offset) → g ≡ conditionFacts f c
+  pub condition-not-less : c .relation ≡ 1 → g ≡ added f (c .right) (c .left) (bias - c .offset) → g ≡ conditionGiven a f c
   unfolding factRules.relationFacts
-  condition-not-less p e = from 1 p e
+  condition-not-less p e = from 1 refl p e
 
-  pub condition-greater : c .relation ≡ 2 → g ≡ added f (c .right) (c .left) (bias - c .offset - 1) → g ≡ conditionFacts f c
+  pub condition-greater : c .relation ≡ 2 → g ≡ added f (c .right) (c .left) (bias - c .offset - 1) → g ≡ conditionGiven a f c
   unfolding factRules.relationFacts
-  condition-greater p e = from 2 p e
+  condition-greater p e = from 2 refl p e
 
-  pub condition-not-greater : c .relation ≡ 3 → g ≡ added f (c .left) (c .right) (bias + c .offset) → g ≡ conditionFacts f c
+  pub condition-not-greater : c .relation ≡ 3 → g ≡ added f (c .left) (c .right) (bias + c .offset) → g ≡ conditionGiven a f c
   unfolding factRules.relationFacts
-  condition-not-greater p e = from 3 p e
+  condition-not-greater p e = from 3 refl p e
 
   pub condition-equal : {h : FactSet} → c .relation ≡ 4 → h ≡ added f (c .left) (c .right) (bias + c .offset) → g ≡ added h (c .right) (c .left) (bias - c .offset)
-      → g ≡ conditionFacts f c
+      → g ≡ conditionGiven a f c
   unfolding factRules.relationFacts factRules.equated
   condition-equal {h} p d e =
       let q : bias - c .offset ≡ bias + bias - (bias + c .offset) = omega arith in
-      from 4 p (e ∙ (ap (λ (i : FactSet). added i (c .right) (c .left) (bias - c .offset)) d ∙ ap (added (added f (c .left) (c .right) (bias + c .offset)) (c .right) (c .left)) q))
+      from 4 refl p (e ∙ (ap (λ (i : FactSet). added i (c .right) (c .left) (bias - c .offset)) d ∙ ap (added (added f (c .left) (c .right) (bias + c .offset)) (c .right) (c .left)) q))
 
   module _ (n₀ : c .relation ≢ 0) (n₁ : c .relation ≢ 1) (n₂ : c .relation ≢ 2) (n₃ : c .relation ≢ 3) (n₄ : c .relation ≢ 4) where
-    other : g ≡ differs f (c .left) (c .right) (c .offset) → g ≡ conditionFacts f c
-    unfolding factRules.conditionFacts
-    other e = e ∙ sym (other-facts (c .relation) f (c .left) (c .right) (c .offset) n₀ n₁ n₂ n₃ n₄)
+    -- left != right + offset: each of the two facts is one more where the answer says so.
+    pub condition-differs : (first second : Fact) → Adds first (λ i. cond (a .there) (added i (c .left) (c .right) (bias + c .offset - 1)) i)
+        → Adds second (λ i. cond (a .back) (added i (c .right) (c .left) (bias - c .offset - 1)) i)
+        → g ≡ addedFact (addedFact f first) second → g ≡ conditionGiven a f c
+    unfolding conditionGiven factRules.differs
+    condition-differs first second p q e =
+        rw (other-relation (c .relation) n₀ n₁ n₂ n₃ n₄)
+        (e ∙ (q (addedFact f first) ∙ ap (λ (i : FactSet). cond (a .back) (added i (c .right) (c .left) (bias - c .offset - 1)) i) (p f)))
 
-    pub differs-variable : c .right ≢ zeroVar → g ≡ f → g ≡ conditionFacts f c
-    unfolding factRules.differs
-    differs-variable n e = other (e ∙ rw (ne-eqb (c .right) zeroVar n))
+-- A fact besides, where an answer says so.
+module _ (f : FactSet) (x y k : ℕ) {b : Bool} where
+  pub added-where : b ≡ true → added f x y k ≡ cond b (added f x y k) f
+  added-where e = rw e
 
-    pub differs-literal : c .right ≡ zeroVar → c .offset ≢ 0 → g ≡ f → g ≡ conditionFacts f c
-    unfolding factRules.differs
-    differs-literal p n e = other (e ∙ rw (eq-eqb (c .right) zeroVar p, ne-eqb (c .offset) 0 n))
-
-    pub differs-zero : c .right ≡ zeroVar → c .offset ≡ 0 → g ≡ added f zeroVar (c .left) (bias - 1) → g ≡ conditionFacts f c
-    unfolding factRules.differs factRules.positive
-    differs-zero p n e = other (e ∙ rw (eq-eqb (c .right) zeroVar p, eq-eqb (c .offset) 0 n))
+  pub left-where : b ≡ false → f ≡ cond b (added f x y k) f
+  left-where e = rw e
 
 -- ---- x := y + k and p := q + k
 
@@ -107,16 +112,26 @@ module _ (f : FactSet) (p k : ℕ) where
 abbrev pub appliedOf : FactSet → Effect → Applied
 appliedOf f e = record { facts = f; effect = e }
 
-module _ (lengths : List ℕ) (f : FactSet) (x y k : ℕ) {fits : Bool} {g : FactSet} where
-  pub sum-dropped : fits ≡ false → g ≡ dropped f x → appliedOf g (Forget x) ≡ planned fits lengths f (AddConstant x y k)
+-- Whether the sum is in range, by the answers.
+sum-answered : (f : FactSet) (y k : ℕ) {a : Answers} → a ≡ answered f (sumAsked y k) → sumFits a k ≡ inRange f y k
+sum-answered f y k {a} e = go (eqb k bias) (shown f zeroVar y k) e
+  where
+    go : (b s : Bool) → a ≡ cond (not b) (record { there = s; back = cond (true && not s) false (shown f y zeroVar (roomAbove k)) }) noAnswers
+        → (b || a .there && a .back) ≡ (b || s && shown f y zeroVar (roomAbove k))
+    go true s i = refl
+    go false true i = ap₂ (λ (s t : Bool). s && t) (ap (λ (x : Answers). x .there) i) (ap (λ (x : Answers). x .back) i)
+    go false false i = ap (λ (x : Answers). x .there && x .back) i
+
+module _ (a : Answers) (lengths : List ℕ) (f : FactSet) (x y k : ℕ) {g : FactSet} where
+  pub sum-dropped : sumFits a k ≡ false → g ≡ dropped f x → appliedOf g (Forget x) ≡ planned a lengths f (AddConstant x y k)
   unfolding planned factRules.sumFacts
   sum-dropped r e = rw (r, e)
 
-  pub sum-shifted : fits ≡ true → x ≡ y → g ≡ shifted f x k → appliedOf g (Shift x k) ≡ planned fits lengths f (AddConstant x y k)
+  pub sum-shifted : sumFits a k ≡ true → x ≡ y → g ≡ shifted f x k → appliedOf g (Shift x k) ≡ planned a lengths f (AddConstant x y k)
   unfolding planned factRules.sumFacts
   sum-shifted r p e = rw (r, eq-eqb x y p, e)
 
-  pub sum-equated : fits ≡ true → x ≢ y → g ≡ equated (dropped f x) x y k → appliedOf g (Forget x) ≡ planned fits lengths f (AddConstant x y k)
+  pub sum-equated : sumFits a k ≡ true → x ≢ y → g ≡ equated (dropped f x) x y k → appliedOf g (Forget x) ≡ planned a lengths f (AddConstant x y k)
   unfolding planned factRules.sumFacts
   sum-equated r n e = rw (r, ne-eqb x y n, e)
 
@@ -132,24 +147,63 @@ module _ (lengths : List ℕ) (f : FactSet) (p q k : ℕ) {g : FactSet} where
 
 -- ---- a plan that is carried out
 
--- What is planned for the facts' own answer is what is applied.
-planned-applied : (fits : Bool) (lengths : List ℕ) (f : FactSet) (s : Simple) → fits ≡ inRange f (sourceAsked s) (constantAsked s) → planned fits lengths f s ≡ applied lengths f s
-unfolding planned applied factRules.factsAfter boundsRules.effect
-planned-applied fits lengths f (Literal x k) e = refl
-planned-applied fits lengths f (AddConstant x y k) e = rw e
-planned-applied fits lengths f (Arithmetic x y z op) e = refl
-planned-applied fits lengths f (Null p) e = refl
-planned-applied fits lengths f (Address p o) e = refl
-planned-applied fits lengths f (PointerOffset p q k) e = refl
-planned-applied fits lengths f (PointerIndex p q i) e = refl
-planned-applied fits lengths f (Load x p i k) e = refl
-planned-applied fits lengths f (Store p i k x) e = refl
-planned-applied fits lengths f (Check c) e = refl
+-- What a relation gives by the facts' own answers is what it gives.
+given-relation : (r : ℕ) (f : FactSet) (x y k : ℕ) {a : Answers}
+    → a ≡ answered f (record { asked = leb 4 r; chained = false; x = x; y = y; there = bias + k; back = bias - k })
+    → cond (leb 5 r) (differs (a .there) (a .back) f x y k) (relationFacts r f x y k) ≡ relationFacts r f x y k
+unfolding factRules.relationFacts
+given-relation zero f x y k e = refl
+given-relation (suc zero) f x y k e = refl
+given-relation (suc (suc zero)) f x y k e = refl
+given-relation (suc (suc (suc zero))) f x y k e = refl
+given-relation (suc (suc (suc (suc zero)))) f x y k e = refl
+given-relation (suc (suc (suc (suc (suc r))))) f x y k {a} e =
+    let w : a ≡ record { there = shown f x y (bias + k); back = shown f y x (bias - k) } = rw (le-leb 4 (suc (suc (suc (suc (suc r))))) (omega arith)) at e in
+    rw (le-leb 5 (suc (suc (suc (suc (suc r))))) (omega arith))
+    (ap₂ (λ (s t : Bool). differs s t f x y k) (ap (λ (i : Answers). i .there) w) (ap (λ (i : Answers). i .back) w))
 
--- Where the sum was asked for, the plan made for the answer, and the change made, the facts and the effect are the statement's.
-pub carried-out : (lengths : List ℕ) (f : FactSet) (s : Simple) (r : Plan) {g : FactSet} {m : Sum} {fits : Bool} → (m .source ≡ sourceAsked s) × (m .constant ≡ constantAsked s)
-    → fits ≡ inRange f (m .source) (m .constant) → Plans lengths s fits r → g ≡ changed f (r .change) → appliedOf g (r .effect) ≡ applied lengths f s
-carried-out lengths f s r {fits = fits} a b p e = ap (λ (i : FactSet). appliedOf i (r .effect)) e ∙ (p f ∙ planned-applied fits lengths f s (b ∙ ap₂ (inRange f) (a .0) (a .1)))
+given-facts : (f : FactSet) (c : Condition) {a : Answers} → a ≡ answered f (conditionAsked c) → conditionGiven a f c ≡ conditionFacts f c
+unfolding conditionGiven factRules.conditionFacts
+given-facts f c e = given-relation (c .relation) f (c .left) (c .right) (c .offset) e
+
+-- What is planned for the facts' own answers is what is applied.
+planned-applied : (lengths : List ℕ) (f : FactSet) (s : Simple) {a : Answers} → a ≡ answered f (statementAsked s) → planned a lengths f s ≡ applied lengths f s
+unfolding planned applied factRules.factsAfter boundsRules.effect
+planned-applied lengths f (Literal x k) e = refl
+planned-applied lengths f (AddConstant x y k) e = rw (sum-answered f y k e)
+planned-applied lengths f (Arithmetic x y z op) e = refl
+planned-applied lengths f (Null p) e = refl
+planned-applied lengths f (Address p o) e = refl
+planned-applied lengths f (PointerOffset p q k) e = refl
+planned-applied lengths f (PointerIndex p q i) e = refl
+planned-applied lengths f (Load x p i k) e = refl
+planned-applied lengths f (Store p i k x) e = refl
+planned-applied lengths f (Check c) e = ap (λ (g : FactSet). appliedOf g Keep) (given-facts f c e)
+
+-- Where the questions were asked, the plan made for the answers, and the change made, the facts and the effect are the statement's.
+pub carried-out : (lengths : List ℕ) (f : FactSet) (s : Simple) (r : Plan) {g : FactSet} {q : Questions} {a : Answers} → q ≡ statementAsked s
+    → a ≡ answered f q → Plans lengths s a r → g ≡ changed f (r .change) → appliedOf g (r .effect) ≡ applied lengths f s
+carried-out lengths f s r b w p e = ap (λ (i : FactSet). appliedOf i (r .effect)) e ∙ (p f ∙ planned-applied lengths f s (w ∙ ap (answered f) b))
+
+-- The same of a condition.
+pub assumed : (f : FactSet) (c : Condition) (r : Change) {g : FactSet} {q : Questions} {a : Answers} → q ≡ conditionAsked c → a ≡ answered f q → Assumes c a r → g ≡ changed f r
+    → g ≡ conditionFacts f c
+assumed f c r b w p e = e ∙ (p f ∙ given-facts f c (w ∙ ap (answered f) b))
+
+-- A negated condition asks the same.
+negation-asks : (r : ℕ) → leb 4 (negation r) ≡ leb 4 r
+unfolding negation
+negation-asks r = go (eqb (r % 2) 0) refl (leb 4 r) refl
+  where
+    go : (e : Bool) → eqb (r % 2) 0 ≡ e → (b : Bool) → leb 4 r ≡ b → leb 4 (cond e (r + 1) (r - 1)) ≡ b
+    go true e true b = le-leb 4 (r + 1) (omega (arith, leb-true 4 r b))
+    go true e false b = lt-leb 4 (r + 1) (omega (arith, leb-false 4 r b, eqb-true (r % 2) 0 e))
+    go false e true b = le-leb 4 (r - 1) (omega (arith, leb-true 4 r b, eqb-false (r % 2) 0 e))
+    go false e false b = lt-leb 4 (r - 1) (omega (arith, leb-false 4 r b))
+
+pub negated-asked : (c d : Condition) {q : Questions} → d ≡ negatedOf c → q ≡ conditionAsked c → q ≡ conditionAsked d
+unfolding negatedOf
+negated-asked c d e b = rw (e, negation-asks (c .relation)) b
 
 -- ---- statements that were read
 

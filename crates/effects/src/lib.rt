@@ -1,5 +1,6 @@
 // What a condition and a statement of kinds 1 to 10 do to the facts, planned as a change of the fact set, and what the statement does to known bounds.
-// No function here takes a fact set: the caller asks the one question a plan may need, and makes the change.
+// No function here takes a fact set: the caller asks the questions of a plan (crate asked), hands over the answers, and makes the change.
+use changes::Answers;
 use changes::Change;
 use changes::Fact;
 use changes::adding;
@@ -14,9 +15,9 @@ use statements::Simple;
 use sums::BIAS;
 use sums::MAX_VALUE;
 use sums::ZERO;
+ghost use mathlib.Core.Bool.{cond};
 ghost use mathlib.Core.Path.{_≡_};
 ghost use mathlib.Core.List.{[]};
-ghost use mathlib.Core.Bool.{cond};
 ghost use Prim.Native.Nat.{_^_, _<_};
 ghost use lib.Dec.{eqb};
 ghost use Rattle.sums.specs.Numbers.{bias};
@@ -63,10 +64,20 @@ fn forget(x: usize) -> Change
     ranging(x, 0, MAX_VALUE)
 }
 
-// The facts that a condition gives: left RELATION right + offset.
-pub fn assume(condition: Condition) -> Change
+// x <= y + k, where it is told so.
+fn fact_if(told: bool, x: usize, y: usize, k: u64) -> Fact
+    ensures { λ r. ⌜ Adds r (λ f. cond told (added f x y k) f) ⌝ }
+{
+    if told {
+        return Fact { x, y, k };
+    }
+    no_fact()
+}
+
+// The facts that a condition gives: left RELATION right + offset; the answers tell whether left <= right + offset and right + offset <= left are shown.
+pub fn assume(condition: Condition, answers: Answers) -> Change
     requires { ⌜ condition .offset < 2 ^ 32 ⌝ }
-    ensures { λ r. ⌜ Assumes condition r ⌝ }
+    ensures { λ r. ⌜ Assumes condition answers r ⌝ }
 {
     let relation = condition.relation;
     let x = condition.left;
@@ -85,24 +96,20 @@ pub fn assume(condition: Condition) -> Change
                 k: BIAS - k,
             },
         ),
-        _ => {
-            if y != ZERO {
-                return keep();
-            }
-            if k != 0 {
-                return keep();
-            }
-            one(ZERO, x, BIAS - 1)
-        }
+        _ => adding(
+            fact_if(answers.there, x, y, BIAS + k - 1),
+            fact_if(answers.back, y, x, BIAS - k - 1),
+        ),
     }
 }
 
-// x := y + k; `fits` tells whether y + k is in range.
-fn add_constant(x: usize, y: usize, k: u64, fits: bool) -> Plan
+// x := y + k; the answers tell whether y + k is in range, and a plain copy always counts as shown.
+fn add_constant(x: usize, y: usize, k: u64, answers: Answers) -> Plan
     requires { ⌜ (k < 2 ^ 34) × (y < 16) ⌝ }
-    ensures { λ r. ⌜ Plans [] (AddConstant x y k) fits r ⌝ }
+    ensures { λ r. ⌜ Plans [] (AddConstant x y k) answers r ⌝ }
 {
     let forgotten = Effect::Forget { target: x };
+    let fits = (k == BIAS) | (answers.there & answers.back);
     if !fits {
         return Plan {
             change: forget(x),
@@ -175,10 +182,10 @@ fn index_effect(p: usize, q: usize) -> Effect
     }
 }
 
-// A statement of kinds 1 to 10; `fits` tells whether the sum that is asked for is in range.
-pub fn plan_statement(lengths: [u64; 16], simple: Simple, fits: bool) -> Plan
+// A statement of kinds 1 to 10, with the answers to what it asks.
+pub fn plan_statement(lengths: [u64; 16], simple: Simple, answers: Answers) -> Plan
     requires { ⌜ InRange simple ⌝ }
-    ensures { λ r. ⌜ Plans lengths simple fits r ⌝ }
+    ensures { λ r. ⌜ Plans lengths simple answers r ⌝ }
 {
     match simple {
         Simple::Literal { target, value } => Plan {
@@ -189,7 +196,7 @@ pub fn plan_statement(lengths: [u64; 16], simple: Simple, fits: bool) -> Plan
             target,
             source,
             constant,
-        } => add_constant(target, source, constant, fits),
+        } => add_constant(target, source, constant, answers),
         Simple::Arithmetic {
             target,
             left: _,
@@ -242,7 +249,7 @@ pub fn plan_statement(lengths: [u64; 16], simple: Simple, fits: bool) -> Plan
             effect: Effect::Keep,
         },
         Simple::Check { condition } => Plan {
-            change: assume(condition),
+            change: assume(condition, answers),
             effect: Effect::Keep,
         },
     }

@@ -10,6 +10,8 @@ use Rattle.arrays.specs.Tabulate.{tabulate}
 use Rattle.facts.specs.declared.rows.Row.{Row}
 use Rattle.changes.specs.declared.Fact.{Fact}
 use Rattle.changes.specs.declared.Change.{Change}
+use Rattle.changes.specs.declared.Questions.{Questions}
+use Rattle.changes.specs.declared.Answers.{Answers}
 use Rattle.facts.specs.declared.FactSet.{FactSet}
 
 -- ---- rows and sets, as lists
@@ -50,6 +52,16 @@ endShown f q n k r m j = cond (f .contradiction) true (leb (concatenated (concat
 -- "when 0 <= y + k <= 4,294,967,295 is shown": 0 <= y + k, and y <= 4,294,967,295 - k; "a plain copy always counts as shown".
 abbrev pub inRange : FactSet → ℕ → ℕ → Bool
 inRange f y k = eqb k bias || shown f zeroVar y k && shown f y zeroVar (roomAbove k)
+
+-- Two questions answered, where they are asked: x <= y + there, and y <= x + back; of two that are chained the second is asked only where the first is shown.
+abbrev pub noAnswers : Answers
+noAnswers = record { there = false; back = false }
+
+abbrev pub answered : FactSet → Questions → Answers
+answered f q =
+    cond (q .asked)
+    (record { there = shown f (q .x) (q .y) (q .there); back = cond (q .chained && not (shown f (q .x) (q .y) (q .there))) false (shown f (q .y) (q .x) (q .back)) })
+    noAnswers
 
 -- ---- new
 

@@ -2,8 +2,8 @@
 use Prim.Native.Nat.{ℕ, _+_, _-_, _≤_, _<_, min}
 use mathlib.Core.Path.{_≡_, refl, sym, ap, _∙_}
 use mathlib.Core.Logic.{_≢_}
-use mathlib.Core.Bool.{Bool, true, false, _&&_, cond}
-use borrow.Author.Tests.{lt-ltb, le-ltb, eqb-true, eqb-false, eq-eqb, ne-eqb}
+use mathlib.Core.Bool.{Bool, true, false, cond}
+use borrow.Author.Tests.{lt-ltb, le-ltb, eqb-true, eqb-false}
 use lib.Dec.{leb, eqb}
 use lib.Seq.{getD-set-same, getD-set-other}
 use native.Mathlib.Omega.{arith}
@@ -11,8 +11,8 @@ use Rattle.sums.specs.Numbers.{bias, maxValue, zeroVar}
 use Rattle.changes.specs.Changes.{noFact, adding, ranging, shifting, equating}
 use Rattle.arrays.specs.Tabulate.{tabulate}
 use Rattle.arrays.specs.TabulateLaws.{length-tabulate, getD-tabulate}
-use Rattle.sums.specs.Sums.{concatenated, negated, roomAbove}
-use Rattle.facts.specs.Store.{noRow, rowAt, inRow, sumAt, rowOf, setOf, leastSum, shown, endShown, inRange, newSum, newRow, newSet, loweredRow, lowered, marked, added, ownRow, reroutedRow, rerouted, reassigned, anew, addedFact, addedFirst, changed, dropped, ranged, shifted, related, joinedSum, joinedRow, joined}
+use Rattle.sums.specs.Sums.{concatenated, negated}
+use Rattle.facts.specs.Store.{noRow, rowAt, inRow, sumAt, rowOf, setOf, leastSum, shown, endShown, newSum, newRow, newSet, loweredRow, lowered, marked, added, ownRow, reroutedRow, rerouted, reassigned, anew, addedFact, addedFirst, changed, dropped, ranged, shifted, related, joinedSum, joinedRow, joined}
 use Rattle.facts.specs.declared.rows.Row.{Row}
 use Rattle.changes.specs.declared.Fact.{Fact}
 use Rattle.changes.specs.declared.Change.{Change}
@@ -77,21 +77,6 @@ module _ (f : FactSet) (q n k r m j : ℕ) where
   pub end-clear : f .contradiction ≡ false → endShown f q n k r m j ≡ leb (concatenated (concatenated (leastSum f q r) (leastSum f n m)) k) j
   unfolding endShown
   end-clear e = asked-clear (leb (concatenated (concatenated (leastSum f q r) (leastSum f n m)) k) j) e
-
--- ---- a sum in range
-
-module _ (f : FactSet) (y k : ℕ) where
-  pub plain-in-range : k ≡ bias → inRange f y k ≡ true
-  plain-in-range e = rw (eq-eqb k bias e)
-
-  shown-in-range : k ≢ bias → inRange f y k ≡ (shown f zeroVar y k && shown f y zeroVar (roomAbove k))
-  shown-in-range n = rw (ne-eqb k bias n)
-
-  pub range-shown : {b r : Bool} → k ≢ bias → b ≡ shown f zeroVar y k → b ≡ true → r ≡ shown f y zeroVar (roomAbove k) → r ≡ inRange f y k
-  range-shown n s t e = e ∙ sym (shown-in-range n ∙ ap (λ (a : Bool). a && shown f y zeroVar (roomAbove k)) (sym s ∙ t))
-
-  pub range-lost : {b : Bool} → k ≢ bias → b ≡ shown f zeroVar y k → b ≡ false → false ≡ inRange f y k
-  range-lost n s t = sym (shown-in-range n ∙ ap (λ (a : Bool). a && shown f y zeroVar (roomAbove k)) (sym s ∙ t))
 
 -- ---- add
 

@@ -1,37 +1,40 @@
 -- A condition that holds makes its facts true, and one that fails makes the facts of its negation true.
-use Prim.Native.Nat.{ℕ, zero, suc, _+_, _≤_, _<_}
+use Prim.Native.Nat.{ℕ, zero, suc, _+_, _-_, _≤_, _<_}
 use mathlib.Core.Path.{_≡_, refl, ap, _∙_}
 use mathlib.Core.Logic.{_≢_}
-use mathlib.Core.Bool.{Bool, true, false, not, _&&_, cond}
+use mathlib.Core.Bool.{Bool, true, false, not, cond}
 use mathlib.Core.List.{List}
 use native.Mathlib.Omega.{arith}
 use borrow.Author.Tests.{leb-true, ltb-true, eqb-true, eqb-false, not-true}
 use lib.Dec.{eqb}
-use Rattle.sums.specs.Numbers.{zeroVar}
+use Rattle.sums.specs.Numbers.{bias}
+use Rattle.facts.specs.Store.{shown, added}
 use Rattle.chains.specs.Sound.{InRange, Holds, added-holds}
 use Rattle.facts.specs.declared.FactSet.{FactSet}
-use Rattle.sections.specs.SectionsLaws.{both}
-use Rattle.conditions.specs.NegationLaws.{negation-decides}
-use Rattle.conditions.specs.Negation.{negation, negatedOf}
-use Rattle.conditions.specs.declared.Condition.{Condition}
-use Rattle.rules.specs.Stored.{positive, differs, relationFacts, conditionFacts}
-use Rattle.rules.specs.FactsTrue.{equated-holds, positive-holds}
 use Rattle.conditions.specs.Relations.{relates}
+use Rattle.conditions.specs.Negation.{negation, negatedOf}
+use Rattle.conditions.specs.NegationLaws.{negation-decides}
+use Rattle.conditions.specs.declared.Condition.{Condition}
+use Rattle.rules.specs.Stored.{differs, relationFacts, conditionFacts}
+use Rattle.rules.specs.FactsTrue.{equated-holds}
 use Rattle.machine.specs.Machine.{value, conditionHolds}
 use Rattle.rules.specs.FactRules as factRules
 
 module _ (f : FactSet) (v : ℕ → ℕ) (g : InRange v) (h : Holds f v) where
-  differs-holds : (x y k : ℕ) → v x ≢ v y + k → Holds (differs f x y k) v
+  differs-holds : (x y k : ℕ) → v x ≢ v y + k → Holds (differs (shown f x y (bias + k)) (shown f y x (bias - k)) f x y k) v
   unfolding factRules.differs
-  differs-holds x y k n = go (eqb y zeroVar && eqb k 0) refl
+  differs-holds x y k n = above (shown f y x (bias - k)) refl
     where
-      go : (b : Bool) → (eqb y zeroVar && eqb k 0) ≡ b → Holds (cond b (positive f x) f) v
-      go false e = h
-      go true e =
-          let p = both (eqb y zeroVar) (eqb k 0) e in
-          let z : v y ≡ 0 = ap v (eqb-true y zeroVar (p .0)) ∙ g .zero-is in
-          let k₀ : k ≡ 0 = eqb-true k 0 (p .1) in
-          positive-holds f v g h x (omega (arith, n))
+      below : (b : Bool) → shown f x y (bias + k) ≡ b → Holds (cond b (added f x y (bias + k - 1)) f) v
+      below true e = added-holds f v g h x y _ (λ a b. omega (arith, h x y (bias + k) a b e, n))
+      below false e = h
+
+      lower : FactSet
+      lower = cond (shown f x y (bias + k)) (added f x y (bias + k - 1)) f
+
+      above : (b : Bool) → shown f y x (bias - k) ≡ b → Holds (cond b (added lower y x (bias - k - 1)) lower) v
+      above true e = added-holds lower v g (below (shown f x y (bias + k)) refl) y x _ (λ a b. omega (arith, h y x (bias - k) a b e, n, g .below x))
+      above false e = below (shown f x y (bias + k)) refl
 
   relation-holds : (r x y k : ℕ) → relates r (v x) (v y + k) ≡ true → Holds (relationFacts r f x y k) v
   unfolding relates factRules.relationFacts

@@ -25,9 +25,12 @@ module _ (S : FactSets) where
   unfoldable pub positive : Facts → ℕ → Facts
   positive f x = added f zeroVar x (bias - 1)
 
-  -- "!= gives a fact only against literal 0, namely x >= 1."
-  unfoldable pub differs : Facts → ℕ → ℕ → ℕ → Facts
-  differs f x y k = cond (eqb y zeroVar && eqb k 0) (positive f x) f
+  -- Point 4: "When x != y or x != literal holds, of integers or of pointers, and x <= y is shown there (at a while, after the drop), x <= y - 1 is now a fact,
+  -- and the same from the other side": x != y + k, where `below` tells whether x <= y + k is shown, and `above` whether y + k <= x is.
+  unfoldable pub differs : Bool → Bool → Facts → ℕ → ℕ → ℕ → Facts
+  differs below above f x y k =
+      let lower = cond below (added f x y (bias + k - 1)) f in
+      cond above (added lower y x (bias - k - 1)) lower
 
   -- "A condition gives its facts (< is <= with one less, == both ways)": left RELATION right + k, by the relation's number.
   unfoldable pub relationFacts : ℕ → Facts → ℕ → ℕ → ℕ → Facts
@@ -36,7 +39,7 @@ module _ (S : FactSets) where
   relationFacts (suc (suc zero)) f x y k = added f y x (bias - k - 1)
   relationFacts (suc (suc (suc zero))) f x y k = added f x y (bias + k)
   relationFacts (suc (suc (suc (suc zero)))) f x y k = equated f x y (bias + k)
-  relationFacts (suc (suc (suc (suc (suc n))))) f x y k = differs f x y k
+  relationFacts (suc (suc (suc (suc (suc n))))) f x y k = differs (shown f x y (bias + k)) (shown f y x (bias - k)) f x y k
 
   unfoldable pub conditionFacts : Facts → Condition → Facts
   conditionFacts f c = relationFacts (c .relation) f (c .left) (c .right) (c .offset)

@@ -13,6 +13,7 @@ use Rattle.sums.specs.Sums.{roomAbove}
 use Rattle.arrays.specs.TabulateLaws.{getD-tabulate}
 use Rattle.facts.specs.Store.{shown, endShown, newSet, added, dropped, ranged, shifted, joined}
 use Rattle.chains.specs.Facts.{Variables, Node, Comparable, same-kind, from-zero, to-zero, Known, empty, EndShown}
+use Rattle.chains.specs.Chains.{left-node, right-node}
 use Rattle.chains.specs.Exact.{Exact, end-exact}
 use Rattle.chains.specs.History.{History, new, add, drop, range, shift, join, known, Legal, Slight}
 use Rattle.chains.specs.HistoryLaws.{made, exact, shows-exactly}
@@ -128,15 +129,24 @@ module _ (vars : Variables) where
     represents-positive t x h = represents-add t zeroVar x (bias - 1) (from-zero h)
 
     -- A condition between x and y.
-    module _ {H : History} {f : FactSet} (t : Represents vars H f) (x y k : ℕ) (h : x < vars .count) (r : Comparable vars x y) (s : Comparable vars y x) where
+    module _ {H : History} {f : FactSet} (t : Represents vars H f) (x y k : ℕ) (r : Comparable vars x y) (s : Comparable vars y x) where
+      represents-differs : (below above : Bool) → Represents vars (differs (byChains q) below above H x y k) (differs store below above f x y k)
+      unfolding differs
+      represents-differs below above =
+          let lower = represents-pick below (represents-add t x y (bias + k - 1) r) t in
+          represents-pick above (represents-add lower y x (bias - k - 1) s) lower
+
       represents-relation : (n : ℕ) → Represents vars (relationFacts (byChains q) n H x y k) (relationFacts store n f x y k)
-      unfolding relationFacts differs
+      unfolding relationFacts
       represents-relation zero = represents-add t x y (bias + k - 1) r
       represents-relation (suc zero) = represents-add t y x (bias - k) s
       represents-relation (suc (suc zero)) = represents-add t y x (bias - k - 1) s
       represents-relation (suc (suc (suc zero))) = represents-add t x y (bias + k) r
       represents-relation (suc (suc (suc (suc zero)))) = represents-equated t x y (bias + k) r s
-      represents-relation (suc (suc (suc (suc (suc n))))) = represents-pick (eqb y zeroVar && eqb k 0) (represents-positive t x h) t
+      represents-relation (suc (suc (suc (suc (suc n))))) =
+          let e₁ : shown f x y (bias + k) ≡ q .shown H x y (bias + k) = shown-represented t x y (bias + k) (left-node vars r) (right-node vars r) in
+          let e₂ : shown f y x (bias - k) ≡ q .shown H y x (bias - k) = shown-represented t y x (bias - k) (left-node vars s) (right-node vars s) in
+          rw (← e₁, ← e₂) (represents-differs (shown f x y (bias + k)) (shown f y x (bias - k)))
 
     -- Variables dropped before a loop.
     represents-dropped : (b : Bool) {H : History} {f : FactSet} (n : ℕ) → (b ≡ true → n < vars .count) → Represents vars H f → Represents vars (cond b (drop H n) H) (cond b (dropped f n) f)
@@ -181,16 +191,15 @@ module _ (T : List ℤ) (h : Sections) (w : Limits h) where
   -- ---- conditions and statements
 
   record Compared (x y : ℕ) : Type 0 where
-    first : x < h .variables
     there : Comparable vars x y
     back : Comparable vars y x
 
   zero-compared : {x y : ℕ} → x < h .variables → y ≡ zeroVar → Compared x y
-  zero-compared l e = rw e (record { first = l; there = to-zero l; back = from-zero l })
+  zero-compared l e = rw e (record { there = to-zero l; back = from-zero l })
 
   compared : {x y k : ℕ} → Sides T h x y k → Compared x y
-  compared (integers a b e) = record { first = a .below; there = two-integers a b; back = two-integers b a }
-  compared (pointers a b e) = record { first = a .below; there = two-pointers a b; back = two-pointers b a }
+  compared (integers a b e) = record { there = two-integers a b; back = two-integers b a }
+  compared (pointers a b e) = record { there = two-pointers a b; back = two-pointers b a }
   compared (literal a b e) = zero-compared (a .below) b
   compared (null a b e) = zero-compared (a .below) b
 
@@ -249,7 +258,7 @@ module _ (T : List ℤ) (h : Sections) (w : Limits h) where
   module _ (q : Decider) (right : Decides vars q) where
     pub condition-represented : {H : History} {f : FactSet} → Represents vars H f → (c : Condition) → Sides T h (c .left) (c .right) (c .offset) → Represents vars (conditionFacts (byChains q) H c) (conditionFacts store f c)
     unfolding conditionFacts
-    condition-represented t c s = let p = compared s in represents-relation vars q right t (c .left) (c .right) (c .offset) (p .first) (p .there) (p .back) (c .relation)
+    condition-represented t c s = let p = compared s in represents-relation vars q right t (c .left) (c .right) (c .offset) (p .there) (p .back) (c .relation)
 
     pub negated-represented : {H : History} {f : FactSet} → Represents vars H f → (c : Condition) → Sides T h (c .left) (c .right) (c .offset)
         → Represents vars (conditionFacts (byChains q) H (negatedOf c)) (conditionFacts store f (negatedOf c))

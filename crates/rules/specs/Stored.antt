@@ -57,7 +57,7 @@ equated = facts.equated store
 abbrev pub positive : FactSet → ℕ → FactSet
 positive = facts.positive store
 
-abbrev pub differs : FactSet → ℕ → ℕ → ℕ → FactSet
+abbrev pub differs : Bool → Bool → FactSet → ℕ → ℕ → ℕ → FactSet
 differs = facts.differs store
 
 abbrev pub relationFacts : ℕ → FactSet → ℕ → ℕ → ℕ → FactSet

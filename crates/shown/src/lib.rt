@@ -1,11 +1,10 @@
 // What a fact set shows.
+use changes::Answers;
+use changes::Questions;
 use facts::FactSet;
-use sums::BIAS;
-use sums::ZERO;
 use sums::concat;
-use sums::room_above;
 ghost use mathlib.Core.Path.{_≡_};
-ghost use Rattle.facts.specs.Store.{shown, endShown, inRange};
+ghost use Rattle.facts.specs.Store.{shown, endShown, answered};
 
 // x <= y + k is shown. Contradictory facts show every fact.
 pub fn shows(facts: FactSet, x: usize, y: usize, k: u64) -> bool
@@ -27,15 +26,33 @@ pub fn shows_end(facts: FactSet, q: usize, n: usize, k: u64, r: usize, m: usize,
     concat(concat(facts.sum(q, r), facts.sum(n, m)), k) <= j
 }
 
-// 0 <= y + k <= 4,294,967,295 is shown; a plain copy always counts as shown.
-pub fn in_range(facts: FactSet, y: usize, k: u64) -> bool
-    ensures { λ r. ⌜ r ≡ inRange facts y k ⌝ }
+// Two questions, answered in one call, since a fact set is large to pass; and where nothing is asked, without looking at it.
+pub fn answer(facts: FactSet, questions: Questions) -> Answers
+    ensures { λ r. ⌜ r ≡ answered facts questions ⌝ }
 {
-    if k == BIAS {
-        return true;
+    if !questions.asked {
+        return Answers {
+            there: false,
+            back: false,
+        };
     }
-    if shows(facts, ZERO, y, k) {
-        return shows(facts, y, ZERO, room_above(k));
+    if facts.contradicts() {
+        return Answers {
+            there: true,
+            back: true,
+        };
     }
-    false
+    let x = questions.x;
+    let y = questions.y;
+    let there = facts.sum(x, y) <= questions.there;
+    if questions.chained & !there {
+        return Answers {
+            there: false,
+            back: false,
+        };
+    }
+    Answers {
+        there,
+        back: facts.sum(y, x) <= questions.back,
+    }
 }

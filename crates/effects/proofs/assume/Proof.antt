@@ -2,7 +2,7 @@
 use borrow.Author.Needs.{needs}
 use mathlib.Core.Path.{refl}
 use Rattle.effects.specs.ChangeLaws.{makes-both}
-use Rattle.effects.specs.FactRulesLaws.{condition-less, condition-not-less, condition-greater, condition-not-greater, condition-equal, differs-variable, differs-literal, differs-zero}
+use Rattle.effects.specs.FactRulesLaws.{condition-less, condition-not-less, condition-greater, condition-not-greater, condition-equal, condition-differs}
 use Rattle.effects.proofs.assume.Statement.{statement}
 use Rattle.effects.proofs.assume.Tie as tie
 
@@ -15,14 +15,11 @@ assume-spec =
     (λ c. search needs) (λ c. search needs) (λ c κs. search needs)
     (λ c. search needs) (λ c κs. search needs)
     (λ c. search needs) (λ c. search needs) (λ c κs. search needs)
-    (λ c κs. search needs)
-    (λ c f. differs-variable f _ (c .before .before .match .rest .0 .0 .0 .0 .1) (c .before .before .match .rest .0 .0 .0 .1) (c .before .before .match .rest .0 .0 .1) (c .before .before .match .rest .0 .1) (c .before .before .match .rest .1) (c .before .if1 .taken) (c .keep .ensures f))
-    (λ c κs. search needs)
-    (λ c f. differs-literal f _ (c .before .before .before .match .rest .0 .0 .0 .0 .1) (c .before .before .before .match .rest .0 .0 .0 .1) (c .before .before .before .match .rest .0 .0 .1) (c .before .before .before .match .rest .0 .1) (c .before .before .before .match .rest .1) (c .before .before .if1 .left) (c .before .if2 .taken) (c .keep2 .ensures f))
-    (λ c. search needs) (λ c κs. search needs)
-    (λ c f. condition-less f _ (c .before .match .keys1) (c .one .ensures f))
-    (λ c f. condition-not-less f _ (c .before .match .keys2) (c .one2 .ensures f))
-    (λ c f. condition-greater f _ (c .before .match .keys3) (c .one3 .ensures f))
-    (λ c f. condition-not-greater f _ (c .before .match .keys4) (c .one4 .ensures f))
-    (λ c f. condition-equal f _ (c .before .match .keys5) refl (makes-both (c .adding .ensures) f))
-    (λ c f. differs-zero f _ (c .before .before .before .match .rest .0 .0 .0 .0 .1) (c .before .before .before .match .rest .0 .0 .0 .1) (c .before .before .before .match .rest .0 .0 .1) (c .before .before .before .match .rest .0 .1) (c .before .before .before .match .rest .1) (c .before .before .if1 .left) (c .before .if2 .left) (c .one5 .ensures f)))
+    (λ c. search needs) (λ c. search needs) (λ c κs. search needs)
+    (λ c. search needs) (λ c. search needs) (λ c κs. search needs) (λ c κs. search needs)
+    (λ c f. condition-less _ f _ (c .before .match .keys1) (c .one .ensures f))
+    (λ c f. condition-not-less _ f _ (c .before .match .keys2) (c .one2 .ensures f))
+    (λ c f. condition-greater _ f _ (c .before .match .keys3) (c .one3 .ensures f))
+    (λ c f. condition-not-greater _ f _ (c .before .match .keys4) (c .one4 .ensures f))
+    (λ c f. condition-equal _ f _ (c .before .match .keys5) refl (makes-both (c .adding .ensures) f))
+    (λ c f. let m = c .before .before .before .match .rest in condition-differs _ f _ (m .0 .0 .0 .0 .1) (m .0 .0 .0 .1) (m .0 .0 .1) (m .0 .1) (m .1) _ _ (c .before .before .fact-if .ensures) (c .before .fact-if2 .ensures) (makes-both (c .adding2 .ensures) f)))

@@ -7,15 +7,16 @@ use denote.Ref.{now}
 use borrow.Fn.Kinds.{In}
 use borrow.Fn.PlainCycle.{Measures, is, falls, and}
 use Rattle.blocks.specs.Tree.{parse}
-use Rattle.effects.specs.FactRulesLaws.{carried-out}
+use Rattle.effects.specs.FactRulesLaws.{carried-out, assumed, negated-asked}
 use Rattle.bundles.specs.BundleLaws.{applied-short}
 use Rattle.checker.specs.WalkLaws.{Kept, Turn, arm, placed, falls as left-falls, negated-offset, if-counts, while-count, bundle-count, if-offset, while-offset, plain-ranged, kept-none, kept-done, kept-end, kept-unread, plain-refused, turn-plain, turn-untouched, then-refused, else-refused, turn-if, body-refused, turn-while, bundle-refused, turn-bundle}
 use Rattle.checker.proofs.walk.walk.Reads as walk
 use Rattle.checker.proofs.walk.walk.Kinds as walk-kinds
 use Rattle.checker.proofs.walk.+walk.Lts-walk as walk-lts
-use Rattle.asked.proofs.asked_sum.Reads as asked-sum-reads
+use Rattle.asked.proofs.ask_statement.Reads as ask-statement-reads
+use Rattle.asked.proofs.ask_condition.Reads as ask-condition-reads
 use Rattle.effects.proofs.plan_statement.Reads as plan-statement-reads
-use Rattle.shown.proofs.in_range.Reads as in-range-reads
+use Rattle.shown.proofs.answer.Reads as answer-reads
 use Rattle.facts.proofs.FactSet.after.Reads as after-reads
 use Rattle.touched.proofs.touches.Reads as touches-reads
 use Rattle.effects.proofs.assume.Reads as assume-reads
@@ -38,7 +39,7 @@ abbrev walk-below : ℕ → In 1 walk-kinds.ps
 walk-below t = and 1 walk-kinds.ps (falls 1 walk-kinds.ps _<_ μ-walk t) walk.Pre
 
 abbrev callees : ℕ → walk-lts.Claims
-callees t = (read-due-reads.Asked, read-due-reads.Learnt, asked-sum-reads.Asked, asked-sum-reads.Learnt, in-range-reads.Asked, in-range-reads.Learnt, plan-statement-reads.Asked, plan-statement-reads.Learnt, after-reads.Asked, after-reads.Learnt, touches-reads.Asked, touches-reads.Learnt, check-effect-reads.Asked, check-effect-reads.Learnt, assume-reads.Asked, assume-reads.Learnt, walk-below t, walk.Post, negated-reads.Asked, negated-reads.Learnt, join-reads.Asked, join-reads.Learnt, lose-reads.Asked, lose-reads.Learnt, walk-bundle-reads.Asked, walk-bundle-reads.Learnt)
+callees t = (read-due-reads.Asked, read-due-reads.Learnt, ask-statement-reads.Asked, ask-statement-reads.Learnt, answer-reads.Asked, answer-reads.Learnt, plan-statement-reads.Asked, plan-statement-reads.Learnt, after-reads.Asked, after-reads.Learnt, touches-reads.Asked, touches-reads.Learnt, check-effect-reads.Asked, check-effect-reads.Learnt, ask-condition-reads.Asked, ask-condition-reads.Learnt, assume-reads.Asked, assume-reads.Learnt, walk-below t, walk.Post, negated-reads.Asked, negated-reads.Learnt, join-reads.Asked, join-reads.Learnt, lose-reads.Asked, lose-reads.Learnt, walk-bundle-reads.Asked, walk-bundle-reads.Learnt)
 
 abbrev Inv : walk-lts.InvT-loop
 Inv table sections environment named first end allowed lengths pointers at₀ left₀ facts₀ at left facts = Kept table sections environment end allowed (parse allowed table sections first end) facts₀ at left facts
@@ -65,46 +66,51 @@ pub +walk-spec : {M : Type 1} → statement M
     (λ c. kept-unread (c .before .before .before .before .before .loop .inv) (c .before .before .before .before .loop-test .taken) (c .before .before .before .if1 .left) (sym (c .before .before .read-due .ensures) ∙ c .enum-told .given .1) refl)
     (λ c. omega (arith, placed (turn t (c))))
     (λ c. search needs)
-    (λ c κs. search needs) (λ c κs. search needs)
+    (λ c κs. plain-ranged (arm (turn t (c .before .before .before)) (c .before .statement .given .1)))
+    (λ c κs. search needs)
     (λ c κs. plain-ranged (arm (turn t (c .before .before .before .before .before)) (c .before .before .before .statement .given .1)))
     (λ c κs. search needs) (λ c κs. search needs)
-    (λ c κs. applied-short (c .before .before .before .before .before .before .before .before .before .before .before .before .before .before .before .before .before .before .args .environment) _ _ (carried-out _ _ _ _ (c .before .before .before .before .before .asked-sum .ensures) (c .before .before .before .before .in-range .ensures) (c .before .before .before .plan-statement .ensures) (c .before .before .after .ensures)) (c .before .before .before .before .before .before .before .before .before .before .before .before .before .before .before .before .before .before .pre .1 .0) (plain-ranged (arm (turn t (c .before .before .before .before .before .before .before .before .before)) (c .before .before .before .before .before .before .before .statement .given .1))))
+    (λ c κs. applied-short (c .before .before .before .before .before .before .before .before .before .before .before .before .before .before .before .before .before .before .args .environment) _ _ (carried-out _ _ _ _ (c .before .before .before .before .before .ask-statement .ensures) (c .before .before .before .before .answer .ensures) (c .before .before .before .plan-statement .ensures) (c .before .before .after .ensures)) (c .before .before .before .before .before .before .before .before .before .before .before .before .before .before .before .before .before .before .pre .1 .0) (plain-ranged (arm (turn t (c .before .before .before .before .before .before .before .before .before)) (c .before .before .before .before .before .before .before .statement .given .1))))
     (λ c. search needs) (λ c. search needs)
-    (λ c. plain-refused (arm (turn t (c .before .before .before .before .before .before .before .before .before .before .before .before)) (c .before .before .before .before .before .before .before .before .before .before .statement .given .1)) (carried-out _ _ _ _ (c .before .before .before .before .before .before .before .before .asked-sum .ensures) (c .before .before .before .before .before .before .before .in-range .ensures) (c .before .before .before .before .before .before .plan-statement .ensures) (c .before .before .before .before .before .after .ensures)) (c .before .before .check-effect .ensures) refl (c .enum-told3 .given .1))
+    (λ c. plain-refused (arm (turn t (c .before .before .before .before .before .before .before .before .before .before .before .before)) (c .before .before .before .before .before .before .before .before .before .before .statement .given .1)) (carried-out _ _ _ _ (c .before .before .before .before .before .before .before .before .ask-statement .ensures) (c .before .before .before .before .before .before .before .answer .ensures) (c .before .before .before .before .before .before .plan-statement .ensures) (c .before .before .before .before .before .after .ensures)) (c .before .before .check-effect .ensures) refl (c .enum-told3 .given .1))
     (λ c. omega (arith, (turn t (c .before .before .before .before .before .before .before .before .before .before .before .before)) .some))
-    (λ c. turn-plain (arm (turn t (c .before .before .before .before .before .before .before .before .before .before .before .before)) (c .before .before .before .before .before .before .before .before .before .before .statement .given .1)) (carried-out _ _ _ _ (c .before .before .before .before .before .before .before .before .asked-sum .ensures) (c .before .before .before .before .before .before .before .in-range .ensures) (c .before .before .before .before .before .before .plan-statement .ensures) (c .before .before .before .before .before .after .ensures)) (c .before .before .check-effect .ensures) (c .enum-told2 .given .1))
+    (λ c. turn-plain (arm (turn t (c .before .before .before .before .before .before .before .before .before .before .before .before)) (c .before .before .before .before .before .before .before .before .before .before .statement .given .1)) (carried-out _ _ _ _ (c .before .before .before .before .before .before .before .before .ask-statement .ensures) (c .before .before .before .before .before .before .before .answer .ensures) (c .before .before .before .before .before .before .plan-statement .ensures) (c .before .before .before .before .before .after .ensures)) (c .before .before .check-effect .ensures) (c .enum-told2 .given .1))
     (λ c. omega (arith, (turn t (c .before .before .before .before .before .before .before .before .before)) .some))
-    (λ c. turn-untouched (arm (turn t (c .before .before .before .before .before .before .before .before .before)) (c .before .before .before .before .before .before .before .statement .given .1)) (carried-out _ _ _ _ (c .before .before .before .before .before .asked-sum .ensures) (c .before .before .before .before .in-range .ensures) (c .before .before .before .plan-statement .ensures) (c .before .before .after .ensures)) (c .before .before .before .before .before .before .before .before .before .before .before .before .before .before .before .before .before .before .pre .1 .1) (sym (c .before .touches .ensures) ∙ c .if2 .left))
+    (λ c. turn-untouched (arm (turn t (c .before .before .before .before .before .before .before .before .before)) (c .before .before .before .before .before .before .before .statement .given .1)) (carried-out _ _ _ _ (c .before .before .before .before .before .ask-statement .ensures) (c .before .before .before .before .answer .ensures) (c .before .before .before .plan-statement .ensures) (c .before .before .after .ensures)) (c .before .before .before .before .before .before .before .before .before .before .before .before .before .before .before .before .before .before .pre .1 .1) (sym (c .before .touches .ensures) ∙ c .if2 .left))
     (λ c. search needs)
     (λ c. let u = (arm (turn t (c .before .before .before)) (c .before .statement2 .given .1)) in omega (arith, placed u, if-counts u))
     (λ c. let u = (arm (turn t (c .before .before .before)) (c .before .statement2 .given .1)) in omega (arith, placed u, if-counts u))
     (λ c κs. if-offset (arm (turn t (c .before .before .before)) (c .before .statement2 .given .1)))
     (λ c κs. search needs)
-    (λ c κs. (left-falls (turn t (c .before .before .before .before .before)) (c .before .before .before .before .before .before .before .before .before .before .before .before .before .before .pre .0), c .before .before .before .before .before .before .before .before .before .before .before .before .before .before .pre .1))
+    (λ c κs. if-offset (arm (turn t (c .before .before .before .before .before)) (c .before .before .before .statement2 .given .1)))
+    (λ c κs. search needs)
+    (λ c κs. (left-falls (turn t (c .before .before .before .before .before .before .before)) (c .before .before .before .before .before .before .before .before .before .before .before .before .before .before .before .before .pre .0), c .before .before .before .before .before .before .before .before .before .before .before .before .before .before .before .before .pre .1))
     (λ c. search needs) (λ c. search needs)
-    (λ c. then-refused (arm (turn t (c .before .before .before .before .before .before .before .before)) (c .before .before .before .before .before .before .statement2 .given .1)) (c .before .before .before .after2 .ensures ∙ c .before .before .before .before .assume .ensures _) (c .before .before .walk .ensures) (c .enum-told5 .given .1))
+    (λ c. then-refused (arm (turn t (c .before .before .before .before .before .before .before .before .before .before)) (c .before .before .before .before .before .before .before .before .statement2 .given .1)) (assumed _ _ _ (c .before .before .before .before .before .before .ask-condition .ensures) (c .before .before .before .before .before .answer2 .ensures) (c .before .before .before .before .assume .ensures) (c .before .before .before .after2 .ensures)) (c .before .before .walk .ensures) (c .enum-told5 .given .1))
     (λ c κs. search needs)
-    (λ c κs. negated-offset _ _ (c .negated .ensures) (if-offset (arm (turn t (c .before .before .before .before .before .before .before .before .before)) (c .before .before .before .before .before .before .before .statement2 .given .1))))
+    (λ c κs. negated-offset _ _ (c .negated .ensures) (if-offset (arm (turn t (c .before .before .before .before .before .before .before .before .before .before .before)) (c .before .before .before .before .before .before .before .before .before .statement2 .given .1))))
     (λ c κs. search needs)
-    (λ c κs. (left-falls (turn t (c .before .before .before .before .before .before .before .before .before .before .before)) (c .before .before .before .before .before .before .before .before .before .before .before .before .before .before .before .before .before .before .before .before .pre .0), c .before .before .before .before .before .before .before .before .before .before .before .before .before .before .before .before .before .before .before .before .pre .1))
+    (λ c κs. (left-falls (turn t (c .before .before .before .before .before .before .before .before .before .before .before .before .before)) (c .before .before .before .before .before .before .before .before .before .before .before .before .before .before .before .before .before .before .before .before .before .before .pre .0), c .before .before .before .before .before .before .before .before .before .before .before .before .before .before .before .before .before .before .before .before .before .before .pre .1))
     (λ c. search needs) (λ c. search needs)
-    (λ c. else-refused (arm (turn t (c .before .before .before .before .before .before .before .before .before .before .before .before .before .before)) (c .before .before .before .before .before .before .before .before .before .before .before .before .statement2 .given .1)) (c .before .before .before .before .before .before .before .before .before .after2 .ensures ∙ c .before .before .before .before .before .before .before .before .before .before .assume .ensures _) (c .before .before .before .before .before .before .before .before .walk .ensures) (c .before .before .before .before .before .before .enum-told4 .given .1) (c .before .before .before .before .before .negated .ensures) (c .before .before .before .after3 .ensures ∙ c .before .before .before .before .assume2 .ensures _) (c .before .before .walk2 .ensures) (c .enum-told7 .given .1))
+    (λ c. else-refused (arm (turn t (c .before .before .before .before .before .before .before .before .before .before .before .before .before .before .before .before)) (c .before .before .before .before .before .before .before .before .before .before .before .before .before .before .statement2 .given .1)) (assumed _ _ _ (c .before .before .before .before .before .before .before .before .before .before .before .before .ask-condition .ensures) (c .before .before .before .before .before .before .before .before .before .before .before .answer2 .ensures) (c .before .before .before .before .before .before .before .before .before .before .assume .ensures) (c .before .before .before .before .before .before .before .before .before .after2 .ensures)) (c .before .before .before .before .before .before .before .before .walk .ensures) (c .before .before .before .before .before .before .enum-told4 .given .1) (c .before .before .before .before .before .negated .ensures) (assumed _ _ _ (negated-asked _ _ (c .before .before .before .before .before .negated .ensures) (c .before .before .before .before .before .before .before .before .before .before .before .before .ask-condition .ensures)) (c .before .before .before .before .before .before .before .before .before .before .before .answer2 .ensures) (c .before .before .before .before .assume2 .ensures) (c .before .before .before .after3 .ensures)) (c .before .before .walk2 .ensures) (c .enum-told7 .given .1))
     (λ c κs. search needs)
-    (λ c. omega (arith, (turn t (c .before .before .before .before .before .before .before .before .before .before .before .before .before .before .before .before)) .some))
-    (λ c. turn-if (arm (turn t (c .before .before .before .before .before .before .before .before .before .before .before .before .before .before .before .before)) (c .before .before .before .before .before .before .before .before .before .before .before .before .before .before .statement2 .given .1)) (c .before .before .before .before .before .before .before .before .before .before .before .after2 .ensures ∙ c .before .before .before .before .before .before .before .before .before .before .before .before .assume .ensures _) (c .before .before .before .before .before .before .before .before .before .before .walk .ensures) (c .before .before .before .before .before .before .before .before .enum-told4 .given .1) (c .before .before .before .before .before .before .before .negated .ensures) (c .before .before .before .before .before .after3 .ensures ∙ c .before .before .before .before .before .before .assume2 .ensures _) (c .before .before .before .before .walk2 .ensures) (c .before .before .enum-told6 .given .1) (c .join .ensures))
+    (λ c. omega (arith, (turn t (c .before .before .before .before .before .before .before .before .before .before .before .before .before .before .before .before .before .before)) .some))
+    (λ c. turn-if (arm (turn t (c .before .before .before .before .before .before .before .before .before .before .before .before .before .before .before .before .before .before)) (c .before .before .before .before .before .before .before .before .before .before .before .before .before .before .before .before .statement2 .given .1)) (assumed _ _ _ (c .before .before .before .before .before .before .before .before .before .before .before .before .before .before .ask-condition .ensures) (c .before .before .before .before .before .before .before .before .before .before .before .before .before .answer2 .ensures) (c .before .before .before .before .before .before .before .before .before .before .before .before .assume .ensures) (c .before .before .before .before .before .before .before .before .before .before .before .after2 .ensures)) (c .before .before .before .before .before .before .before .before .before .before .walk .ensures) (c .before .before .before .before .before .before .before .before .enum-told4 .given .1) (c .before .before .before .before .before .before .before .negated .ensures) (assumed _ _ _ (negated-asked _ _ (c .before .before .before .before .before .before .before .negated .ensures) (c .before .before .before .before .before .before .before .before .before .before .before .before .before .before .ask-condition .ensures)) (c .before .before .before .before .before .before .before .before .before .before .before .before .before .answer2 .ensures) (c .before .before .before .before .before .before .assume2 .ensures) (c .before .before .before .before .before .after3 .ensures)) (c .before .before .before .before .walk2 .ensures) (c .before .before .enum-told6 .given .1) (c .join .ensures))
     (λ c. search needs)
     (λ c. let u = (arm (turn t (c .before .before .before)) (c .before .statement3 .given .1)) in omega (arith, placed u, while-count u))
     (λ c κs. let u = (arm (turn t (c .before .before .before)) (c .before .statement3 .given .1)) in omega (arith, placed u, while-count u))
     (λ c κs. while-offset (arm (turn t (c .before .before .before .before)) (c .before .before .statement3 .given .1)))
     (λ c κs. search needs)
-    (λ c κs. (left-falls (turn t (c .before .before .before .before .before .before)) (c .before .before .before .before .before .before .before .before .before .before .before .before .before .before .before .pre .0), c .before .before .before .before .before .before .before .before .before .before .before .before .before .before .before .pre .1))
+    (λ c κs. while-offset (arm (turn t (c .before .before .before .before .before .before)) (c .before .before .before .before .statement3 .given .1)))
+    (λ c κs. search needs)
+    (λ c κs. (left-falls (turn t (c .before .before .before .before .before .before .before .before)) (c .before .before .before .before .before .before .before .before .before .before .before .before .before .before .before .before .before .pre .0), c .before .before .before .before .before .before .before .before .before .before .before .before .before .before .before .before .before .pre .1))
     (λ c. search needs) (λ c. search needs)
-    (λ c. body-refused (arm (turn t (c .before .before .before .before .before .before .before .before .before)) (c .before .before .before .before .before .before .before .statement3 .given .1)) (c .before .before .before .before .before .lose .ensures) (c .before .before .before .after4 .ensures ∙ c .before .before .before .before .assume3 .ensures _) (c .before .before .walk3 .ensures) (c .enum-told9 .given .1))
+    (λ c. body-refused (arm (turn t (c .before .before .before .before .before .before .before .before .before .before .before)) (c .before .before .before .before .before .before .before .before .before .statement3 .given .1)) (c .before .before .before .before .before .before .before .lose .ensures) (assumed _ _ _ (c .before .before .before .before .before .before .ask-condition2 .ensures) (c .before .before .before .before .before .answer3 .ensures) (c .before .before .before .before .assume3 .ensures) (c .before .before .before .after4 .ensures)) (c .before .before .walk3 .ensures) (c .enum-told9 .given .1))
     (λ c κs. search needs)
-    (λ c κs. negated-offset _ _ (c .negated2 .ensures) (while-offset (arm (turn t (c .before .before .before .before .before .before .before .before .before .before)) (c .before .before .before .before .before .before .before .before .statement3 .given .1))))
+    (λ c κs. negated-offset _ _ (c .negated2 .ensures) (while-offset (arm (turn t (c .before .before .before .before .before .before .before .before .before .before .before .before)) (c .before .before .before .before .before .before .before .before .before .before .statement3 .given .1))))
     (λ c κs. search needs)
-    (λ c. omega (arith, (turn t (c .before .before .before .before .before .before .before .before .before .before .before .before)) .some))
-    (λ c. turn-while (arm (turn t (c .before .before .before .before .before .before .before .before .before .before .before .before)) (c .before .before .before .before .before .before .before .before .before .before .statement3 .given .1)) (c .before .before .before .before .before .before .before .before .lose .ensures) (c .before .before .before .before .before .before .after4 .ensures ∙ c .before .before .before .before .before .before .before .assume3 .ensures _) (c .before .before .before .before .before .walk3 .ensures) (c .before .before .before .enum-told8 .given .1) (c .before .before .negated2 .ensures) (c .after5 .ensures ∙ c .before .assume4 .ensures _))
+    (λ c. omega (arith, (turn t (c .before .before .before .before .before .before .before .before .before .before .before .before .before .before)) .some))
+    (λ c. turn-while (arm (turn t (c .before .before .before .before .before .before .before .before .before .before .before .before .before .before)) (c .before .before .before .before .before .before .before .before .before .before .before .before .statement3 .given .1)) (c .before .before .before .before .before .before .before .before .before .before .lose .ensures) (assumed _ _ _ (c .before .before .before .before .before .before .before .before .before .ask-condition2 .ensures) (c .before .before .before .before .before .before .before .before .answer3 .ensures) (c .before .before .before .before .before .before .before .assume3 .ensures) (c .before .before .before .before .before .before .after4 .ensures)) (c .before .before .before .before .before .walk3 .ensures) (c .before .before .before .enum-told8 .given .1) (c .before .before .negated2 .ensures) (assumed _ _ _ (negated-asked _ _ (c .before .before .negated2 .ensures) (c .before .before .before .before .before .before .before .before .before .ask-condition2 .ensures)) (c .before .before .before .before .before .before .before .before .answer3 .ensures) (c .before .assume4 .ensures) (c .after5 .ensures)))
     (λ c. search needs)
     (λ c κs. (c .before .before .before .before .before .before .before .before .before .before .before .before .pre .1 .0, omega (arith, placed (turn t (c .before .before .before)))))
     (λ c. search needs) (λ c. search needs)
