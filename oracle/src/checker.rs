@@ -11,32 +11,57 @@ pub fn check(words: &[i32]) -> CheckAnswer {
 
 /// Causes 8 and 9 of a decoded routine.
 pub fn check_routine(routine: &Routine) -> CheckAnswer {
-    walk(routine, &mut |_, _| {}).map(|_| ())
+    watch(routine, &mut ()).map(|_| ())
 }
+
+/// The walk over a decoded routine with somebody who looks on; gives the facts after it.
+pub fn watch(routine: &Routine, observer: &mut dyn Observer) -> Result<Facts, Refusal> {
+    let facts = Facts::new(&routine.kinds);
+    Walker { routine, observer }.block(0, routine.statements.len(), facts)
+}
+
+/// Looks on while the walk goes, and changes nothing.
+pub trait Observer {
+    /// What is known before a statement.
+    fn before(&mut self, _statement: usize, _facts: &Facts, _known: &Known) {}
+
+    /// What is known after a statement with its blocks, when its declared bounds are asked for.
+    fn after(&mut self, _statement: usize, _facts: &Facts, _known: &Known) {}
+}
+
+/// Nobody looks on.
+impl Observer for () {}
 
 /// The facts before each statement, as the walk comes to it.
 type Seen<'a> = &'a mut dyn FnMut(usize, &Facts);
 
-/// The walk over a decoded routine; gives the facts after it.
+struct FactsBefore<'a>(Seen<'a>);
+
+impl Observer for FactsBefore<'_> {
+    fn before(&mut self, statement: usize, facts: &Facts, _: &Known) {
+        (self.0)(statement, facts)
+    }
+}
+
+/// The walk with one who is shown the facts alone.
 pub fn walk(routine: &Routine, seen: Seen) -> Result<Facts, Refusal> {
-    let facts = Facts::new(&routine.kinds);
-    Walker { routine, seen }.block(0, routine.statements.len(), facts)
+    watch(routine, &mut FactsBefore(seen))
 }
 
 /// A known end; its constant has no limit. `None` is an unknown end.
 #[derive(Clone, Copy, Debug, PartialEq, Eq)]
-struct Value {
-    pointer: Var,
-    integer: Option<Var>,
-    constant: i64,
+pub struct Value {
+    pub pointer: Var,
+    pub integer: Option<Var>,
+    pub constant: i64,
 }
 
-type KnownEnd = Option<Value>;
+pub type KnownEnd = Option<Value>;
 
 #[derive(Clone, Copy, Debug, PartialEq, Eq)]
-struct KnownBounds {
-    lower: KnownEnd,
-    upper: KnownEnd,
+pub struct KnownBounds {
+    pub lower: KnownEnd,
+    pub upper: KnownEnd,
 }
 
 fn value(end: End) -> Value {
@@ -48,10 +73,14 @@ fn declared(bounds: Bounds) -> KnownBounds {
 }
 
 /// The bounds in force, of every variable; `None` for an integer.
-#[derive(Clone)]
-struct Known(Vec<Option<KnownBounds>>);
+#[derive(Clone, Debug)]
+pub struct Known(Vec<Option<KnownBounds>>);
 
 impl Known {
+    pub fn of(&self, variable: usize) -> Option<KnownBounds> {
+        self.0[variable]
+    }
+
     fn declared(routine: &Routine) -> Known {
         Known(routine.bounds.iter().map(|b| b.map(declared)).collect())
     }
@@ -94,7 +123,7 @@ fn end_below(facts: &Facts, a: KnownEnd, b: KnownEnd) -> bool {
 
 struct Walker<'a> {
     routine: &'a Routine,
-    seen: Seen<'a>,
+    observer: &'a mut dyn Observer,
 }
 
 impl Walker<'_> {
@@ -124,10 +153,10 @@ impl Walker<'_> {
     fn block(&mut self, start: usize, end: usize, mut facts: Facts) -> Result<Facts, Refusal> {
         let mut s = start;
         while s < end {
-            (self.seen)(s, &facts);
+            let mut known = Known::declared(self.routine);
+            self.observer.before(s, &facts, &known);
             let statement = self.routine.statements[s];
             let next = s + statement.size();
-            let mut known = Known::declared(self.routine);
             facts = match statement {
                 Statement::If { condition, then_count, .. } => {
                     let middle = s + 1 + then_count as usize;
@@ -145,6 +174,7 @@ impl Walker<'_> {
                 Statement::Bundle { .. } => self.bundle(s + 1, next, facts, &mut known)?,
                 simple => self.simple(simple, facts, &mut known),
             };
+            self.observer.after(s, &facts, &known);
             self.all_shown(s, &facts, &known)?;
             s = next;
         }
@@ -160,7 +190,7 @@ impl Walker<'_> {
         known: &mut Known,
     ) -> Result<Facts, Refusal> {
         for s in start..end {
-            (self.seen)(s, &facts);
+            self.observer.before(s, &facts, known);
             let statement = self.routine.statements[s];
             if let Statement::Load { p, .. } | Statement::Store { p, .. } = statement {
                 if !self.shown(p, &facts, known) {
@@ -168,6 +198,7 @@ impl Walker<'_> {
                 }
             }
             facts = self.simple(statement, facts, known);
+            self.observer.after(s, &facts, known);
         }
         Ok(facts)
     }
@@ -240,3 +271,7 @@ impl Walker<'_> {
 #[cfg(test)]
 #[path = "checker_tests.rs"]
 mod tests;
+
+#[cfg(test)]
+#[path = "observer_tests.rs"]
+mod observer_tests;
