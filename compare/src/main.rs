@@ -10,8 +10,6 @@ mod fast_run;
 mod generate;
 mod linked;
 mod noninterference;
-#[cfg(test)]
-mod notation;
 mod parallel;
 mod proved;
 mod rng;

@@ -1,0 +1,94 @@
+//! `mizzengrape dis` and `mizzengrape fmt`: canonical text, of tables and of texts.
+
+use super::arguments::{Arguments, Usage};
+use super::{Output, REFUSED};
+use crate::diagnostics::Diagnostic;
+use crate::explain;
+use crate::form::list_fault;
+use crate::library::form_refusal;
+use crate::names::Names;
+use crate::printer::{print, print_numbered};
+use crate::program::{read_text, Program, Text};
+use crate::words::assemble;
+
+pub const DIS_USAGE: Usage = Usage {
+    help: "\
+mizzengrape dis FILE.tbl .. [--facts F] [--names N] [--numbers] [--short]
+
+Prints the canonical text of a table, of several tables that of the set. A table refused by 1 to 6 has no text: it is answered with that
+refusal.
+
+    --facts F   the list of loop facts of the table, as words in a file
+    --names N   a names file that asm wrote
+    --numbers   each statement's number as a comment
+",
+    flags: &["--numbers", "--short"],
+    options: &["--facts", "--names"],
+    least_files: 1,
+    most_files: 8,
+};
+
+pub const FMT_USAGE: Usage = Usage {
+    help: "\
+mizzengrape fmt FILE.c [--drop-comments] [--short]
+
+Prints a text in its canonical form, names kept. A text with comments is not taken, since the form has none: --drop-comments takes it
+without them.
+",
+    flags: &["--drop-comments", "--short"],
+    options: &[],
+    least_files: 1,
+    most_files: 1,
+};
+
+pub fn dis(arguments: &Arguments) -> Result<Output, String> {
+    let short = arguments.is_short();
+    let program = Program::load(&arguments.files, arguments.option("--facts"), short)?;
+    if let Some(refusal) = form_refusal(&program.tables) {
+        return Ok(Output {
+            err: explain::refused_form(&program, &refusal).show(&program, short),
+            out: format!("{refusal}\n"),
+            status: REFUSED,
+        });
+    }
+    let Some(text) = &program.text else { return Err(no_text(&program)) };
+    let mut names = text.names.clone();
+    if let Some(path) = arguments.option("--names") {
+        let read = Names::read(&read_text(path, short)?);
+        names = read
+            .map_err(|line| format!("{path}:{line}: error: no line of a names file\n"))?
+            .completed(&text.parts);
+    }
+    let printer = if arguments.flag("--numbers") { print_numbered } else { print };
+    let printed = printer(&text.parts, &program.facts, &names);
+    if !assemble(&printed).is_ok_and(|again| again.tables == program.tables && again.facts == program.facts) {
+        return Err("error: these names do not fit the table\n".to_string());
+    }
+    Ok(Output { out: printed, ..Output::default() })
+}
+
+/// Why tables that read have no text: their list does not fit.
+fn no_text(program: &Program) -> String {
+    let name = &program.name;
+    let table = program.tables.first().and_then(|words| crate::table::Table::split(words).ok());
+    let fault = table.map(|table| {
+        let tables = [table];
+        list_fault(&tables[0], &Names::canonical(&tables), &program.facts)
+    });
+    match fault {
+        Some(Err((_, reason))) => format!("{name}: error: the list of loop facts: {reason}\n"),
+        _ => format!("{name}: error: this table has no text\n"),
+    }
+}
+
+pub fn fmt(arguments: &Arguments) -> Result<Output, String> {
+    let short = arguments.is_short();
+    let program = Program::load(&arguments.files, None, short)?;
+    let (Some(source), Some(text)) = (program.source(), &program.text) else { return Err(no_text(&program)) };
+    if let Some(at) = program.first_comment.filter(|_| !arguments.flag("--drop-comments")) {
+        let message = "the canonical form has no comments: --drop-comments takes the text without them";
+        return Err(source.error(&Diagnostic::new(at, message), short));
+    }
+    let Text { parts, names, .. } = text;
+    Ok(Output { out: print(parts, &program.facts, names), ..Output::default() })
+}

@@ -1,0 +1,57 @@
+//! `mizzengrape explain`: a refusal's or a stop's page of the manual, or what is known at a line.
+
+use super::arguments::{Arguments, Usage};
+use super::Output;
+use crate::explain::{pages, state};
+use crate::library::{self, Verdict};
+use crate::program::Program;
+
+pub const USAGE: Usage = Usage {
+    help: "\
+mizzengrape explain NUMBER
+mizzengrape explain stop NUMBER
+mizzengrape explain FILE [LINE]
+
+A number: the page of docs/FORMAT.md about that refusal, or that stop of a run. A file: the facts, the known and the declared bounds
+before the statement that begins on that line (by default the refused one).
+",
+    flags: &["--short"],
+    options: &[],
+    least_files: 1,
+    most_files: 2,
+};
+
+pub fn explain(arguments: &Arguments) -> Result<Output, String> {
+    let words: Vec<&str> = arguments.files.iter().map(String::as_str).collect();
+    let heading = match words[..] {
+        [number] if number.parse::<u32>().is_ok() => format!("Refusal {number}"),
+        ["stop", number] => format!("Stop {number}"),
+        _ => return at_line(arguments, words.get(1).copied()),
+    };
+    let page = pages::page(&heading).ok_or(format!("error: there is no {}\n", heading.to_lowercase()))?;
+    Ok(Output { out: page, ..Output::default() })
+}
+
+fn at_line(arguments: &Arguments, line: Option<&str>) -> Result<Output, String> {
+    let program = Program::load(&arguments.files[..1], None, arguments.is_short())?;
+    let name = &program.name;
+    let wrong = |what: String| format!("{name}: error: {what}\n");
+    let lack = |lack: &str| wrong(lack.to_string());
+    let verdict = library::check(&program.tables, &program.facts).map_err(lack)?;
+    let statement = match (line, verdict) {
+        (Some(line), _) => {
+            let number = line.parse::<u32>().map_err(|_| wrong(format!("{line} is no line")))?;
+            let found = program.text.as_ref().and_then(|text| text.map.statement_at(number));
+            found.ok_or_else(|| wrong(format!("no statement begins on line {line}")))?
+        }
+        (None, Verdict::Refused(refusal)) if refusal.number >= 7 => {
+            (refusal.routine.unwrap_or(0), refusal.place)
+        }
+        (None, Verdict::Refused(refusal)) => {
+            return Err(wrong(format!("{refusal}: no statement was looked at")))
+        }
+        (None, Verdict::Accepted) => return Err(wrong("accepted: name a line".to_string())),
+    };
+    let out = state(&program, statement, arguments.is_short()).map_err(wrong)?;
+    Ok(Output { out, ..Output::default() })
+}

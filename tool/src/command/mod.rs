@@ -1,0 +1,98 @@
+//! The command `mizzengrape`: its subcommands, what they print, how they end.
+
+mod arguments;
+mod asm;
+mod check;
+mod dis;
+mod explain;
+mod run;
+
+use crate::program::Program;
+use arguments::{Arguments, Usage};
+pub use check::verdict;
+pub use run::run_program;
+
+/// What a call prints and its exit status.
+#[derive(Debug, Default, PartialEq, Eq)]
+pub struct Output {
+    /// Standard error; it is printed first.
+    pub err: String,
+    pub out: String,
+    pub status: u8,
+}
+
+/// Exit statuses.
+pub const DONE: u8 = 0;
+pub const REFUSED: u8 = 1;
+pub const WRONG: u8 = 2;
+pub const STOPPED: u8 = 3;
+pub const SPENT: u8 = 4;
+pub const DIFFER: u8 = 5;
+
+impl Output {
+    pub fn wrong(message: String) -> Output {
+        Output { err: message, out: String::new(), status: WRONG }
+    }
+
+    /// Two implementations that differ: said loudly, whatever was asked. The proved answer stays what is printed.
+    fn at_odds(&mut self, program: &Program, other: &str) {
+        let message = "error: the explainer disagrees with the proved verdict; please report this routine";
+        self.err.push_str(&format!("{}: {message}\nnote: the explainer says: {other}\n", program.name));
+        self.status = DIFFER;
+    }
+
+    fn help(text: &str) -> Output {
+        Output { out: text.to_string(), ..Output::default() }
+    }
+}
+
+const HELP: &str = "\
+mizzengrape: routines for late entries and scoring, in Checked C
+
+    mizzengrape check FILE            the verdict, with the reason for a refusal
+    mizzengrape asm FILE.c            a text as a table
+    mizzengrape dis FILE.tbl          a table as text
+    mizzengrape fmt FILE.c            a text in its canonical form
+    mizzengrape run FILE IMAGE        a run: how it ended, what it changed
+    mizzengrape trace FILE IMAGE      a run step by step
+    mizzengrape explain NUMBER        what a refusal means and what repairs it; `explain stop NUMBER` for a stop
+    mizzengrape explain FILE [LINE]   what is known before the statement of a line
+
+A FILE ending in .tbl is a table, .words a table in decimal words, all others are texts; - is standard input.
+`mizzengrape COMMAND --help` says more. Exit status: 0 accepted or done, 1 refused, 2 the text, the file or the call is
+wrong, 3 stopped, 4 spent, 5 the two implementations differ.
+";
+
+type Call = fn(&Arguments) -> Result<Output, String>;
+
+/// Each command with its usage.
+const COMMANDS: [(&str, &Usage, Call); 7] = [
+    ("check", &check::USAGE, check::check),
+    ("asm", &asm::USAGE, asm::asm),
+    ("dis", &dis::DIS_USAGE, dis::dis),
+    ("fmt", &dis::FMT_USAGE, dis::fmt),
+    ("run", &run::RUN_USAGE, run::run),
+    ("trace", &run::TRACE_USAGE, run::trace),
+    ("explain", &explain::USAGE, explain::explain),
+];
+
+/// The command with these arguments.
+pub fn call(arguments: &[String]) -> Output {
+    let [name, rest @ ..] = arguments else { return Output::wrong(HELP.to_string()) };
+    if matches!(name.as_str(), "--help" | "-h" | "help") {
+        return Output::help(HELP);
+    }
+    if name == "--version" {
+        return Output::help(concat!("mizzengrape ", env!("CARGO_PKG_VERSION"), "\n"));
+    }
+    let Some((_, usage, command)) = COMMANDS.iter().find(|(command, ..)| command == name) else {
+        return Output::wrong(format!("error: no command {name}; `mizzengrape --help` lists them\n"));
+    };
+    if rest.iter().any(|argument| argument == "--help") {
+        return Output::help(usage.help);
+    }
+    match Arguments::read(rest, usage) {
+        Err(message) => Output::wrong(format!("error: {message}\n{}", usage.help)),
+        Ok(arguments) => command(&arguments).unwrap_or_else(Output::wrong),
+    }
+}

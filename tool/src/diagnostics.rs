@@ -1,0 +1,71 @@
+//! What is said of a place in a text: `FILE:LINE:COLUMN: error: MESSAGE`, the source line, a caret under the column.
+
+use std::fmt::Write;
+
+/// A line and a column, both from 1; a column is a character.
+#[derive(Clone, Copy, Debug, Default, PartialEq, Eq, PartialOrd, Ord)]
+pub struct Pos {
+    pub line: u32,
+    pub column: u32,
+}
+
+impl std::fmt::Display for Pos {
+    fn fmt(&self, f: &mut std::fmt::Formatter) -> std::fmt::Result {
+        write!(f, "{}:{}", self.line, self.column)
+    }
+}
+
+/// An error or a warning, and where it stands.
+#[derive(Clone, Debug, PartialEq, Eq)]
+pub struct Diagnostic {
+    pub at: Pos,
+    pub message: String,
+}
+
+impl Diagnostic {
+    pub fn new(at: Pos, message: impl Into<String>) -> Diagnostic {
+        Diagnostic { at, message: message.into() }
+    }
+}
+
+pub type Fallible<T> = Result<T, Diagnostic>;
+
+pub fn fail<T>(at: Pos, message: impl Into<String>) -> Fallible<T> {
+    Err(Diagnostic::new(at, message))
+}
+
+/// A text with its name: what diagnostics quote.
+#[derive(Clone, Copy)]
+pub struct Source<'a> {
+    pub name: &'a str,
+    pub text: &'a str,
+}
+
+impl<'a> Source<'a> {
+    /// A line of the text without its end; the line behind the last one is empty.
+    pub fn line(&self, line: u32) -> &'a str {
+        self.text.split('\n').nth(line as usize - 1).unwrap_or("").trim_end_matches('\r')
+    }
+
+    /// `NAME:LINE:COLUMN: WHAT`, and unless short the line and the caret. Tabs of the line are kept, so the caret stands right
+    /// whatever their width is.
+    pub fn show(&self, at: Pos, what: &str, short: bool) -> String {
+        let mut shown = format!("{}:{at}: {what}\n", self.name);
+        if short {
+            return shown;
+        }
+        let line = self.line(at.line);
+        let before = line.chars().take(at.column as usize - 1).map(|c| if c == '\t' { '\t' } else { ' ' });
+        let caret: String = before.collect();
+        writeln!(shown, "{line}\n{caret}^").expect("a string grows");
+        shown
+    }
+
+    pub fn error(&self, diagnostic: &Diagnostic, short: bool) -> String {
+        self.show(diagnostic.at, &format!("error: {}", diagnostic.message), short)
+    }
+
+    pub fn warning(&self, diagnostic: &Diagnostic, short: bool) -> String {
+        self.show(diagnostic.at, &format!("warning: {}", diagnostic.message), short)
+    }
+}

@@ -1,0 +1,109 @@
+//! Causes 1 to 6: what is wrong with a table's form, and which forms this library does not have yet.
+
+use super::Explanation;
+use crate::diagnostics::Pos;
+use crate::form::{directory_reason, Form, MAX_OBJECTS, MAX_STATEMENTS, MAX_VARIABLES, MAX_WORDS};
+use crate::library::Refusal;
+use crate::map::{Map, RoutineMap};
+use crate::names::Names;
+use crate::program::Program;
+use crate::table::Table;
+
+pub fn explain(program: &Program, refusal: &Refusal) -> Explanation {
+    let routine = refusal.routine.unwrap_or(0);
+    let map = program.text.as_ref().map(|text| &text.map);
+    let at = map.and_then(|map| position(map, routine, refusal));
+    let words = program.tables.get(routine).map_or(&[][..], |words| words);
+    if refusal.number == 1 {
+        let sentence = match program.ragged {
+            Some(bytes) => format!("the file's {bytes} bytes are no whole words"),
+            None => format!("the table has {} words; it may have 6 to {MAX_WORDS}", words.len()),
+        };
+        return Explanation { at, sentence, notes: Vec::new() };
+    }
+    let parts: Result<Vec<Table>, _> = program.tables.iter().map(|words| Table::split(words)).collect();
+    let parts = match parts {
+        Ok(parts) => parts,
+        Err(fault) => {
+            let directory = &words[..words.len().min(8)];
+            let notes = vec![(None, format!("note: the table begins with the words {}", listed(directory)))];
+            return Explanation { at, sentence: directory_reason(&fault), notes };
+        }
+    };
+    let canonical = Names::canonical(&parts);
+    let names = program.text.as_ref().map_or(&canonical, |text| &text.names);
+    let map = map.and_then(|map| map.routines.get(routine));
+    let form = Form { map, ..Form::new(&parts, names, routine) };
+    let (sentence, record) = reason(&form, refusal);
+    let of_words = program.of_words && !record.is_empty();
+    let note = || (None, format!("note: the words of the record are {}", listed(&record)));
+    Explanation { at, sentence, notes: of_words.then(note).into_iter().collect() }
+}
+
+fn listed(words: &[i32]) -> String {
+    let words: Vec<String> = words.iter().map(i32::to_string).collect();
+    words.join(" ")
+}
+
+/// The reason, and the words that it is about.
+fn reason(form: &Form, refusal: &Refusal) -> (String, Vec<i32>) {
+    let (table, place) = (form.table, refusal.place);
+    let (reason, record) = match refusal.number {
+        2 => (form.counts().err(), Vec::new()),
+        3 => {
+            let word = table.objects.get(place);
+            (word.and_then(|_| form.object(place).err()), word.into_iter().copied().collect())
+        }
+        4 if place < table.variables.len() => (form.variable(place).err(), table.variables[place].to_vec()),
+        4 => {
+            let row = place - table.variables.len();
+            let record = table.rows.as_ref().and_then(|rows| rows.get(row));
+            (form.row(row).err(), record.map_or(Vec::new(), |record| record.to_vec()))
+        }
+        _ => {
+            let record = table.statements.get(place);
+            let reason = match refusal.number {
+                5 => record.and_then(|_| form.statement(place).err()),
+                _ => form.blocks().err().map(|(_, reason)| reason),
+            };
+            (reason, record.map_or(Vec::new(), |record| record.to_vec()))
+        }
+    };
+    (reason.unwrap_or_else(|| not_yet(table, refusal)), record)
+}
+
+/// A form that reads, but belongs to a change request that this library does not have.
+fn not_yet(table: &Table, refusal: &Refusal) -> String {
+    let place = refusal.place;
+    let what = match refusal.number {
+        2 => "bounds declared at statements",
+        3 => "terminated objects",
+        4 if table.variables.get(place).is_some_and(|record| record[0] == 2) => "nt_array_ptr",
+        4 => "elements of several cells",
+        5 => match table.statements.get(place) {
+            Some(record) if record[0] == 14 => "where statements",
+            _ => "calls",
+        },
+        _ => "such blocks",
+    };
+    format!("this library has no {what}")
+}
+
+/// Where a refusal of the form stands in the text.
+fn position(map: &Map, routine: usize, refusal: &Refusal) -> Option<Pos> {
+    let place = refusal.place;
+    let RoutineMap { name, variables, statements, rows, .. } = map.routines.get(routine)?;
+    let found = match refusal.number {
+        2 => {
+            let many =
+                [(&map.objects, MAX_OBJECTS), (variables, MAX_VARIABLES), (statements, MAX_STATEMENTS)];
+            let first_too_many = many.into_iter().find_map(|(positions, most)| positions.get(most));
+            first_too_many.or(rows.first())
+        }
+        3 => map.objects.get(place),
+        4 => variables.get(place).or_else(|| rows.get(place.checked_sub(variables.len())?)),
+        5 | 6 => statements.get(place),
+        _ => None,
+    };
+    Some(*found.unwrap_or(name))
+}

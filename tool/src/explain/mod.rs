@@ -1,0 +1,200 @@
+//! Why a routine is refused, at its line. The library decides; the second implementation's walk explains.
+
+mod bounds;
+mod entry;
+mod facts;
+mod form;
+pub mod pages;
+mod state;
+pub mod stops;
+mod values;
+mod walk;
+
+use crate::diagnostics::{Pos, Source};
+use crate::image::Image;
+use crate::library::{steps, Lent, Outcome, Refusal, Verdict};
+use crate::map::RoutineMap;
+use crate::printer::Printer;
+use crate::program::{Program, Text};
+use oracle::answer::{CheckAnswer, RunInput};
+pub use state::state;
+use walk::Walk;
+
+/// A refusal in words.
+#[derive(Debug, Default)]
+pub struct Explanation {
+    /// Where in the text, if there is one.
+    pub at: Option<Pos>,
+    /// `refused 8: the bounds of ..`.
+    pub sentence: String,
+    /// `note: ..` and `help: ..`, some with a position of their own.
+    pub notes: Vec<(Option<Pos>, String)>,
+}
+
+impl Explanation {
+    pub fn show(&self, program: &Program, short: bool) -> String {
+        self.show_in(&program.name, program.source(), short)
+    }
+
+    /// The same at the line of another file, an image.
+    pub fn show_in(&self, name: &str, source: Option<Source>, short: bool) -> String {
+        let what = format!("error: {}", self.sentence);
+        let mut shown = match (self.at, source) {
+            (Some(at), Some(source)) => source.show(at, &what, short),
+            _ => format!("{name}: {what}\n"),
+        };
+        if short {
+            return shown;
+        }
+        for (at, note) in &self.notes {
+            match at {
+                Some(at) => shown.push_str(&format!("{name}:{at}: {note}\n")),
+                None => shown.push_str(&format!("{note}\n")),
+            }
+        }
+        shown
+    }
+
+    /// With the number of the refusal before its sentence.
+    fn numbered(self, refusal: &Refusal) -> Explanation {
+        Explanation { sentence: format!("refused {}: {}", refusal.number, self.sentence), ..self }
+    }
+}
+
+/// One routine of a text: how its parts are printed and where they stand.
+pub struct Place<'a> {
+    pub printer: Printer<'a>,
+    map: &'a RoutineMap,
+}
+
+impl<'a> Place<'a> {
+    pub fn new(program: &'a Program, text: &'a Text, routine: usize) -> Option<Place<'a>> {
+        let map = text.map.routines.get(routine)?;
+        Some(Place { printer: Printer::new(&text.parts, &program.facts, &text.names, routine), map })
+    }
+
+    fn statement(&self, s: usize) -> Option<Pos> {
+        self.map.statements.get(s).copied()
+    }
+
+    /// Where a pointer's bounds in force are declared: at its declaration, or at the row.
+    fn declaration(&self, variable: usize, row: i32) -> Option<Pos> {
+        let row = usize::try_from(row).ok().and_then(|row| self.map.rows.get(row));
+        row.or_else(|| self.map.variables.get(variable)).copied()
+    }
+
+    /// `line 8: rows = rows + 1`.
+    fn line_and_text(&self, s: usize) -> String {
+        let text = self.printer.statement(s);
+        self.statement(s).map_or_else(|| text.clone(), |at| format!("line {}: {text}", at.line))
+    }
+}
+
+/// The second implementation's view of a program: its verdict, and what it saw on the way to a refusal.
+pub struct Second {
+    routine: usize,
+    /// None where it cannot be asked: for sets and lists.
+    seen: Option<Walk>,
+}
+
+impl Second {
+    /// Walks the routine that the library refuses, or the only one.
+    pub fn of(program: &Program, verdict: &Verdict) -> Second {
+        let routine = match verdict {
+            Verdict::Refused(refusal) => refusal.routine.unwrap_or(0),
+            Verdict::Accepted => 0,
+        };
+        let [table] = &program.tables[..] else { return Second { routine, seen: None } };
+        Second { routine, seen: Some(walk::walk(table, None)) }
+    }
+
+    /// Its verdict, where that is another one than the proved one.
+    pub fn other_verdict(&self, verdict: &Verdict) -> Option<String> {
+        let answer = &self.seen.as_ref()?.answer;
+        (!agree(verdict, answer)).then(|| oracle::answer::show_check(answer))
+    }
+
+    /// The reason for a refusal.
+    pub fn explain(&self, program: &Program, refusal: &Refusal) -> Explanation {
+        let explanation = match refusal.number {
+            1..=6 => form::explain(program, refusal),
+            _ => self.walked(program, refusal).unwrap_or_default(),
+        };
+        explanation.numbered(refusal)
+    }
+
+    /// Refusals that the walk finds.
+    fn walked(&self, program: &Program, refusal: &Refusal) -> Option<Explanation> {
+        let place = Place::new(program, program.text.as_ref()?, self.routine)?;
+        let seen = self.seen.as_ref()?;
+        Some(match refusal.number {
+            8 => bounds::not_shown(&place, seen, refusal),
+            9 => bounds::not_shown_for_access(&place, seen, refusal),
+            number => {
+                let sentence = format!("`mizzengrape explain {number}` tells what it means");
+                Explanation { at: place.statement(refusal.place), sentence, notes: Vec::new() }
+            }
+        })
+    }
+}
+
+/// The reason for a refusal by the form of a table, which takes no walk.
+pub fn refused_form(program: &Program, refusal: &Refusal) -> Explanation {
+    form::explain(program, refusal).numbered(refusal)
+}
+
+/// The refusal of a run by what it was lent, at the image's line.
+pub fn refused_entry(text: &Text, image: &Image, refusal: &Refusal) -> Explanation {
+    entry::explain(text, image, refusal).numbered(refusal)
+}
+
+fn agree(verdict: &Verdict, answer: &CheckAnswer) -> bool {
+    match (verdict, answer) {
+        (Verdict::Accepted, Ok(())) => true,
+        (Verdict::Refused(ours), Err(other)) => {
+            let (number, place) = (u32::from(other.cause), other.place as usize);
+            (ours.number, ours.place, ours.pointer) == (number, place, other.pointer.map(usize::from))
+        }
+        _ => false,
+    }
+}
+
+/// Longer runs are not run a second time.
+const MOST_COMPARED: u32 = 10_000_000;
+
+/// How the second implementation ends a run, where that is another end than the proved one or leaves other values or cells.
+pub fn other_run(table: &[i32], lent: &Lent, outcome: &Outcome, left: &Lent) -> Option<String> {
+    if steps(outcome) > MOST_COMPARED {
+        return None;
+    }
+    let Lent { directory, cells, values, origins, allowance } = lent.clone();
+    let mut input = RunInput { directory, cells, values, origins, allowance };
+    let answer = oracle::machine::run(table, &mut input).to_string();
+    let same = answer == outcome.to_string() && input.values == left.values && input.cells == left.cells;
+    (!same).then_some(answer)
+}
+
+#[cfg(test)]
+mod tests {
+    use super::*;
+    use oracle::answer;
+
+    /// A library that answers something else than the second implementation is found out.
+    #[test]
+    fn differences_are_seen() {
+        let refused =
+            |number, place, pointer| Verdict::Refused(Refusal { routine: None, number, place, pointer });
+        let lost = Err(answer::Refusal::bounds(3, 1));
+        assert!(agree(&refused(8, 3, Some(1)), &lost) && !agree(&refused(8, 3, Some(0)), &lost));
+        assert!(!agree(&refused(8, 2, Some(1)), &lost));
+        assert!(!agree(&refused(9, 3, None), &lost) && !agree(&Verdict::Accepted, &lost));
+        assert!(agree(&Verdict::Accepted, &Ok(())) && !agree(&refused(7, 0, None), &Ok(())));
+        let table = [6, 0, 6, 8, 14, 7, 0, 0, 0, 0, 0, 0, 0, 0, 1, 0, 5, 0, 0, 0, 0];
+        let lent =
+            Lent { cells: vec![0], values: vec![1], origins: vec![0], allowance: 9, ..Lent::default() };
+        let left = Lent { values: vec![5], ..lent.clone() };
+        assert_eq!(other_run(&table, &lent, &Outcome::Done { steps: 1 }, &left), None);
+        assert_eq!(other_run(&table, &lent, &Outcome::Done { steps: 1 }, &lent), Some("done 1".to_string()));
+        assert_eq!(other_run(&table, &lent, &Outcome::Done { steps: 2 }, &left), Some("done 1".to_string()));
+    }
+}

@@ -1,0 +1,57 @@
+//! What is known before a statement: facts, declared and known bounds.
+
+use super::facts::known;
+use super::walk::{walk, Moment};
+use super::Place;
+use crate::program::Program;
+use crate::table::rows_in_force;
+use oracle::checker::{KnownEnd, Value};
+
+/// The state before a statement of a routine, in lines; or why there is none.
+pub fn state(program: &Program, (routine, statement): (usize, usize), short: bool) -> Result<String, String> {
+    let place = program.text.as_ref().and_then(|text| Place::new(program, text, routine));
+    let (Some(place), Some(source)) = (place, program.source()) else {
+        return Err("this table has no text".to_string());
+    };
+    let seen = walk(&program.tables[routine], Some(statement));
+    let (Some(at), Some(moment)) = (place.statement(statement), seen.asked) else {
+        return Err(match seen.answer {
+            Err(refusal) => format!("{refusal}: the check ended before this statement"),
+            Ok(()) => "the check did not come to this statement".to_string(),
+        });
+    };
+    let printer = &place.printer;
+    let mut lines = source.show(at, &format!("before {}", printer.statement(statement)), short);
+    let variables: Vec<i32> = (0..printer.table.variables.len() as i32).collect();
+    for p in variables.iter().copied().filter(|&p| printer.table.is_pointer(p)) {
+        lines.push_str(&bounds(&place, &moment, p));
+    }
+    lines.push_str(&format!("known: {}\n", known(printer, &moment.facts, &variables)));
+    Ok(lines)
+}
+
+/// The bounds of a pointer: as declared, and as known where that is something else.
+fn bounds(place: &Place, moment: &Moment, p: i32) -> String {
+    let printer = &place.printer;
+    let (name, row) = (printer.name(p), rows_in_force(printer.table, moment.statement)[p as usize]);
+    let declared = match row {
+        -1 => printer.declared(p),
+        row => format!("{} (row {row})", printer.row(p, row)),
+    };
+    let mut lines = format!("declared: {name} : {declared}\n");
+    let Some(known) = moment.known.of(p as usize) else { return lines };
+    let ends = [("lower", known.lower), ("upper", known.upper)];
+    for ((which, end), by) in ends.into_iter().zip(moment.changed[p as usize]) {
+        if let Some(s) = by {
+            let end = shown(place, p, end);
+            lines.push_str(&format!("known {which} end: {end} ({})\n", place.line_and_text(s)));
+        }
+    }
+    lines
+}
+
+fn shown(place: &Place, p: i32, end: KnownEnd) -> String {
+    let Some(Value { pointer, integer, constant }) = end else { return "lost".to_string() };
+    let size = place.printer.table.size(p);
+    place.printer.end([i32::from(pointer), integer.map_or(-1, i32::from)], constant, size)
+}

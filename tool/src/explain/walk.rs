@@ -1,0 +1,105 @@
+//! The second implementation's walk over a routine, looked on: what is known where it ends, and which statement moved or lost each end.
+
+use oracle::answer::CheckAnswer;
+use oracle::checker::{watch, Known, KnownBounds, Observer};
+use oracle::facts::Facts;
+use oracle::table::decode;
+
+/// What is known before or after a statement.
+#[derive(Clone, Debug)]
+pub struct Moment {
+    pub statement: usize,
+    pub facts: Facts,
+    pub known: Known,
+    /// For each variable the statements that changed its known lower and upper end since they were the declared ones.
+    pub changed: Vec<[Option<usize>; 2]>,
+}
+
+/// What was seen of a walk, up to its end or up to its refusal.
+#[derive(Debug)]
+pub struct Walk {
+    pub answer: CheckAnswer,
+    pub before: Option<Moment>,
+    pub after: Option<Moment>,
+    /// The moment before the statement that was asked for, if the walk came to it.
+    pub asked: Option<Moment>,
+}
+
+/// Walks a table; `asked` is a statement of interest.
+pub fn walk(words: &[i32], asked: Option<usize>) -> Walk {
+    let routine = match decode(words) {
+        Ok(routine) => routine,
+        Err(refusal) => return Walk { answer: Err(refusal), before: None, after: None, asked: None },
+    };
+    let bundles = routine.statements.iter().map(|s| matches!(s, oracle::syntax::Statement::Bundle { .. }));
+    let mut recorder = Recorder {
+        bundles: bundles.collect(),
+        bundle_end: 0,
+        sizes: routine.statements.iter().map(|s| s.size()).collect(),
+        changed: vec![[None; 2]; routine.kinds.len()],
+        wanted: asked,
+        before: None,
+        after: None,
+        asked: None,
+    };
+    let answer = watch(&routine, &mut recorder).map(|_| ());
+    let Recorder { before, after, asked, .. } = recorder;
+    Walk { answer, before, after, asked }
+}
+
+struct Recorder {
+    bundles: Vec<bool>,
+    sizes: Vec<usize>,
+    /// Up to here a bundle goes on: only outside of one the known bounds are the declared ones again.
+    bundle_end: usize,
+    changed: Vec<[Option<usize>; 2]>,
+    wanted: Option<usize>,
+    before: Option<Moment>,
+    after: Option<Moment>,
+    asked: Option<Moment>,
+}
+
+impl Recorder {
+    fn moment(&self, statement: usize, facts: &Facts, known: &Known) -> Moment {
+        Moment { statement, facts: facts.clone(), known: known.clone(), changed: self.changed.clone() }
+    }
+
+    /// Which ends a statement changed.
+    fn compare(&mut self, statement: usize, known: &Known) {
+        let Some(before) = self.before.as_ref().filter(|before| before.statement == statement) else {
+            return;
+        };
+        for (v, changed) in self.changed.iter_mut().enumerate() {
+            let ends = |bounds: Option<KnownBounds>| bounds.map(|bounds| [bounds.lower, bounds.upper]);
+            let (Some(old), Some(new)) = (ends(before.known.of(v)), ends(known.of(v))) else { continue };
+            for side in 0..2 {
+                if old[side] != new[side] {
+                    changed[side] = Some(statement);
+                }
+            }
+        }
+    }
+}
+
+impl Observer for Recorder {
+    fn before(&mut self, statement: usize, facts: &Facts, known: &Known) {
+        if statement >= self.bundle_end {
+            self.changed.fill([None; 2]);
+        }
+        if self.bundles[statement] {
+            self.bundle_end = statement + self.sizes[statement];
+        }
+        let moment = self.moment(statement, facts, known);
+        if self.wanted == Some(statement) {
+            self.asked = Some(moment.clone());
+        }
+        self.before = Some(moment);
+    }
+
+    fn after(&mut self, statement: usize, facts: &Facts, known: &Known) {
+        if !self.bundles[statement] {
+            self.compare(statement, known);
+        }
+        self.after = Some(self.moment(statement, facts, known));
+    }
+}

@@ -1,0 +1,209 @@
+//! Images: a small text that says what a run is lent. Nothing is adjusted to be right: what does not fit is the library's to refuse.
+
+use crate::diagnostics::{fail, Fallible, Pos};
+use crate::library::Lent;
+use crate::names::{Names, RoutineNames};
+use crate::parser::Parser;
+use crate::table::Table;
+use crate::tokens::{tokens, Kind};
+
+/// One cell more than a memory may have: lent in place of any greater one, so that the library refuses it.
+const MOST_CELLS: u64 = (1 << 24) + 1;
+const ALLOWANCE: u32 = 1_000_000;
+
+/// An image as it was read, with the lines that refusals of a run point at.
+#[derive(Debug)]
+pub struct Image {
+    pub lent: Lent,
+    /// The cells that the memory was to have.
+    pub memory: u64,
+    /// Where each object and each variable is given; the first line where it is not.
+    pub objects: Vec<Pos>,
+    pub variables: Vec<Pos>,
+}
+
+pub fn read_image(text: &str, tables: &[Table], names: &Names) -> Fallible<Image> {
+    let (Some(first), Some(last), Some(routine)) = (tables.first(), tables.last(), names.routines.last())
+    else {
+        return fail(Pos { line: 1, column: 1 }, "there is no routine to run");
+    };
+    let start = Pos { line: 1, column: 1 };
+    let mut reader = Reader {
+        parser: Parser::new(tokens(text).list),
+        lengths: first.objects.iter().map(|length| length.unsigned_abs()).collect(),
+        objects: &names.objects,
+        routine,
+        memory: None,
+        allowance: None,
+        placed: vec![Placed { at: start, offset: None, cells: None }; first.objects.len()],
+        given: vec![None; last.variables.len()],
+    };
+    while reader.parser.peek().kind != Kind::End {
+        reader.item()?;
+    }
+    reader.image(start)
+}
+
+#[derive(Clone)]
+struct Placed {
+    at: Pos,
+    offset: Option<u32>,
+    cells: Option<Vec<u32>>,
+}
+
+/// The entry value of a variable.
+#[derive(Clone, Copy)]
+struct Given {
+    at: Pos,
+    object: Option<usize>,
+    plus: i64,
+}
+
+struct Reader<'a> {
+    parser: Parser<'a>,
+    lengths: Vec<u32>,
+    objects: &'a [String],
+    routine: &'a RoutineNames,
+    memory: Option<u32>,
+    allowance: Option<u32>,
+    placed: Vec<Placed>,
+    given: Vec<Option<Given>>,
+}
+
+impl Reader<'_> {
+    fn item(&mut self) -> Fallible<()> {
+        let name = self.parser.name()?;
+        let number =
+            self.parser.accept_number().filter(|_| matches!(name.text.as_str(), "memory" | "allowance"));
+        let object = self.objects.iter().position(|object| *object == name.text);
+        let variable = self.routine.variables.iter().position(|variable| *variable == name.text);
+        match (number, object, variable) {
+            (Some(number), _, _) => {
+                let is_memory = name.text == "memory";
+                let slot = if is_memory { &mut self.memory } else { &mut self.allowance };
+                if slot.replace(number.value).is_some() {
+                    return fail(name.at, format!("`{}` is given twice", name.text));
+                }
+            }
+            (None, Some(object), _) => self.object(object, &name.text, name.at)?,
+            (None, None, Some(variable)) => self.variable(variable, &name.text, name.at)?,
+            (None, None, None) => {
+                let message =
+                    format!("`{}` is no object and no variable of the routine that is run", name.text);
+                return fail(name.at, message);
+            }
+        }
+        self.parser.expect_semicolon()
+    }
+
+    /// `OBJECT [at NUMBER] [= cells]`.
+    fn object(&mut self, object: usize, name: &str, at: Pos) -> Fallible<()> {
+        let mut placed = Placed { at, offset: None, cells: None };
+        if self.parser.peek().text == "at" {
+            self.parser.take();
+            placed.offset = Some(self.parser.number()?.value);
+        }
+        if self.parser.accept("=") {
+            let cells_at = self.parser.at();
+            let cells = self.cells()?;
+            let length = self.lengths[object];
+            if cells.len() > length as usize {
+                return fail(cells_at, format!("`{name}` has {length} cells, {} are given", cells.len()));
+            }
+            placed.cells = Some(cells);
+        }
+        let before = &mut self.placed[object];
+        if before.offset.is_some() || before.cells.is_some() {
+            return fail(at, format!("`{name}` is given twice"));
+        }
+        *before = placed;
+        Ok(())
+    }
+
+    /// `{ NUMBER, .. }` or a string, one cell a byte.
+    fn cells(&mut self) -> Fallible<Vec<u32>> {
+        if let Kind::Text(text) = &self.parser.peek().kind {
+            let cells = text.bytes().map(u32::from).collect();
+            self.parser.take();
+            return Ok(cells);
+        }
+        self.parser.expect("{")?;
+        let mut cells = Vec::new();
+        while !self.parser.is("}") {
+            cells.push(self.parser.number()?.value);
+            if !self.parser.is("}") {
+                self.parser.expect(",")?;
+            }
+        }
+        self.parser.expect("}")?;
+        Ok(cells)
+    }
+
+    /// `VARIABLE = NUMBER | NULL | OBJECT [+ NUMBER]`, the number in cells.
+    fn variable(&mut self, variable: usize, name: &str, at: Pos) -> Fallible<()> {
+        self.parser.expect("=")?;
+        let mut given = Given { at, object: None, plus: 0 };
+        if let Some(number) = self.parser.accept_number() {
+            given.plus = i64::from(number.value);
+        } else if !self.parser.accept("NULL") {
+            let object = self.parser.name()?;
+            let Some(number) = self.objects.iter().position(|name| *name == object.text) else {
+                return fail(object.at, format!("`{}` is no object", object.text));
+            };
+            given.object = Some(number);
+            if self.parser.is("+") || self.parser.is("-") {
+                let sign = if self.parser.take().text == "-" { -1 } else { 1 };
+                given.plus = sign * i64::from(self.parser.number()?.value);
+            }
+        }
+        if self.given[variable].replace(given).is_some() {
+            return fail(at, format!("`{name}` is given twice"));
+        }
+        Ok(())
+    }
+
+    fn image(self, start: Pos) -> Fallible<Image> {
+        let mut lent = Lent { allowance: self.allowance.unwrap_or(ALLOWANCE), ..Lent::default() };
+        // Each object touches the one before; cell 0 is in none.
+        let mut end = 1u64;
+        for (placed, length) in self.placed.iter().zip(&self.lengths) {
+            let offset = placed.offset.map_or(end, u64::from);
+            let Ok(word) = u32::try_from(offset) else {
+                return fail(placed.at, "this object would begin beyond the last address");
+            };
+            lent.directory.extend([word, *length]);
+            end = offset + u64::from(*length);
+        }
+        let ends = lent.directory.chunks_exact(2).map(|pair| u64::from(pair[0]) + u64::from(pair[1]));
+        let memory = self.memory.map_or(ends.max().unwrap_or(1), u64::from);
+        lent.cells = vec![0; memory.min(MOST_CELLS) as usize];
+        for (placed, pair) in self.placed.iter().zip(lent.directory.chunks_exact(2)) {
+            for (cell, value) in (pair[0] as usize..).zip(placed.cells.iter().flatten()) {
+                // What lies outside of the memory is not lent; the library refuses such an object.
+                if let Some(slot) = lent.cells.get_mut(cell) {
+                    *slot = *value;
+                }
+            }
+        }
+        for given in &self.given {
+            let (value, origin) = given.as_ref().map_or(Ok((0, 0)), |given| entry(given, &lent.directory))?;
+            lent.values.push(value);
+            lent.origins.push(origin);
+        }
+        Ok(Image {
+            lent,
+            memory,
+            objects: self.placed.iter().map(|placed| placed.at).collect(),
+            variables: self.given.iter().map(|given| given.map_or(start, |given| given.at)).collect(),
+        })
+    }
+}
+
+/// The value and the origin of a variable at entry.
+fn entry(given: &Given, directory: &[u32]) -> Fallible<(u32, u32)> {
+    let base = given.object.map_or(0, |object| i64::from(directory[2 * object]));
+    let Ok(value) = u32::try_from(base + given.plus) else {
+        return fail(given.at, format!("{} is no address", base + given.plus));
+    };
+    Ok((value, given.object.map_or(0, |object| object as u32 + 1)))
+}

@@ -1,0 +1,17 @@
+//! Routines as Checked C text: text to words and back, verdicts with their reasons, runs. The command `mizzengrape` is made of it.
+
+pub mod command;
+pub mod diagnostics;
+mod explain;
+pub mod form;
+pub mod image;
+pub mod library;
+pub mod map;
+pub mod names;
+mod parser;
+pub mod printer;
+pub mod program;
+pub mod table;
+pub mod tokens;
+mod tree;
+pub mod words;

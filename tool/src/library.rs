@@ -1,0 +1,106 @@
+//! The proved library, called with what the tool holds: a set of tables and a list of loop facts.
+
+use std::fmt;
+
+pub use mizzengrape::{Check, Outcome};
+
+/// A refusal, and in a set the routine that is refused.
+#[derive(Clone, Copy, Debug, PartialEq, Eq)]
+pub struct Refusal {
+    pub routine: Option<usize>,
+    pub number: u32,
+    pub place: usize,
+    pub pointer: Option<usize>,
+}
+
+impl From<mizzengrape::Refusal> for Refusal {
+    fn from(refusal: mizzengrape::Refusal) -> Refusal {
+        Refusal {
+            routine: None,
+            number: refusal.number,
+            place: refusal.place as usize,
+            pointer: refusal.pointer.map(|p| p as usize),
+        }
+    }
+}
+
+impl fmt::Display for Refusal {
+    fn fmt(&self, f: &mut fmt::Formatter) -> fmt::Result {
+        write!(f, "refused")?;
+        if let Some(routine) = self.routine {
+            write!(f, " routine {routine}")?;
+        }
+        write!(f, " {} {}", self.number, self.place)?;
+        self.pointer.map_or(Ok(()), |pointer| write!(f, " {pointer}"))
+    }
+}
+
+#[derive(Clone, Copy, Debug, PartialEq, Eq)]
+pub enum Verdict {
+    Accepted,
+    Refused(Refusal),
+}
+
+impl fmt::Display for Verdict {
+    fn fmt(&self, f: &mut fmt::Formatter) -> fmt::Result {
+        match self {
+            Verdict::Accepted => write!(f, "accepted"),
+            Verdict::Refused(refusal) => refusal.fmt(f),
+        }
+    }
+}
+
+/// What a run is lent besides the routine.
+#[derive(Clone, Debug, Default, PartialEq, Eq)]
+pub struct Lent {
+    pub directory: Vec<u32>,
+    pub cells: Vec<u32>,
+    pub values: Vec<u32>,
+    pub origins: Vec<u32>,
+    pub allowance: u32,
+}
+
+/// The steps of a run; a refused one has none.
+pub fn steps(outcome: &Outcome) -> u32 {
+    match *outcome {
+        Outcome::Done { steps } | Outcome::Spent { steps, .. } | Outcome::Stopped { steps, .. } => steps,
+        Outcome::Refused(_) => 0,
+    }
+}
+
+/// What this library cannot be asked, in words.
+pub type Asked<T> = Result<T, &'static str>;
+
+fn single<'a>(tables: &'a [Vec<i32>], facts: &[i32]) -> Asked<&'a [i32]> {
+    match tables {
+        [_] if !facts.is_empty() => Err("this library has no loop facts"),
+        [table] => Ok(table),
+        _ => Err("this library has no sets of routines"),
+    }
+}
+
+pub fn check(tables: &[Vec<i32>], facts: &[i32]) -> Asked<Verdict> {
+    Ok(match mizzengrape::check(single(tables, facts)?) {
+        mizzengrape::Verdict::Accepted => Verdict::Accepted,
+        mizzengrape::Verdict::Refused(refusal) => Verdict::Refused(refusal.into()),
+    })
+}
+
+/// The first refusal by causes 1 to 6: where there is none, the tables have a text.
+pub fn form_refusal(tables: &[Vec<i32>]) -> Option<Refusal> {
+    let refusal = |(number, table): (usize, &Vec<i32>)| match mizzengrape::check(table) {
+        mizzengrape::Verdict::Refused(refusal) if refusal.number <= 6 => {
+            let routine = (tables.len() > 1).then_some(number);
+            Some(Refusal { routine, ..Refusal::from(refusal) })
+        }
+        _ => None,
+    };
+    tables.iter().enumerate().find_map(refusal)
+}
+
+/// A run; cells and values then hold what it left.
+pub fn run(tables: &[Vec<i32>], facts: &[i32], lent: &mut Lent) -> Asked<Outcome> {
+    let table = single(tables, facts)?;
+    let Lent { directory, cells, values, origins, allowance } = lent;
+    Ok(mizzengrape::run(table, directory, cells, values, origins, *allowance))
+}

@@ -1,0 +1,301 @@
+//! Texts to trees: the grammar alone. The first error ends it.
+
+mod bounds;
+mod conditions;
+mod statements;
+mod values;
+
+use crate::diagnostics::{fail, Fallible, Pos};
+use crate::tokens::{is_type, Kind, Token};
+use crate::tree::*;
+
+/// Blocks may be nested so deep that no text can exhaust the stack.
+const MAX_NESTING: usize = 64;
+
+pub fn parse(tokens: Vec<Token>) -> Fallible<Unit> {
+    Parser::new(tokens).unit()
+}
+
+pub(crate) struct Parser<'a> {
+    tokens: Vec<Token<'a>>,
+    next: usize,
+}
+
+impl<'a> Parser<'a> {
+    pub(crate) fn new(tokens: Vec<Token<'a>>) -> Parser<'a> {
+        Parser { tokens, next: 0 }
+    }
+
+    pub(crate) fn peek(&self) -> &Token<'a> {
+        self.ahead(0)
+    }
+
+    /// The token so many further on; the last one stands for all behind it.
+    fn ahead(&self, count: usize) -> &Token<'a> {
+        &self.tokens[(self.next + count).min(self.tokens.len() - 1)]
+    }
+
+    pub(crate) fn at(&self) -> Pos {
+        self.peek().at
+    }
+
+    pub(crate) fn take(&mut self) -> Token<'a> {
+        let token = self.peek().clone();
+        self.next += 1;
+        token
+    }
+
+    pub(crate) fn is(&self, mark: &str) -> bool {
+        self.peek().is(mark)
+    }
+
+    pub(crate) fn accept(&mut self, mark: &str) -> bool {
+        let found = self.is(mark);
+        self.next += usize::from(found);
+        found
+    }
+
+    /// An error at the token that comes next; what is wrong with the text itself goes before.
+    pub(crate) fn wrong<T>(&self, message: impl Into<String>) -> Fallible<T> {
+        match &self.peek().kind {
+            Kind::Wrong(instead) => fail(self.at(), instead),
+            _ => fail(self.at(), message),
+        }
+    }
+
+    pub(crate) fn unexpected<T>(&self, expected: &str) -> Fallible<T> {
+        self.wrong(format!("expected {expected}, found {}", self.peek().shown()))
+    }
+
+    pub(crate) fn expect(&mut self, mark: &str) -> Fallible<()> {
+        if self.accept(mark) {
+            return Ok(());
+        }
+        self.unexpected(&format!("`{mark}`"))
+    }
+
+    /// A missing `;` is reported behind the last token.
+    pub(crate) fn expect_semicolon(&mut self) -> Fallible<()> {
+        if self.accept(";") {
+            return Ok(());
+        }
+        if self.next > 0 && !matches!(self.peek().kind, Kind::Wrong(_)) {
+            let message = format!("expected `;`, found {}", self.peek().shown());
+            return fail(self.tokens[self.next - 1].end, message);
+        }
+        self.unexpected("`;`")
+    }
+
+    pub(crate) fn is_name(&self) -> bool {
+        self.peek().kind == Kind::Name
+    }
+
+    pub(crate) fn name(&mut self) -> Fallible<Name> {
+        if !self.is_name() {
+            self.not_foreign()?;
+            return self.unexpected("a name");
+        }
+        let token = self.take();
+        Ok(Name { text: token.text.to_string(), at: token.at })
+    }
+
+    pub(crate) fn accept_number(&mut self) -> Option<Number> {
+        let &Kind::Number(value) = &self.peek().kind else { return None };
+        Some(Number { value, at: self.take().at })
+    }
+
+    pub(crate) fn number(&mut self) -> Fallible<Number> {
+        match self.accept_number() {
+            Some(number) => Ok(number),
+            None => self.unexpected("a number"),
+        }
+    }
+
+    /// `[-] NUMBER`.
+    fn signed_number(&mut self) -> Fallible<i64> {
+        let negative = self.accept("-");
+        let value = i64::from(self.number()?.value);
+        Ok(if negative { -value } else { value })
+    }
+
+    /// Keywords of C that the subset has not, with what stands in for them.
+    fn not_foreign(&self) -> Fallible<()> {
+        let token = self.peek();
+        if token.kind != Kind::Foreign {
+            return Ok(());
+        }
+        let text = token.text;
+        let instead = match text {
+            "for" | "do" => ": write a while",
+            "switch" | "case" => ": nest ifs",
+            _ if is_type(text) => ": the one integer type is unsigned",
+            _ => "",
+        };
+        self.wrong(format!("`{text}` is not part of the subset{instead}"))
+    }
+
+    fn unit(&mut self) -> Fallible<Unit> {
+        let mut unit = Unit { objects: Vec::new(), routines: Vec::new() };
+        while self.peek().kind != Kind::End || unit.routines.is_empty() {
+            let void = self.accept("void");
+            if !void {
+                self.unsigned("a routine")?;
+            }
+            let name = self.name()?;
+            if !void && (self.is("checked") || self.is("nt_checked")) {
+                if !unit.routines.is_empty() {
+                    return fail(name.at, "objects are declared before the routines");
+                }
+                unit.objects.push(self.object(name)?);
+            } else {
+                unit.routines.push(self.routine(name, void)?);
+            }
+        }
+        Ok(unit)
+    }
+
+    /// `unsigned` or `unsigned int`.
+    fn unsigned(&mut self, expected: &str) -> Fallible<()> {
+        self.not_foreign()?;
+        if !self.accept("unsigned") {
+            return match self.peek().kind {
+                Kind::Define => self.wrong("bounds are named in their routine, before its statements"),
+                Kind::Pragma => self.wrong("`#pragma rows` stands in its routine, before its statements"),
+                _ => self.unexpected(expected),
+            };
+        }
+        if self.peek().text == "int" {
+            self.take();
+        }
+        Ok(())
+    }
+
+    fn object(&mut self, name: Name) -> Fallible<Object> {
+        let terminated = self.take().is("nt_checked");
+        let mut dimensions = Vec::new();
+        while dimensions.is_empty() || self.is("[") {
+            self.expect("[")?;
+            dimensions.push(self.number()?);
+            self.expect("]")?;
+        }
+        self.expect_semicolon()?;
+        Ok(Object { name, terminated, dimensions })
+    }
+
+    fn routine(&mut self, name: Name, void: bool) -> Fallible<Routine> {
+        self.expect("(")?;
+        let mut parameters = Vec::new();
+        if !(self.is("void") && self.ahead(1).is(")") && self.accept("void") || self.is(")")) {
+            parameters.push(self.parameter()?);
+            while self.accept(",") {
+                parameters.push(self.parameter()?);
+            }
+        }
+        self.expect(")")?;
+        self.expect("{")?;
+        let mut routine = Routine {
+            name,
+            parameters,
+            locals: Vec::new(),
+            named: Vec::new(),
+            has_rows: false,
+            body: Vec::new(),
+            result: None,
+        };
+        while self.declaration(&mut routine)? {}
+        routine.body = self.statements(0)?;
+        self.result(&mut routine, void)?;
+        self.expect("}")?;
+        Ok(routine)
+    }
+
+    /// `unsigned` and `return` come together.
+    fn result(&mut self, routine: &mut Routine, void: bool) -> Fallible<()> {
+        if void && self.is("return") {
+            return self
+                .wrong(format!("`{}` is void: a routine with a result is unsigned", routine.name.text));
+        }
+        if !void && self.peek().kind != Kind::End {
+            self.expect("return")?;
+            routine.result = Some(self.name()?);
+            self.expect_semicolon()?;
+        }
+        Ok(())
+    }
+
+    fn parameter(&mut self) -> Fallible<Variable> {
+        let shape = self.shape()?;
+        self.declarator(shape)
+    }
+
+    /// A line of locals, a named bound or `#pragma rows`, if one comes next.
+    fn declaration(&mut self, routine: &mut Routine) -> Fallible<bool> {
+        match self.peek().kind {
+            Kind::Define => routine.named.push(self.named_bounds()?),
+            Kind::Pragma => {
+                self.pragma()?;
+                routine.has_rows = true;
+            }
+            Kind::Foreign if is_type(self.peek().text) => self.not_foreign()?,
+            _ if self.is_type() => {
+                let shape = self.shape()?;
+                routine.locals.push(self.declarator(shape)?);
+                while self.accept(",") {
+                    routine.locals.push(self.declarator(shape)?);
+                }
+                self.expect_semicolon()?;
+            }
+            _ => return Ok(false),
+        }
+        Ok(true)
+    }
+
+    fn is_type(&self) -> bool {
+        self.is("unsigned") || self.is("array_ptr") || self.is("nt_array_ptr")
+    }
+
+    fn shape(&mut self) -> Fallible<Type> {
+        let terminated = self.is("nt_array_ptr");
+        if !terminated && !self.is("array_ptr") {
+            self.unsigned("a type")?;
+            return Ok(Type::Integer);
+        }
+        self.take();
+        self.expect("<")?;
+        self.unsigned("`unsigned`")?;
+        let mut row = None;
+        if self.accept("checked") {
+            self.expect("[")?;
+            let number = self.number()?;
+            if number.value == 0 {
+                return fail(number.at, "a row has at least 1 cell");
+            }
+            if i32::try_from(number.value).is_err() {
+                return fail(number.at, "this length does not fit a word of the table");
+            }
+            row = Some(number.value);
+            self.expect("]")?;
+        }
+        self.expect(">")?;
+        Ok(Type::Pointer { terminated, row })
+    }
+
+    fn declarator(&mut self, shape: Type) -> Fallible<Variable> {
+        let name = self.name()?;
+        let bounds = match shape {
+            Type::Integer if self.is(":") => return self.wrong("an integer has no bounds"),
+            Type::Integer => None,
+            Type::Pointer { .. } if !self.accept(":") => {
+                let p = &name.text;
+                return self.wrong(format!(
+                    "a pointer is declared with its bounds: `{p} : count(n)` or `{p} : bounds(lower, upper)`"
+                ));
+            }
+            Type::Pointer { .. } => Some(self.bounds()?),
+        };
+        if self.is("=") {
+            return self.wrong("a variable has no initializer: write an assignment as a statement");
+        }
+        Ok(Variable { name, shape, bounds })
+    }
+}

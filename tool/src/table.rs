@@ -1,0 +1,163 @@
+//! The words of a table as records, section by section.
+
+pub const VARIABLE_WORDS: usize = 8;
+pub const STATEMENT_WORDS: usize = 7;
+pub const ROW_WORDS: usize = 6;
+
+#[derive(Clone, Debug, PartialEq, Eq)]
+pub struct Table {
+    pub objects: Vec<i32>,
+    pub variables: Vec<[i32; VARIABLE_WORDS]>,
+    pub statements: Vec<[i32; STATEMENT_WORDS]>,
+    /// The fourth section, where there is one.
+    pub rows: Option<Vec<[i32; ROW_WORDS]>>,
+}
+
+/// What is wrong with the directory of a table.
+#[derive(Clone, Debug, PartialEq, Eq)]
+pub enum DirectoryFault {
+    /// Fewer words than a directory has.
+    Short,
+    /// Section, where it begins, where it is due.
+    Offset(usize, i32, usize),
+    /// Section, its length, what that is no multiple of.
+    Length(usize, i32, usize),
+    /// Section, its length: it reaches past the table.
+    Past(usize, i32),
+    /// Where the last section ends, and the words of the table.
+    Rest(usize, usize),
+}
+
+impl Table {
+    pub fn split(words: &[i32]) -> Result<Table, DirectoryFault> {
+        let sections = if words.first() == Some(&8) { 4 } else { 3 };
+        if words.len() < 2 * sections {
+            return Err(DirectoryFault::Short);
+        }
+        let sizes = [1, VARIABLE_WORDS, STATEMENT_WORDS, ROW_WORDS];
+        let mut parts: Vec<&[i32]> = Vec::new();
+        let mut start = 2 * sections;
+        for (section, size) in sizes.into_iter().take(sections).enumerate() {
+            let (offset, length) = (words[2 * section], words[2 * section + 1]);
+            if usize::try_from(offset) != Ok(start) {
+                return Err(DirectoryFault::Offset(section, offset, start));
+            }
+            let count = usize::try_from(length).ok().filter(|count| count % size == 0);
+            let Some(count) = count else {
+                return Err(DirectoryFault::Length(section, length, size));
+            };
+            let part = words.get(start..start.saturating_add(count));
+            parts.push(part.ok_or(DirectoryFault::Past(section, length))?);
+            start += count;
+        }
+        if start != words.len() {
+            return Err(DirectoryFault::Rest(start, words.len()));
+        }
+        Ok(Table {
+            objects: parts[0].to_vec(),
+            variables: records(parts[1]),
+            statements: records(parts[2]),
+            rows: parts.get(3).map(|rows| records(rows)),
+        })
+    }
+
+    /// Sections one behind the other, their offsets and lengths before them.
+    pub fn words(&self) -> Vec<i32> {
+        let mut sections = vec![self.objects.clone(), self.variables.concat(), self.statements.concat()];
+        sections.extend(self.rows.as_ref().map(|rows| rows.concat()));
+        let mut words = Vec::new();
+        let mut offset = 2 * sections.len();
+        for section in &sections {
+            words.extend([offset as i32, section.len() as i32]);
+            offset += section.len();
+        }
+        words.extend(sections.concat());
+        words
+    }
+
+    /// The table with one more statement before another, in its block.
+    pub fn with_before(&self, statement: usize, record: [i32; STATEMENT_WORDS]) -> Table {
+        let mut table = self.clone();
+        for head in 0..statement {
+            let words = &mut table.statements[head];
+            if statement >= head + self.extent(head) {
+                continue;
+            }
+            let field = match words[0] {
+                13 => 1,
+                11 if statement > head + words[5] as usize => 6,
+                _ => 5,
+            };
+            words[field] += 1;
+        }
+        table.statements.insert(statement, record);
+        table
+    }
+
+    /// Cells in an element of a pointer.
+    pub fn size(&self, pointer: i32) -> i32 {
+        self.variables[pointer as usize][1].max(1)
+    }
+
+    pub fn is_pointer(&self, variable: i32) -> bool {
+        self.variables[variable as usize][0] != 0
+    }
+
+    pub fn is_terminated(&self, variable: i32) -> bool {
+        self.variables[variable as usize][0] == 2
+    }
+
+    /// How many statements a head takes with all its blocks, itself too.
+    pub fn extent(&self, statement: usize) -> usize {
+        let record = &self.statements[statement];
+        let counted: i64 = match record[0] {
+            11 => i64::from(record[5]) + i64::from(record[6]),
+            12 => i64::from(record[5]),
+            13 => i64::from(record[1]),
+            _ => 0,
+        };
+        1 + counted.max(0) as usize
+    }
+}
+
+fn records<const N: usize>(words: &[i32]) -> Vec<[i32; N]> {
+    words.chunks_exact(N).map(|record| record.try_into().expect("chunks of that size")).collect()
+}
+
+/// The row in force for each variable before a statement, -1 for its own bound. Both sides of an if and a while's head and end leave the
+/// same rows in an accepted routine, so one walk down to the statement tells them.
+pub fn rows_in_force(table: &Table, statement: usize) -> Vec<i32> {
+    let mut rows = vec![-1; table.variables.len()];
+    walk_rows(table, 0, table.statements.len(), statement, &mut rows);
+    rows
+}
+
+/// Whether the statement was met between start and end.
+fn walk_rows(table: &Table, start: usize, end: usize, wanted: usize, rows: &mut Vec<i32>) -> bool {
+    let mut s = start;
+    while s < end.min(wanted) {
+        let record = &table.statements[s];
+        let next = s + table.extent(s);
+        let middle = if record[0] == 11 { s + 1 + record[5] as usize } else { next };
+        let before = rows.clone();
+        if record[0] == 14 {
+            rows[record[1] as usize] = record[2];
+        } else if walk_rows(table, s + 1, middle, wanted, rows) {
+            return true;
+        }
+        if middle < next && wanted >= middle && wanted < next {
+            *rows = before;
+            return walk_rows(table, middle, next, wanted, rows);
+        }
+        s = next;
+    }
+    wanted >= start && wanted < end
+}
+
+/// The six words of the bounds in force for a pointer.
+pub fn bounds_in_force(table: &Table, pointer: i32, rows: &[i32]) -> [i32; ROW_WORDS] {
+    let own = &table.variables[pointer as usize][2..];
+    let row = usize::try_from(rows[pointer as usize]).ok();
+    let row = row.and_then(|row| table.rows.as_ref()?.get(row));
+    row.copied().unwrap_or_else(|| own.try_into().expect("six words behind the first two"))
+}

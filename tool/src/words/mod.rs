@@ -1,0 +1,139 @@
+//! Trees to words: tables, the list of loop facts, the map of positions, the names.
+
+mod bounds;
+mod facts;
+mod scope;
+mod statements;
+
+use crate::diagnostics::{fail, Diagnostic, Fallible, Pos};
+use crate::map::{Map, RoutineMap};
+use crate::names::{Names, RoutineNames};
+use crate::parser::parse;
+use crate::table::Table;
+use crate::tokens::tokens;
+use crate::tree::{Object, Routine, Type, Unit};
+use bounds::{word, Ends};
+use scope::{Globals, Scope};
+use statements::Body;
+
+/// A longer text is not read.
+pub const MAX_TEXT: usize = 1 << 20;
+
+/// What a text is in words.
+#[derive(Debug)]
+pub struct Assembly {
+    /// A table for each routine.
+    pub tables: Vec<Vec<i32>>,
+    /// The list of loop facts, four words an entry.
+    pub facts: Vec<i32>,
+    pub map: Map,
+    pub names: Names,
+    pub warnings: Vec<Diagnostic>,
+    pub first_comment: Option<Pos>,
+}
+
+pub fn assemble(text: &str) -> Fallible<Assembly> {
+    if text.len() > MAX_TEXT {
+        return fail(Pos { line: 1, column: 1 }, "a text has 1 MiB at most");
+    }
+    let tokens = tokens(text);
+    let mut assembly = unit(&parse(tokens.list)?)?;
+    assembly.first_comment = tokens.first_comment;
+    Ok(assembly)
+}
+
+fn unit(unit: &Unit) -> Fallible<Assembly> {
+    let globals = Globals::of(unit)?;
+    let objects = unit.objects.iter().map(object).collect::<Fallible<Vec<i32>>>()?;
+    let mut assembly = Assembly {
+        tables: Vec::new(),
+        facts: Vec::new(),
+        map: Map::default(),
+        names: Names {
+            objects: unit.objects.iter().map(|object| object.name.text.clone()).collect(),
+            routines: Vec::new(),
+        },
+        warnings: Vec::new(),
+        first_comment: None,
+    };
+    assembly.map.objects = unit.objects.iter().map(|object| object.name.at).collect();
+    for (number, tree) in unit.routines.iter().enumerate() {
+        // Objects of a set are those of routine 0.
+        let objects: &[i32] = if number == 0 { &objects } else { &[] };
+        routine(unit, number, tree, &globals, objects, &mut assembly)?;
+    }
+    Ok(assembly)
+}
+
+/// The product of the dimensions; below 0 for a terminated object.
+fn object(object: &Object) -> Fallible<i32> {
+    let product =
+        object.dimensions.iter().fold(1i64, |product, n| product.saturating_mul(i64::from(n.value)));
+    word(if object.terminated { -product } else { product }, object.dimensions[0].at)
+}
+
+fn routine(
+    unit: &Unit,
+    number: usize,
+    tree: &Routine,
+    globals: &Globals,
+    objects: &[i32],
+    assembly: &mut Assembly,
+) -> Fallible<()> {
+    let scope = Scope::of(number, tree, globals)?;
+    let variables = (0..scope.variables.len()).map(|v| variable(&scope, v)).collect::<Fallible<Vec<_>>>()?;
+    let named = tree.named.iter().map(|named| scope.named_bounds(named)).collect::<Fallible<Vec<Ends>>>()?;
+    let mut body = Body::new(unit, &scope, tree, named);
+    body.block(&tree.body, false)?;
+    result(&scope, tree)?;
+    let has_rows = tree.has_rows || !tree.named.is_empty() || body.has_where;
+    let table = Table {
+        objects: objects.to_vec(),
+        variables,
+        statements: body.records,
+        rows: has_rows.then_some(body.rows),
+    };
+    assembly.tables.push(table.words());
+    assembly.facts.append(&mut body.facts);
+    assembly.warnings.append(&mut body.warnings);
+    let variable_names = scope.variables.iter().map(|v| v.name.text.clone());
+    assembly.names.routines.push(RoutineNames {
+        name: tree.name.text.clone(),
+        has_result: tree.result.is_some(),
+        parameters: tree.parameters.len(),
+        variables: variable_names.collect(),
+        rows: tree.named.iter().map(|named| named.name.text.clone()).collect(),
+    });
+    assembly.map.routines.push(RoutineMap {
+        name: tree.name.at,
+        variables: scope.variables.iter().map(|v| v.name.at).collect(),
+        statements: body.positions,
+        rows: body.row_positions,
+        facts: body.fact_positions,
+    });
+    Ok(())
+}
+
+/// The eight words of a variable.
+fn variable(scope: &Scope, v: usize) -> Fallible<[i32; 8]> {
+    let variable = scope.variables[v];
+    let mut record = [0; 8];
+    let Type::Pointer { terminated, row } = variable.shape else { return Ok(record) };
+    record[0] = if terminated { 2 } else { 1 };
+    record[1] = row.unwrap_or(0) as i32;
+    let bounds = variable.bounds.as_ref().expect("the parser asks a pointer for its bounds");
+    record[2..].copy_from_slice(&scope.bounds(v, bounds)?);
+    Ok(record)
+}
+
+/// The result of a routine is its last variable, an integer.
+fn result(scope: &Scope, tree: &Routine) -> Fallible<()> {
+    let Some(name) = &tree.result else { return Ok(()) };
+    let number = scope.variable(name)?;
+    let last = scope.variables.len() - 1;
+    if number != last {
+        let last = &scope.variables[last].name.text;
+        return fail(name.at, format!("the result of a routine is its last variable, `{last}`"));
+    }
+    scope.integer(name).map(|_| ())
+}

@@ -1,0 +1,121 @@
+//! docs/FORMAT.md: each example prints what stands below it. The golden explanations of `tests/language` too.
+
+use mizzengrape_tool::command::{call, run_program, verdict, Output};
+use mizzengrape_tool::program::Program;
+use std::fs;
+use std::path::{Path, PathBuf};
+
+fn repository() -> PathBuf {
+    Path::new(env!("CARGO_MANIFEST_DIR")).join("..")
+}
+
+/// An example: its language, its text, and what is said to be printed.
+struct Example {
+    language: String,
+    text: String,
+    printed: String,
+}
+
+fn examples(manual: &str) -> Vec<Example> {
+    let mut parts = manual.split("\n```");
+    let mut examples = Vec::new();
+    parts.next();
+    while let (Some(block), Some(below)) = (parts.next(), parts.next()) {
+        let (language, text) = block.split_once('\n').expect("a language");
+        let printed = below.split_once("prints `").and_then(|(_, rest)| rest.split_once('`'));
+        examples.push(Example {
+            language: language.to_string(),
+            text: text.to_string(),
+            printed: printed.expect("what an example prints").0.to_string(),
+        });
+    }
+    examples
+}
+
+fn program(routine: &str) -> Program {
+    Program::of_text("example.c", routine.to_string(), false).expect("a text")
+}
+
+#[test]
+fn each_example_prints_what_is_said() {
+    let manual = fs::read_to_string(repository().join("docs/FORMAT.md")).expect("the manual");
+    let mut routine = String::new();
+    let mut count = 0;
+    for Example { language, text, printed } in examples(&manual) {
+        let output = match language.as_str() {
+            "c" => {
+                routine.clone_from(&text);
+                verdict(&program(&text), false)
+            }
+            "words" => {
+                let words = text.trim_start_matches("table:").split_whitespace();
+                let table = words.map(|word| word.parse().expect("a word")).collect();
+                verdict(&Program::of_tables("example.tbl", vec![table], Vec::new()), false)
+            }
+            "image" => run_program(program(&routine), "image", text.clone(), false, true),
+            other => panic!("no example is in {other}"),
+        };
+        let output = output.unwrap_or_else(|message| panic!("{message}\n{text}"));
+        assert_eq!(output.out.lines().next(), Some(printed.as_str()), "{text}{}", output.err);
+        count += 1;
+    }
+    assert!(count > 30, "{count}");
+}
+
+#[test]
+fn explain_prints_the_page() {
+    let explain = |words: &[&str]| {
+        let arguments: Vec<String> = ["explain"].iter().chain(words).map(|word| word.to_string()).collect();
+        call(&arguments)
+    };
+    for number in (1..=12).filter(|&number| number != 7) {
+        let page = explain(&[&number.to_string()]);
+        assert!(page.out.starts_with(&format!("Refusal {number}: ")), "{number}");
+        assert!(page.out.matches("Refusal ").count() == 1 && !page.out.contains("```"), "{}", page.out);
+    }
+    for number in 1..=5 {
+        assert!(explain(&["stop", &number.to_string()]).out.starts_with(&format!("Stop {number}: ")));
+    }
+    assert_eq!(explain(&["13"]), Output::wrong("error: there is no refusal 13\n".to_string()));
+}
+
+/// As `check` prints them, diagnostics first; those of forms that the library does not have yet come later.
+#[test]
+fn explanations_are_as_written() {
+    let folder = repository().join("tool/tests/language");
+    let verdicts = fs::read_to_string(folder.join("verdicts.txt")).expect("the list");
+    let mut count = 0;
+    for line in verdicts.lines().filter(|line| !line.ends_with("\t-")) {
+        let name = line.split('\t').next().expect("a name");
+        let Ok(expected) = fs::read_to_string(folder.join(format!("{name}.explain"))) else { continue };
+        let text = fs::read_to_string(folder.join(format!("{name}.c"))).expect("a text");
+        let program = Program::of_text(&format!("{name}.c"), text, false).expect("a text");
+        let output = verdict(&program, false).expect("a verdict");
+        assert_eq!(format!("{}{}", output.err, output.out), expected, "{name}");
+        count += 1;
+    }
+    assert!(count >= 2, "{count}");
+}
+
+/// The walk that explains answers as the library does, on every vector.
+#[test]
+fn the_explainer_agrees_on_all_vectors() {
+    let mut count = 0;
+    for file in ["named.txt", "random.txt"] {
+        let vectors = fs::read_to_string(repository().join("vectors").join(file)).expect("vectors");
+        for line in vectors.lines().filter_map(|line| line.strip_prefix("table:")) {
+            let table = line.split_whitespace().map(|word| word.parse().expect("a word")).collect();
+            let program = Program::of_tables("vector.tbl", vec![table], Vec::new());
+            let output = verdict(&program, false).expect("a verdict");
+            assert!(output.status <= 1, "{line}\n{}", output.err);
+            assert!(output.status == 0 || output.err.contains("error: refused "), "{line}\n{}", output.err);
+            if output.out.starts_with("refused 8") || output.out.starts_with("refused 9") {
+                assert!(output.err.contains("note: declared here: "), "{}", output.err);
+                let reasons = ["note: not shown: ", " end was lost at line "];
+                assert!(reasons.iter().any(|reason| output.err.contains(reason)), "{}", output.err);
+            }
+            count += 1;
+        }
+    }
+    assert!(count > 1_000, "{count}");
+}
