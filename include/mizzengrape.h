@@ -1,10 +1,34 @@
-/* The routine checker and interpreter as a static library (rt staticlib exports: target/staticlib/libexports.a).
+/* Mizzengrape: the proved checker and interpreter for routine tables, as a static library.
 
-   Every slice is a pointer and a length in elements. Nothing is kept after a call. There are two ways in:
+   A routine is a table of 32-bit words (docs/FORMAT.md; the command `mizzengrape` makes tables from Checked C text). mizzengrape_check answers whether the
+   rules accept it; mizzengrape_run runs an accepted one on memory that the caller lends.
+
+   Calls. Every slice is a pointer and a length in elements. Nothing is kept after a call, and nothing is allocated. There are two ways in:
    - mizzengrape_check and mizzengrape_run are the proved functions. Their caller promises of each slice that its pointer is not null (also where the
      length is 0), is aligned to four bytes and has that many elements of memory behind it; and that a slice that is written overlaps no other.
-   - mizzengrape_try_check and mizzengrape_try_run, below, promise nothing of null, alignment and overlap: they look first, and answer what is wrong
-     without calling. What no program can see is left to the caller: that a pointer has that many elements behind it, and that no other thread writes them. */
+   - mizzengrape_try_check and mizzengrape_try_run, below, ask for less: they look at null, alignment and overlap first, and answer what is wrong
+     without calling. What no program can see is left to the caller: that a pointer has that many elements behind it, and that no other thread writes them.
+
+   Memory. What a run is lent:
+   - cells: the memory, at most 16,777,216 cells of 32 bits. Address a is cells[a]. Cell 0 is in no object, so address 0 is null.
+   - directory: two words for each object of the table, its first cell and its length in cells, in the order of the objects and of the memory. The first
+     cell is 1 or more, the length is that of the table; objects may touch, and cells may lie in no object. It is empty where the table has no object.
+   - values: one word for each variable, an integer or an address. All may be 0: integers are 0 then and pointers null.
+   - origins: one word for each variable. For an integer and for a null pointer it is 0; for another pointer the number of the object that it belongs to,
+     plus 1. (Where objects touch, the address alone does not tell which one a pointer at their border belongs to.) The bounds that are declared for the
+     pointer must lie in that object, by the values lent.
+   - limit: how many steps the run may take. 0 is a limit too: the run is then done at once, in a table without statements, or spent.
+
+   What a run leaves. cells and values are written, nothing else; a refused run writes neither. After a run that is done, spent or stopped, values holds each
+   variable as it is then, and cells the memory; a stopping statement has changed nothing. Origins are not given back: a pointer keeps its object when it is
+   moved (p = p + k), takes that of q by p = q + k, that of o by p = o, and has none (0) after p = NULL.
+
+   Running again. A call always begins with the first statement. What a done run left may be lent to the next run, with the origins of its pointers as they are
+   then; so a routine that registers one boat is run once for each boat.
+   Going on after a spent run. No call begins in the middle, so the values that a spent run left are not where the next call would go on: lent again, they begin
+   another run at the first statement, and where the run was spent inside a bundle that is refused with 12 if the bounds are untrue there. To go on, keep a
+   copy of cells and values from before the run, and run that copy again with a greater limit: the run takes the same steps, passes the point where it was spent
+   (inside a bundle or not) and goes on from there. A run is the same each time: it depends on nothing but what it is lent. */
 #ifndef MIZZENGRAPE_H
 #define MIZZENGRAPE_H
 
@@ -12,13 +36,59 @@
 #include <stddef.h>
 #include <stdint.h>
 
+/* The version of this header and of the library that it came with. */
+#define MIZZENGRAPE_VERSION_MAJOR 0
+#define MIZZENGRAPE_VERSION_MINOR 1
+#define MIZZENGRAPE_VERSION_PATCH 0
+#define MIZZENGRAPE_VERSION "0.1.0"
+
 #ifdef __cplusplus
 extern "C" {
 #endif
 
+/* The version that a program was compiled with; the library itself does not carry one. */
+static inline const char *mizzengrape_version(void)
+{
+    return MIZZENGRAPE_VERSION;
+}
+
+/* Refusals, with the paper's numbers: answer[0] of a check, answer[1] of a run that is refused. In brackets their place. */
+typedef enum mizzengrape_refusal {
+    MIZZENGRAPE_ACCEPTED = 0,
+    MIZZENGRAPE_REFUSED_LENGTH = 1,      /* [0] the table has fewer than 6 or more than 7,318 words */
+    MIZZENGRAPE_REFUSED_DIRECTORY = 2,   /* [0] its sections do not lie one behind the other, or hold too many or too few records */
+    MIZZENGRAPE_REFUSED_OBJECT = 3,      /* [object] its length is not 1 to 1,000,000 */
+    MIZZENGRAPE_REFUSED_VARIABLE = 4,    /* [variable] its record is wrong */
+    MIZZENGRAPE_REFUSED_STATEMENT = 5,   /* [statement] its record is wrong: kind, a field, what a field names */
+    MIZZENGRAPE_REFUSED_BLOCK = 6,       /* [statement] a block past its parent's end, too deep, or a bundle's count or contents */
+    /* 7 is unused. */
+    MIZZENGRAPE_REFUSED_BOUNDS = 8,      /* [statement] declared bounds are not shown after it; the answer's last word is the lowest such pointer */
+    MIZZENGRAPE_REFUSED_ACCESS = 9,      /* [statement] an access in a bundle whose pointer's bounds are not shown there */
+    MIZZENGRAPE_REFUSED_MEMORY = 10,     /* [pair or 0] the memory is too large, or the directory does not fit it or the table */
+    MIZZENGRAPE_REFUSED_VALUES = 11,     /* [0] not one value and one origin for each variable */
+    MIZZENGRAPE_REFUSED_ENTRY = 12       /* [variable] an origin is wrong, or the bounds are untrue at entry */
+} mizzengrape_refusal;
+
+/* How a run ended: answer[0] of a run. */
+typedef enum mizzengrape_outcome {
+    MIZZENGRAPE_DONE = 0,    /* no statement is due any more */
+    MIZZENGRAPE_SPENT = 1,   /* the limit is used and a statement is due */
+    MIZZENGRAPE_STOPPED = 2, /* a check failed at the statement due */
+    MIZZENGRAPE_REFUSED = 3  /* nothing was begun and nothing changed */
+} mizzengrape_outcome;
+
+/* The check at which a run stopped: answer[3] of a stopped run. */
+typedef enum mizzengrape_stop {
+    MIZZENGRAPE_STOP_CONDITION = 1,  /* a dynamic check is false */
+    MIZZENGRAPE_STOP_NULL = 2,       /* an access through null */
+    MIZZENGRAPE_STOP_BOUNDS = 3,     /* an access outside of the declared bounds */
+    MIZZENGRAPE_STOP_ARITHMETIC = 4, /* arithmetic on null */
+    MIZZENGRAPE_STOP_ADDRESS = 5     /* a pointer would leave 1 to 4,294,967,295 */
+} mizzengrape_stop;
+
 /* Checks a routine table. The answer's words, the others stay:
      answer[0]  0 accepted, else the number of the refusal, 1 to 9 (7 is unused)
-     answer[1]  0 accepted, else the refusal's place: for 1 and 2 it is 0, for 3 the object, for 4 the variable, for 5 to 9 the statement
+     answer[1]  0 accepted, else the refusal's place
      answer[2]  for refusal 8 the lowest pointer variable whose declared bounds are not shown there, else 0
    True; or false, and nothing written, where answer_len is below 3. */
 bool mizzengrape_check(const int32_t *table, size_t table_len, uint32_t *answer, size_t answer_len);
@@ -26,11 +96,10 @@ bool mizzengrape_check(const int32_t *table, size_t table_len, uint32_t *answer,
 /* Runs a routine table on lent cells and values, limit steps at most. The answer's words, the others stay:
      answer[0]       0 done    1 spent     2 stopped    3 refused
      answer[1]       steps     steps       steps        number of the refusal, 1 to 12
-     answer[2]       0         statement   statement    its place: as for a check; for 10 the pair or 0, for 11 it is 0, for 12 the variable
+     answer[2]       0         statement   statement    its place
      answer[3]       0         0           check 1..5   for refusal 8 the pointer variable as for a check, else 0
-   The checks: 1 dynamic check false, 2 access through null, 3 access outside the declared bounds, 4 arithmetic on null, 5 address out of range.
-   Only cells, values and answer are written; a refusal changes no cell and no value. directory has two words for each object, values and origins one
-   for each variable; wrong lengths are refused by 10 and 11.
+   Each statement begun is a step; a while is one at each test, a bundle's head is one, and so is a statement that stops the run. The statement of a spent
+   run is the one due next.
    True; or false, and nothing written, where answer_len is below 4. */
 bool mizzengrape_run(const int32_t *table, size_t table_len, const uint32_t *directory, size_t directory_len, uint32_t *cells, size_t cells_len,
                      uint32_t *values, size_t values_len, const uint32_t *origins, size_t origins_len, uint32_t limit, uint32_t *answer,

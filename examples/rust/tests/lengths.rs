@@ -60,3 +60,26 @@ fn wrong_lengths_are_refused_and_change_nothing() {
     assert_eq!(run(&ROUTINE, &[1, 2], &mut cells, &mut values, &[2, 0, 0], 9), not_begun(12, 0));
     assert_eq!((cells, values), ([5, 6, 7], [1, 2, 9]));
 }
+
+/// check n > 0, p[0] := x, then a bundle of p := p + 1 and n := n - 1.
+#[rustfmt::skip]
+const STEPPED: [i32; 66] = [
+    6, 1, 7, 24, 31, 35, 2, 1, 0, 0, -1, 0, 0, 1, 0, 0, 0, 0, 0, 0, 0, 0, 0, 0, 0, 0, 0, 0, 0, 0, 0,
+    10, 1, 2, 1, 0, 0, 0, 9, 0, -1, 0, 2, 0, 0, 13, 2, 0, 0, 0, 0, 0, 6, 0, 0, 1, 0, 0, 0, 2, 1, 1, -1, 0, 0, 0,
+];
+
+/// As the header says: no call begins in the middle, but a copy from before the run passes the same point.
+#[test]
+fn a_run_spent_in_a_bundle_goes_on_from_a_copy() {
+    let (mut cells, mut values, origins) = ([0, 0, 0], [1, 2, 7], [1, 0, 0]);
+    let before = (cells, values);
+    let spent = Outcome::Spent { steps: 4, statement: 4 };
+    assert_eq!(run(&STEPPED, &[1, 2], &mut cells, &mut values, &origins, 4), spent);
+    assert_eq!((cells, values), ([0, 7, 0], [2, 2, 7]));
+    // What it left has untrue bounds: p is moved and n is not lowered yet.
+    let left = run(&STEPPED, &[1, 2], &mut cells, &mut values, &origins, 9);
+    assert_eq!(left, Outcome::Refused(refused(12, 0)));
+    (cells, values) = before;
+    assert_eq!(run(&STEPPED, &[1, 2], &mut cells, &mut values, &origins, 9), Outcome::Done { steps: 5 });
+    assert_eq!((cells, values), ([0, 7, 0], [2, 1, 7]));
+}

@@ -1,0 +1,15 @@
+#!/bin/sh
+# Puts the built library, header, pkg-config file, command and documents below a folder: install.sh DIR.
+set -eu
+prefix=$1
+cd "$(dirname "$0")/.."
+documents=$prefix/share/doc/mizzengrape
+
+mkdir -p "$prefix/bin" "$prefix/lib/pkgconfig" "$prefix/include" "$documents/routines" "$documents/examples"
+install -m 755 tool/target/release/mizzengrape "$prefix/bin/mizzengrape"
+install -m 644 target/staticlib/libexports.a "$prefix/lib/libmizzengrape.a"
+install -m 644 include/mizzengrape.h "$prefix/include/mizzengrape.h"
+sed "s/@VERSION@/$(cat VERSION)/" release/mizzengrape.pc.in > "$prefix/lib/pkgconfig/mizzengrape.pc"
+install -m 644 README.md CHANGELOG.md LICENSE docs/FORMAT.md "$documents"
+install -m 644 routines/*.c routines/*.img "$documents/routines"
+install -m 644 examples/c/main.c "$documents/examples"
