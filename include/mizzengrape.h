@@ -9,6 +9,8 @@
    - mizzengrape_try_check and mizzengrape_try_run, below, ask for less: they look at null, alignment and overlap first, and answer what is wrong
      without calling. What no program can see is left to the caller: that a pointer has that many elements behind it, and that no other thread writes them.
 
+   Stack. A call takes at most 180 KiB of the calling thread's stack, at the deepest nesting (`compare stack` measures it).
+
    Memory. What a run is lent:
    - cells: the memory, at most 16,777,216 cells of 32 bits. Address a is cells[a]. Cell 0 is in no object, so address 0 is null.
    - directory: two words for each object of the table, its first cell and its length in cells, in the order of the objects and of the memory. The first

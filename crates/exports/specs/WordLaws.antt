@@ -1,6 +1,6 @@
 -- The words of each answer.
 use Prim.Native.Nat.{ℕ, _≤_, _<_}
-use mathlib.Core.Path.{_≡_, refl, sym}
+use mathlib.Core.Path.{_≡_, refl, sym, ap, _∙_}
 use mathlib.Core.Bool.{true, false}
 use mathlib.Core.List.{List}
 use borrow.Author.Tests.{le-leb, lt-leb}
@@ -8,7 +8,9 @@ use lib.IntN.{ℤ}
 use lib.ListN.{length}
 use Rattle.refusals.specs.Refusals.{number, place, pointer}
 use Rattle.refusals.specs.declared.Refusal.{Refusal}
-use Rattle.rules.specs.ByChains.{Judged}
+use Rattle.rules.specs.Verdict.{verdictOf}
+use Rattle.rules.specs.ByChains.{chainFaults, Judged}
+use Rattle.rules.specs.Decidable.{decided}
 use Rattle.rules.specs.declared.Verdict.{Verdict}
 use Rattle.rules.specs.declared.Verdict.the-variants as verdict
 use Rattle.stops.specs.Checks.{checkNumber, checkStatement}
@@ -49,7 +51,12 @@ pub no-room : {T : List ℤ} {w : List ℕ} → length w < 3 → CheckAnswer T w
 no-room {T} {w} h = record { room = sym (lt-leb 3 (length w) h); words = rw (lt-leb 3 (length w) h) refl }
 
 pub checked-words : {T : List ℤ} {w w′ : List ℕ} (v : Verdict) → 3 ≤ length w → Judged T v → w′ ≡ verdictWords v w → CheckAnswer T w true w′
-checked-words {T} {w} {w′} v h a e = record { room = sym (le-leb 3 (length w) h); words = rw (le-leb 3 (length w) h) (v, a, e) }
+unfolding Judged
+checked-words {T} {w} {w′} v h a e =
+    record {
+      room = sym (le-leb 3 (length w) h);
+      words = rw (le-leb 3 (length w) h) (decided T (λ d. w′ ≡ verdictWords (verdictOf (chainFaults d T)) w) (λ d c. e ∙ ap (λ (x : Verdict). verdictWords x w) (a .by-each d c)));
+    }
 
 pub no-room-to-run : {T : List ℤ} {D cs vs os w : List ℕ} {limit : ℕ} → length w < 4 → RunWords T D cs vs os limit w false vs cs w
 no-room-to-run {w = w} h = record { room = sym (lt-leb 4 (length w) h); words = rw (lt-leb 4 (length w) h) (refl, refl, refl) }

@@ -7,7 +7,8 @@ use lib.Dec.{leb}
 use lib.IntN.{ℤ}
 use lib.ListN.{length, set}
 use Rattle.refusals.specs.Refusals.{number, place, pointer}
-use Rattle.rules.specs.ByChains.{Judged}
+use Rattle.rules.specs.Verdict.{verdictOf}
+use Rattle.rules.specs.ByChains.{Decided, chainFaults}
 use Rattle.rules.specs.declared.Verdict.{Verdict}
 use Rattle.rules.specs.declared.Verdict.the-variants as verdict
 use Rattle.stops.specs.Checks.{checkNumber, checkStatement}
@@ -36,9 +37,9 @@ outcomeWords (Spent n a) w = putFour w 1 n (wordOf a) 0
 outcomeWords (Stopped n c) w = putFour w 2 n (wordOf (checkStatement c)) (checkNumber c)
 outcomeWords (Refused r) w = putFour w 3 (number r) (wordOf (place r)) (wordOf (pointer r))
 
--- Where there is room for an answer, the words of the verdict on the table; else nothing is written.
+-- Where there is room for an answer, the words of the verdict on the table, by the paper's chains; else nothing is written.
 abbrev pub checkedIf : Bool → List ℤ → List ℕ → List ℕ → Type 0
-checkedIf true T w w′ = (v : Verdict) × Judged T v × (w′ ≡ verdictWords v w)
+checkedIf true T w w′ = Decided T (λ d. w′ ≡ verdictWords (verdictOf (chainFaults d T)) w)
 checkedIf false T w w′ = w′ ≡ w
 
 pub record CheckAnswer (T : List ℤ) (w : List ℕ) (r : Bool) (w′ : List ℕ) : Type 0 where
