@@ -1,9 +1,9 @@
 -- Soundness: at every point of a begun run of an accepted routine the machine has a step or has ended, every access is inside its origin object, and
 -- outside bundles the declared bounds of every pointer are true.
 use Prim.Native.Nat.{ℕ, zero, suc, _≤_, _<_}
-use mathlib.Core.Path.{_≡_, refl}
+use mathlib.Core.Path.{_≡_, refl, sym, ap, _∙_}
 use mathlib.Core.Logic.{_≢_, _⊎_, inl, inr}
-use mathlib.Core.Bool.{Bool, true, false}
+use mathlib.Core.Bool.{Bool, true, false, false≢true}
 use mathlib.Core.List.{List, []}
 use native.Mathlib.Omega.{arith}
 use borrow.Author.Tests.{ltb-true}
@@ -11,6 +11,10 @@ use lib.Dec.{ltb}
 use lib.IntN.{ℤ}
 use lib.ListN.{length}
 use Rattle.facts.specs.Store.{newSet, contradictory}
+use Rattle.facts.specs.declared.FactSet.{FactSet}
+use Rattle.chains.specs.Facts.{Variables, Contradiction}
+use Rattle.chains.specs.History.{new, known}
+use Rattle.chains.specs.HistoryLaws.{contradicts-exactly}
 use Rattle.sections.specs.declared.Sections.{Sections}
 use Rattle.statements.specs.Statements.{statementAt}
 use Rattle.statements.specs.StatementLaws.{read-typed, read-within}
@@ -31,6 +35,9 @@ use Rattle.rules.specs.BoundsRules.{isPointer, declared}
 use Rattle.rules.specs.EnvironmentLaws.{Declares, environment-declares}
 use Rattle.rules.specs.Stored.{store, blockFacts, faults}
 use Rattle.rules.specs.FactsBefore.{factsBefore}
+use Rattle.rules.specs.BeforeLaws.{before-represented}
+use Rattle.rules.specs.Representation.{represents-new}
+use Rattle.rules.specs.ByChains.{Decider, byChains, variables, DecidesTable}
 use Rattle.rules.specs.Verdict.{environmentOf}
 use Rattle.rules.specs.AcceptedLaws.{clear}
 use Rattle.rules.specs.declared.Environment.{Environment}
@@ -227,12 +234,23 @@ module _ (T : List ℤ) (h : Sections) (formed : formOf T ≡ WellFormed h) (acc
   abbrev point : ℕ → Point
   point t = pointAfter T h E D t (start T h E D cs vs os)
 
-  -- A statement whose facts contradict is never due. (Point 11 walks it like any other, and no run comes to it.)
-  pub never-due : (t : ℕ) → point t .due < h .statements → contradictory (factsBefore store T h E (tree T h) newSet (point t .due)) ≡ false
-  never-due t l = go (point-kept T h E D (length cs) begun-setting t (start T h E D cs vs os) begun-invariant .place)
+  -- The facts before a statement that is due do not contradict, by the store.
+  due-consistent : (t : ℕ) → point t .due < h .statements → contradictory (factsBefore store T h E (tree T h) newSet (point t .due)) ≡ false
+  due-consistent t l = go (point-kept T h E D (length cs) begun-setting t (start T h E D cs vs os) begun-invariant .place)
     where
       go : At T h E D (length cs) (tree T h) newSet (point t .due) (memoryOf (point t))
           ⊎ Stands T h E D (length cs) (h .statements) (blockFacts T h E (tree T h) newSet) (E .declared) (point t .due) (memoryOf (point t))
           → contradictory (factsBefore store T h E (tree T h) newSet (point t .due)) ≡ false
       go (inl x) = consistent T h E D (length cs) (tree T h) 0 newSet (point t .due) (memoryOf (point t)) (table-laid T h (begun-setting .laid) .numbered) x
       go (inr x) = absurd (omega (arith, x .0))
+
+  abbrev vars : Variables
+  vars = variables T h (well-formed T h formed .limits)
+
+  -- A statement whose facts contradict is never due, by the paper's chains. (Point 11 walks it like any other, and no run comes to it.)
+  pub never-due : (d : Decider) → DecidesTable T d → (t : ℕ) → point t .due < h .statements → Contradiction (known vars (factsBefore (byChains d) T h E (tree T h) new (point t .due))) → ⊥
+  never-due d decides t l c =
+      let w = well-formed T h formed .limits in
+      let r = before-represented T h w d (decides h w formed) (tree T h) (point t .due) (table-laid T h (begun-setting .laid) .reads) (represents-new vars) in
+      let m = contradicts-exactly vars (factsBefore (byChains d) T h E (tree T h) new (point t .due)) (r .legal) .1 c in
+      false≢true (sym (due-consistent t l) ∙ (ap (λ (f : FactSet). f .contradiction) (sym (r .same)) ∙ m))

@@ -10,6 +10,7 @@ pub mod BoundsRules
 pub mod Rules
 pub mod Verdict
 pub mod FactsBefore
+pub mod BeforeLaws
 pub mod Ranges
 pub mod RuleLaws
 pub mod AcceptedLaws

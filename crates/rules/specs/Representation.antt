@@ -80,9 +80,9 @@ module _ (vars : Variables) where
   pub represents-new : Represents vars new newSet
   represents-new = record { legal = tt; same = refl }
 
-  represents-pick : (b : Bool) {H G : History} {f g : FactSet} → Represents vars H f → Represents vars G g → Represents vars (cond b H G) (cond b f g)
-  represents-pick true t u = t
-  represents-pick false t u = u
+  pub represents-cond : (b : Bool) {H G : History} {f g : FactSet} → Represents vars H f → Represents vars G g → Represents vars (cond b H G) (cond b f g)
+  represents-cond true t u = t
+  represents-cond false t u = u
 
   pub represents-join : {H G : History} {f g : FactSet} → Represents vars H f → Represents vars G g → Represents vars (join H G) (joined (vars .pointer) f g)
   represents-join {H} {G} {f} {g} t u = record { legal = (t .legal, u .legal); same = ap₂ (joined (vars .pointer)) (t .same) (u .same) }
@@ -133,8 +133,8 @@ module _ (vars : Variables) where
       represents-differs : (below above : Bool) → Represents vars (differs (byChains q) below above H x y k) (differs store below above f x y k)
       unfolding differs
       represents-differs below above =
-          let lower = represents-pick below (represents-add t x y (bias + k - 1) r) t in
-          represents-pick above (represents-add lower y x (bias - k - 1) s) lower
+          let lower = represents-cond below (represents-add t x y (bias + k - 1) r) t in
+          represents-cond above (represents-add lower y x (bias - k - 1) s) lower
 
       represents-relation : (n : ℕ) → Represents vars (relationFacts (byChains q) n H x y k) (relationFacts store n f x y k)
       unfolding relationFacts
@@ -271,17 +271,17 @@ module _ (T : List ℤ) (h : Sections) (w : Limits h) where
     after-represented {H} {f} t (AddConstant x y k) s =
         let d = represents-drop vars t x (s .target .below) in
         let e : inRange store f y k ≡ inRange (byChains q) H y k = range-represented vars q right t y k (inr (s .source .below)) in
-        rw (← e) (represents-pick vars (inRange store f y k)
-        (represents-pick vars (eqb x y) (represents-shift vars t x k (s .target .below) (slight (s .constant)))
+        rw (← e) (represents-cond vars (inRange store f y k)
+        (represents-cond vars (eqb x y) (represents-shift vars t x k (s .target .below) (slight (s .constant)))
         (represents-equated vars q right d x y k (two-integers (s .target) (s .source)) (two-integers (s .source) (s .target))))
         d)
     after-represented t (Arithmetic x y z op) s = represents-drop vars t x (s .target .below)
     after-represented t (Null p) s = represents-range vars t p 0 0 (s .below) (omega arith) (omega arith)
     after-represented t (Address p o) s = represents-range vars t p 1 maxValue (s .target .below) (omega arith) (omega arith)
     after-represented t (PointerOffset p r k) s =
-        let moved = represents-pick vars (eqb p r) (represents-shift vars t p k (s .target .below) (slight (s .constant)))
+        let moved = represents-cond vars (eqb p r) (represents-shift vars t p k (s .target .below) (slight (s .constant)))
         (represents-equated vars q right (represents-drop vars t p (s .target .below)) p r k (two-pointers (s .target) (s .source)) (two-pointers (s .source) (s .target))) in
-        represents-pick vars (eqb k bias) moved (represents-positive vars q right moved p (s .target .below))
+        represents-cond vars (eqb k bias) moved (represents-positive vars q right moved p (s .target .below))
     after-represented t (PointerIndex p r i) s = represents-range vars t p 1 maxValue (s .target .below) (omega arith) (omega arith)
     after-represented t (Load x p i k) s = represents-drop vars t x (s .value .below)
     after-represented t (Store p i k x) s = t

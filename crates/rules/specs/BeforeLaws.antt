@@ -1,0 +1,84 @@
+-- What the walk knows before a statement by the store represents what it knows by the paper's chains.
+use Prim.Native.Nat.{ℕ, _+_}
+use mathlib.Core.List.{List, [], _∷_}
+use lib.Dec.{ltb, eqb}
+use lib.IntN.{ℤ}
+use lib.ListN.{length}
+use Rattle.facts.specs.declared.FactSet.{FactSet}
+use Rattle.chains.specs.Facts.{Variables}
+use Rattle.chains.specs.History.{History}
+use Rattle.sections.specs.Sections.{Limits}
+use Rattle.sections.specs.declared.Sections.{Sections}
+use Rattle.statements.specs.StatementLaws.{read-typed}
+use Rattle.statements.specs.declared.Simple.{Simple}
+use Rattle.statements.specs.declared.Statement.the-variants.{Plain, If, While}
+use Rattle.blocks.specs.Tree.{Block, nil, plain, branch, loop, bundle, unread}
+use Rattle.flow.specs.Shape.{size, ReadsLine, Reads}
+use Rattle.rules.specs.Rules.{bundleFacts, blockFacts}
+use Rattle.rules.specs.FactsBefore.{lineBefore, factsBefore}
+use Rattle.rules.specs.Verdict.{environmentOf}
+use Rattle.rules.specs.Stored.{store}
+use Rattle.rules.specs.ByChains.{Decider, Decides, byChains, variables}
+use Rattle.rules.specs.Representation.{Represents, represents-cond, represents-join, condition-represented, negated-represented, after-represented, body-represented}
+use Rattle.rules.specs.declared.Environment.{Environment}
+
+module _ (T : List ℤ) (h : Sections) (w : Limits h) (q : Decider) (right : Decides (variables T h w) q) where
+  abbrev vars : Variables
+  vars = variables T h w
+
+  abbrev E : Environment
+  E = environmentOf T h
+
+  -- ---- after a bundle and after a block
+
+  line-represented : (a : ℕ) (ss : List Simple) {H : History} {f : FactSet} → ReadsLine T h a ss → Represents vars H f → Represents vars (bundleFacts (byChains q) ss H) (bundleFacts store ss f)
+  unfolding bundleFacts
+  line-represented a [] r t = t
+  line-represented a (s ∷ ss) r t = line-represented (a + 1) ss (r .1) (after-represented T h w q right t s (read-typed T h a (Plain s) (r .0)))
+
+  block-represented : (b : Block) {H : History} {f : FactSet} → Reads T h b → Represents vars H f → Represents vars (blockFacts (byChains q) T h E b H) (blockFacts store T h E b f)
+  unfolding blockFacts
+  block-represented nil r t = t
+  block-represented (plain a s u) r t = block-represented u (r .1) (after-represented T h w q right t s (read-typed T h a (Plain s) (r .0)))
+  block-represented (branch a c x y u) r t =
+      let s = read-typed T h a (If c (size x) (size y)) (r .0) .condition .sides in
+      block-represented u (r .3)
+      (represents-join vars (block-represented x (r .1) (condition-represented T h w q right t c s)) (block-represented y (r .2) (negated-represented T h w q right t c s)))
+  block-represented (loop a c n x u) r t =
+      let s = read-typed T h a (While c (size x)) (r .0) .condition .sides in
+      block-represented u (r .2) (negated-represented T h w q right (body-represented T h w q right t (a + 1) n) c s)
+  block-represented (bundle a ss u) r t = block-represented u (r .2) (line-represented (a + 1) ss (r .1) t)
+  block-represented (unread a) r t = absurd r
+
+  -- ---- before a statement
+
+  line-before : (a : ℕ) (ss : List Simple) (d : ℕ) {H : History} {f : FactSet} → ReadsLine T h a ss → Represents vars H f
+      → Represents vars (lineBefore (byChains q) a ss H d) (lineBefore store a ss f d)
+  unfolding lineBefore
+  line-before a [] d r t = t
+  line-before a (s ∷ ss) d r t = represents-cond vars (eqb d a) t (line-before (a + 1) ss d (r .1) (after-represented T h w q right t s (read-typed T h a (Plain s) (r .0))))
+
+  pub before-represented : (b : Block) (d : ℕ) {H : History} {f : FactSet} → Reads T h b → Represents vars H f
+      → Represents vars (factsBefore (byChains q) T h E b H d) (factsBefore store T h E b f d)
+  unfolding factsBefore
+  before-represented nil d r t = t
+  before-represented (plain a s u) d r t =
+      represents-cond vars (eqb d a) t (before-represented u d (r .1) (after-represented T h w q right t s (read-typed T h a (Plain s) (r .0))))
+  before-represented (branch a c x y u) d r t =
+      let s = read-typed T h a (If c (size x) (size y)) (r .0) .condition .sides in
+      let then = condition-represented T h w q right t c s in
+      let other = negated-represented T h w q right t c s in
+      represents-cond vars (eqb d a) t
+      (represents-cond vars (ltb d (a + 1 + size x)) (before-represented x d (r .1) then)
+      (represents-cond vars (ltb d (a + 1 + size x + size y)) (before-represented y d (r .2) other)
+      (before-represented u d (r .3) (represents-join vars (block-represented x (r .1) then) (block-represented y (r .2) other)))))
+  before-represented (loop a c n x u) d r t =
+      let s = read-typed T h a (While c (size x)) (r .0) .condition .sides in
+      let head = body-represented T h w q right t (a + 1) n in
+      represents-cond vars (eqb d a) t
+      (represents-cond vars (ltb d (a + 1 + size x)) (before-represented x d (r .1) (condition-represented T h w q right head c s))
+      (before-represented u d (r .2) (negated-represented T h w q right head c s)))
+  before-represented (bundle a ss u) d r t =
+      represents-cond vars (eqb d a) t
+      (represents-cond vars (ltb d (a + 1 + length ss)) (line-before (a + 1) ss d (r .1) t) (before-represented u d (r .2) (line-represented (a + 1) ss (r .1) t)))
+  before-represented (unread a) d r t = absurd r
