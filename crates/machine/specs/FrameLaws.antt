@@ -50,15 +50,6 @@ set-both (x ∷ xs) (y ∷ ys) (suc j) v (suc i) n e = set-both xs ys j v i (ome
 -- ---- memories
 
 module _ (D : List ℕ) (R : ℕ → Type 0) where
-  pub same-cells : (cs : List ℕ) → SameCells D R cs cs
-  same-cells cs = record { long = refl; cells = λ i c. refl }
-
-  pub same-sym : (cs ds : List ℕ) → SameCells D R cs ds → SameCells D R ds cs
-  same-sym cs ds s = record { long = sym (s .long); cells = λ i c. sym (s .cells i c) }
-
-  pub same-trans : (cs ds es : List ℕ) → SameCells D R cs ds → SameCells D R ds es → SameCells D R cs es
-  same-trans cs ds es s t = record { long = s .long ∙ t .long; cells = λ i c. s .cells i c ∙ t .cells i c }
-
   set-same : (cs ds : List ℕ) (j v : ℕ) → SameCells D R cs ds → SameCells D R (set cs j v) (set ds j v)
   set-same cs ds j v s = record {
     long = length-set cs j v ∙ s .long ∙ sym (length-set ds j v);
@@ -89,12 +80,6 @@ module _ (D : List ℕ) (R : ℕ → Type 0) where
 module _ (D : List ℕ) (R : ℕ → Type 0) where
   pub alike-with : (P : Point) (ds : List ℕ) → SameCells D R (P .cells) ds → Alike D R P (withCells P ds)
   alike-with P ds s = record { rest = refl; memory = s }
-
-  pub alike-sym : (P Q : Point) → Alike D R P Q → Alike D R Q P
-  alike-sym P Q a = record { rest = ap (λ (X : Point). withCells X (P .cells)) (sym (a .rest)); memory = same-sym D R _ _ (a .memory) }
-
-  pub alike-trans : (P Q S : Point) → Alike D R P Q → Alike D R Q S → Alike D R P S
-  alike-trans P Q S a b = record { rest = ap (λ (X : Point). withCells X (S .cells)) (a .rest) ∙ b .rest; memory = same-trans D R _ _ _ (a .memory) (b .memory) }
 
   pub framed-trans : (P Q S : Point) → Framed D R P Q → Framed D R Q S → Framed D R P S
   framed-trans P Q S a b = record { origins = b .origins; long = b .long ∙ a .long; elsewhere = λ i e. b .elsewhere i e ∙ a .elsewhere i e }
