@@ -1,6 +1,6 @@
 //! Measurements of the fast forms and of the proved implementation, as ratios in one run.
 
-use crate::generate::accepted;
+use crate::generate::{accepted, accepted_with_rows};
 use crate::linked::Proved;
 use crate::proved::Implementation;
 use crate::{fast_check, fast_run};
@@ -44,6 +44,7 @@ pub fn loop_table() -> Vec<i32> {
         objects: vec![100],
         variables: vec![[1, 0, p, -1, 0, p, n, 0], [0; 8], [0; 8], [0; 8], [0; 8], [0; 8]],
         statements: while_loop(with_literal(round, LESS, i32::MAX), [body, wrap, step].concat()),
+        rows: None,
     };
     table.words()
 }
@@ -58,9 +59,20 @@ pub fn loop_input(allowance: u32) -> RunInput {
     }
 }
 
+/// The same loop with a row that each round puts in force again.
+pub fn rows_table() -> Vec<i32> {
+    let mut table = Draft::from_words(&loop_table()).expect("a right directory");
+    let row = declare(0, 0);
+    table.rows = Some(vec![[0, -1, 0, 0, 1, 0]]);
+    // In place of the check in the body; before the loop too, so that its head and its end have the same row.
+    table.statements[3] = row;
+    table.statements.insert(0, row);
+    table.words()
+}
+
 /// How many statements of each kind the tables have.
-fn kinds(tables: &[Vec<i32>]) -> [usize; 13] {
-    let mut counts = [0; 13];
+fn kinds(tables: &[Vec<i32>]) -> [usize; 14] {
+    let mut counts = [0; 14];
     for draft in tables.iter().filter_map(|table| Draft::from_words(table)) {
         for record in draft.statements {
             counts[record[0] as usize - 1] += 1;
@@ -73,57 +85,72 @@ fn kinds(tables: &[Vec<i32>]) -> [usize; 13] {
 pub fn check() {
     for variables in [11, 16] {
         let tables: Vec<Vec<i32>> = (0..8).map(|seed| accepted(seed, STATEMENTS, variables)).collect();
-        let statements = (STATEMENTS * tables.len()) as f64;
-        println!("{variables} variables, statements of kinds 1 to 13: {:?}", kinds(&tables));
-        type Form = fn(&[i32]) -> bool;
-        let forms: [(&str, Form, usize); 4] = [
-            ("decode only", |t| decode(t).is_ok(), 300),
-            ("check, fast", |t| fast_check::check(t).is_ok(), 300),
-            ("check, plain", |t| checker::check(t).is_ok(), 20),
-            ("check, proved", |t| Proved.check(t)[0] == 0, 100),
-        ];
-        let mut fast = f64::NAN;
-        for (name, form, rounds) in forms {
-            let each = best(rounds, || {
-                for table in &tables {
-                    assert!(form(black_box(table)));
-                }
-            });
-            // One table again and again: what branch prediction can learn, it has learnt.
-            let again =
-                tables.iter().map(|table| best(rounds, || assert!(form(black_box(table))))).sum::<f64>();
-            println!(
-                "{name:<13} {variables} variables  {:8.1} ns a statement, {:.1} for one table again and again",
-                each / statements,
-                again / statements
-            );
-            match name {
-                "check, fast" => fast = each,
-                "check, proved" => {
-                    println!("check, proved against fast, {variables} variables: {:.2}", each / fast)
-                }
-                _ => {}
+        check_tables(&format!("{variables} variables"), &tables);
+    }
+}
+
+/// The check and the run of tables with rows.
+pub fn rows() {
+    for variables in [11, 16] {
+        let tables: Vec<Vec<i32>> =
+            (0..8).map(|seed| accepted_with_rows(seed, STATEMENTS, variables)).collect();
+        check_tables(&format!("{variables} variables, rows"), &tables);
+    }
+    run_table("loop with rows", ", loop with rows", &rows_table());
+}
+
+fn check_tables(title: &str, tables: &[Vec<i32>]) {
+    let statements = (STATEMENTS * tables.len()) as f64;
+    println!("{title}, statements of kinds 1 to 14: {:?}", kinds(tables));
+    type Form = fn(&[i32]) -> bool;
+    let forms: [(&str, Form, usize); 4] = [
+        ("decode only", |t| decode(t).is_ok(), 300),
+        ("check, fast", |t| fast_check::check(t).is_ok(), 300),
+        ("check, plain", |t| checker::check(t).is_ok(), 20),
+        ("check, proved", |t| Proved.check(t)[0] == 0, 100),
+    ];
+    let mut fast = f64::NAN;
+    for (name, form, rounds) in forms {
+        let each = best(rounds, || {
+            for table in tables {
+                assert!(form(black_box(table)), "{name}: a table is refused");
             }
+        });
+        // One table again and again: what branch prediction can learn, it has learnt.
+        let again = tables.iter().map(|table| best(rounds, || assert!(form(black_box(table))))).sum::<f64>();
+        println!(
+            "{name:<13} {title}  {:8.1} ns a statement, {:.1} for one table again and again",
+            each / statements,
+            again / statements
+        );
+        match name {
+            "check, fast" => fast = each,
+            "check, proved" => println!("check, proved against fast, {title}: {:.2}", each / fast),
+            _ => {}
         }
     }
 }
 
 /// The run of a loop of ten statements.
 pub fn run() {
+    run_table("loop of ten", "", &loop_table());
+}
+
+fn run_table(title: &str, beside: &str, table: &[i32]) {
     type Run = fn(&[i32], &mut RunInput) -> bool;
     let forms: [(&str, Run, u32); 3] = [
         ("run, fast", |t, i| matches!(fast_run::run(t, i), RunAnswer::Spent { .. }), 200_000),
         ("run, plain", |t, i| matches!(machine::run(t, i), RunAnswer::Spent { .. }), 20_000),
         ("run, proved", |t, i| Proved.run(t, i)[0] == 1, 200_000),
     ];
-    let table = loop_table();
     let mut fast = f64::NAN;
     for (name, run, steps) in forms {
-        let each = best(400, || assert!(run(black_box(&table), &mut loop_input(steps)))) / f64::from(steps);
-        println!("{name:<13} loop of ten    {each:8.2} ns a step");
+        let each = best(400, || assert!(run(black_box(table), &mut loop_input(steps)), "{name}: no run"));
+        let each = each / f64::from(steps);
+        println!("{name:<13} {title:<14} {each:8.2} ns a step");
         match name {
             "run, fast" => fast = each,
-            "run, proved" => println!("run, proved against fast: {:.2}", each / fast),
+            "run, proved" => println!("run, proved against fast{beside}: {:.2}", each / fast),
             _ => {}
         }
     }
@@ -134,10 +161,13 @@ mod tests {
     use super::*;
 
     #[test]
-    fn the_measured_loop_is_right_in_both_forms() {
-        let table = loop_table();
-        let (mut plain, mut fast) = (loop_input(5_000), loop_input(5_000));
-        assert_eq!(machine::run(&table, &mut plain), fast_run::run(&table, &mut fast));
-        assert_eq!(plain, fast);
+    fn the_measured_loops_are_right_in_both_forms() {
+        for table in [loop_table(), rows_table()] {
+            let (mut plain, mut fast) = (loop_input(5_000), loop_input(5_000));
+            let answer = machine::run(&table, &mut plain);
+            assert!(matches!(answer, RunAnswer::Spent { .. }), "{answer}");
+            assert_eq!(answer, fast_run::run(&table, &mut fast));
+            assert_eq!(plain, fast);
+        }
     }
 }

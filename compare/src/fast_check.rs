@@ -1,137 +1,35 @@
 //! The checker in its fast form: one decoding, facts only over the variables
 //! that any question can reach, bounds looked at only where they changed.
 
+use crate::fast_bounds::{bits, FastBounds, InForce};
 use crate::fast_facts::FastFacts;
 use oracle::answer::{CheckAnswer, Refusal};
 use oracle::facts::GREATEST;
-use oracle::table::{decode, Condition, Kind, Right, Routine, Statement, Var};
+use oracle::table::{decode, Condition, Right, Routine, Statement, Var};
 
-/// Causes 1 to 9 of a table.
+/// Causes 1 to 9 and 13 of a table.
 pub fn check(words: &[i32]) -> CheckAnswer {
     check_routine(&decode(words)?)
 }
 
-/// Causes 8 and 9 of a decoded routine.
+/// Causes 8, 9 and 13 of a decoded routine.
 pub fn check_routine(routine: &Routine) -> CheckAnswer {
-    let (mut walker, mut facts) = Walker::new(routine);
-    walker.block(0, routine.statements.len(), &mut facts)
-}
-
-/// An integer that no end, no condition and no kind 2 reads: no question can
-/// reach its facts, so it gets no row.
-const NO_ROW: u8 = u8::MAX;
-
-/// An end over rows of the fact store; a missing integer is the row of zero.
-#[derive(Clone, Copy)]
-struct Known {
-    pointer: u8,
-    integer: u8,
-    constant: i64,
-}
-
-/// Out of reach of any sum: an unknown lower end lies above every end, an
-/// unknown upper end below every end. Both name only zero.
-const UNKNOWN: i64 = 1 << 60;
-
-#[derive(Clone, Copy)]
-struct KnownBounds {
-    lower: Known,
-    upper: Known,
-}
-
-/// End a <= end b.
-fn below(facts: &FastFacts, a: &Known, b: &Known) -> bool {
-    let pointers = facts.sum(usize::from(a.pointer), usize::from(b.pointer));
-    let integers = facts.sum(usize::from(a.integer), usize::from(b.integer));
-    pointers + integers + a.constant <= b.constant
+    let (bounds, mut facts) = FastBounds::new(routine);
+    Walker { routine, bounds }.block(0, routine.statements.len(), &mut facts)
 }
 
 struct Walker<'a> {
     routine: &'a Routine,
-    /// The row of each variable, and of zero.
-    rows: [u8; 16],
-    zero: u8,
-    declared: [KnownBounds; 16],
-    known: [KnownBounds; 16],
-    /// Bit p of entry v: a declared end of pointer p names v.
-    named_by: [u16; 16],
-    /// The pointers whose known bounds may differ from the declared ones.
-    changed: u16,
+    bounds: FastBounds<'a>,
 }
 
-/// The numbers of the bits set, lowest first.
-fn bits(mut mask: u16) -> impl Iterator<Item = usize> {
-    std::iter::from_fn(move || {
-        if mask == 0 {
-            return None;
-        }
-        let bit = mask.trailing_zeros() as usize;
-        mask &= mask - 1;
-        Some(bit)
-    })
-}
-
-/// Bit v for each variable whose facts can matter.
-fn used(routine: &Routine) -> u16 {
-    let mut mask = routine.compared;
-    for (v, bounds) in routine.bounds.iter().enumerate() {
-        let Some(bounds) = bounds else { continue };
-        mask |= 1 << v;
-        for integer in [bounds.lower.integer, bounds.upper.integer].into_iter().flatten() {
-            mask |= 1 << integer;
-        }
-    }
-    mask
-}
-
-impl<'a> Walker<'a> {
-    fn new(routine: &'a Routine) -> (Walker<'a>, FastFacts) {
-        let used = used(routine);
-        let pointers = routine.kinds.iter().filter(|&&k| k == Kind::Pointer).count();
-        let integers = used.count_ones() as usize - pointers;
-        let (mut next_pointer, mut next_integer) = (0u8, pointers as u8 + 1);
-        let mut rows = [NO_ROW; 16];
-        for v in bits(used) {
-            let next = match routine.kinds[v] {
-                Kind::Pointer => &mut next_pointer,
-                Kind::Integer => &mut next_integer,
-            };
-            rows[v] = *next;
-            *next += 1;
-        }
-        let zero = pointers as u8;
-        let nothing = Known { pointer: zero, integer: zero, constant: 0 };
-        let mut declared = [KnownBounds { lower: nothing, upper: nothing }; 16];
-        let mut named_by = [0u16; 16];
-        for (p, bounds) in routine.bounds.iter().enumerate() {
-            let Some(bounds) = bounds else { continue };
-            for end in [bounds.lower, bounds.upper] {
-                named_by[usize::from(end.pointer)] |= 1 << p;
-                if let Some(integer) = end.integer {
-                    named_by[usize::from(integer)] |= 1 << p;
-                }
-            }
-            let [lower, upper] = [bounds.lower, bounds.upper].map(|end| Known {
-                pointer: rows[usize::from(end.pointer)],
-                integer: end.integer.map_or(zero, |i| rows[usize::from(i)]),
-                constant: i64::from(end.constant),
-            });
-            declared[p] = KnownBounds { lower, upper };
-        }
-        let walker = Walker { routine, rows, zero, declared, known: declared, named_by, changed: 0 };
-        (walker, FastFacts::new(pointers, integers))
-    }
-
-    fn row(&self, v: Var) -> usize {
-        usize::from(self.rows[usize::from(v & 15)])
-    }
-
-    /// The sides of a condition as rows, and the constant on the right.
+impl Walker<'_> {
+    /// The sides of a condition as nodes, and the constant on the right.
     fn assume(&self, facts: &mut FastFacts, condition: Condition) {
-        let x = self.row(condition.left);
+        let x = self.bounds.node(condition.left);
         let (y, k) = match condition.right {
-            Right::Variable(v) => (self.row(v), 0),
-            Right::Literal(k) => (usize::from(self.zero), i64::from(k)),
+            Right::Variable(v) => (self.bounds.node(v), 0),
+            Right::Literal(k) => (self.bounds.zero(), i64::from(k)),
         };
         facts.assume(x, condition.relation, y, k);
     }
@@ -145,10 +43,14 @@ impl<'a> Walker<'a> {
                     let middle = s + 1 + then_count as usize;
                     let next = middle + else_count as usize;
                     let mut other = *facts;
+                    let head = self.bounds.in_force;
                     self.assume(facts, condition);
                     self.block(s + 1, middle, facts)?;
+                    let then = self.bounds.in_force;
+                    self.bounds.restore(&head);
                     self.assume(&mut other, condition.negated());
                     self.block(middle, next, &mut other)?;
+                    self.same_rows(s, &then)?;
                     facts.join(&other);
                     s = next;
                 }
@@ -157,8 +59,10 @@ impl<'a> Walker<'a> {
                     self.drop_assigned(s + 1, next, facts);
                     if count > 0 {
                         let mut body = *facts;
+                        let head = self.bounds.in_force;
                         self.assume(&mut body, condition);
                         self.block(s + 1, next, &mut body)?;
+                        self.same_rows(s, &head)?;
                     }
                     self.assume(facts, condition.negated());
                     s = next;
@@ -168,17 +72,25 @@ impl<'a> Walker<'a> {
                     for inner in s + 1..next {
                         self.bundled(inner, facts)?;
                     }
-                    self.settle(s, facts)?;
+                    self.bounds.settle(s, facts)?;
                     s = next;
                 }
                 simple => {
                     self.simple(simple, facts);
-                    self.settle(s, facts)?;
+                    self.bounds.settle(s, facts)?;
                     s += 1;
                 }
             }
         }
         Ok(())
+    }
+
+    /// 13: other rows are in force here than there.
+    fn same_rows(&self, place: usize, there: &InForce) -> CheckAnswer {
+        match self.bounds.in_force == *there {
+            true => Ok(()),
+            false => Err(Refusal::at(13, place)),
+        }
     }
 
     /// Variables assigned in the body are dropped first.
@@ -192,163 +104,97 @@ impl<'a> Walker<'a> {
         }
     }
 
-    /// 9, then the statement.
+    /// 9, then the statement, then a kind 14's 8.
     fn bundled(&mut self, s: usize, facts: &mut FastFacts) -> CheckAnswer {
         let statement = self.routine.statements[s];
         if let Statement::Load { p, .. } | Statement::Store { p, .. } = statement {
-            if self.changed & 1 << p != 0 && !self.shown(usize::from(p), facts) {
+            if !self.bounds.shown(p, facts) {
                 return Err(Refusal::at(9, s));
             }
         }
         self.simple(statement, facts);
-        Ok(())
-    }
-
-    fn shown(&self, p: usize, facts: &FastFacts) -> bool {
-        let (known, declared) = (&self.known[p], &self.declared[p]);
-        below(facts, &known.lower, &declared.lower) && below(facts, &declared.upper, &known.upper)
-            || facts.shows(self.row(p as Var), usize::from(self.zero), 0)
-    }
-
-    /// All declared bounds must be shown and become the known ones.
-    #[inline]
-    fn settle(&mut self, place: usize, facts: &FastFacts) -> CheckAnswer {
-        if self.changed == 0 {
-            return Ok(());
+        match statement {
+            Statement::Declare { p, .. } if !self.bounds.shown(p, facts) => Err(Refusal::bounds(s, p)),
+            _ => Ok(()),
         }
-        // The lowest first: it is the one to name.
-        for p in bits(self.changed) {
-            if !self.shown(p, facts) {
-                return Err(Refusal::bounds(place, p as Var));
-            }
-            self.known[p] = self.declared[p];
-        }
-        self.changed = 0;
-        Ok(())
     }
 
     fn drop(&self, x: Var, facts: &mut FastFacts) {
-        if self.rows[usize::from(x)] != NO_ROW {
-            facts.drop(self.row(x));
+        if let Some(node) = self.bounds.used_node(x) {
+            facts.drop(node);
         }
     }
 
-    /// Every end that names v becomes unknown.
-    fn forget(&mut self, v: Var) {
-        let row = self.rows[usize::from(v)];
-        let zero = self.zero;
-        let touched = self.named_by[usize::from(v)] | self.changed;
-        for p in bits(touched) {
-            let known = &mut self.known[p];
-            if known.lower.pointer == row || known.lower.integer == row {
-                known.lower = Known { pointer: zero, integer: zero, constant: UNKNOWN };
-            }
-            if known.upper.pointer == row || known.upper.integer == row {
-                known.upper = Known { pointer: zero, integer: zero, constant: -UNKNOWN };
-            }
-        }
-        self.changed = touched;
-    }
-
-    /// v := v + k: replace v by v - k in every end that names it.
-    fn invert(&mut self, v: Var, k: i64) {
-        let row = self.rows[usize::from(v)];
-        let touched = self.named_by[usize::from(v)] | self.changed;
-        for p in bits(touched) {
-            let known = &mut self.known[p];
-            for end in [&mut known.lower, &mut known.upper] {
-                if end.pointer == row || end.integer == row {
-                    end.constant -= k;
-                }
-            }
-        }
-        self.changed = touched;
-    }
-
-    /// Kinds 6 and 7 to another pointer first copy the known bounds of q.
-    fn copy_bounds(&mut self, p: Var, q: Var) {
-        self.known[usize::from(p)] = self.known[usize::from(q)];
-        self.changed |= 1 << p;
-        self.forget(p);
-    }
-
-    /// Facts and bounds of kinds 1 to 10.
+    /// Facts and bounds of kinds 1 to 10 and 14.
     #[inline]
     fn simple(&mut self, statement: Statement, facts: &mut FastFacts) {
         match statement {
             Statement::Literal { x, literal } => {
-                self.forget(x);
-                if self.rows[usize::from(x)] != NO_ROW {
-                    let value = i64::from(literal);
-                    facts.renew(self.row(x), value, value);
+                self.bounds.forget(x);
+                if let Some(node) = self.bounds.used_node(x) {
+                    facts.renew(node, i64::from(literal), i64::from(literal));
                 }
             }
             Statement::AddConstant { x, y, k } => self.add_constant(x, y, i64::from(k), facts),
             Statement::Operate { x, .. } | Statement::Load { x, .. } => {
-                self.forget(x);
+                self.bounds.forget(x);
                 self.drop(x, facts);
             }
             Statement::Null { p } => {
-                self.forget(p);
-                facts.renew(self.row(p), 0, 0);
+                self.bounds.forget(p);
+                facts.renew(self.bounds.node(p), 0, 0);
             }
             Statement::Address { p, object } => {
-                self.forget(p);
-                let (pointer, integer) = (self.rows[usize::from(p)], self.zero);
-                let length = i64::from(self.routine.objects[usize::from(object)]);
-                self.known[usize::from(p)] = KnownBounds {
-                    lower: Known { pointer, integer, constant: 0 },
-                    upper: Known { pointer, integer, constant: length },
-                };
-                self.changed |= 1 << p;
-                facts.renew(self.row(p), 1, GREATEST);
+                self.bounds.set_object(p, self.routine.objects[usize::from(object)]);
+                facts.renew(self.bounds.node(p), 1, GREATEST);
             }
             Statement::MovePointer { p, q, k } => {
                 let by = i64::from(k);
-                let row = self.row(p);
+                let node = self.bounds.node(p);
                 if p == q {
                     if k == 0 {
                         return;
                     }
-                    self.invert(p, by);
-                    facts.shift(row, by);
+                    self.bounds.invert(p, by);
+                    facts.shift(node, by);
                 } else {
-                    self.copy_bounds(p, q);
-                    facts.copy(row, self.row(q), by);
+                    self.bounds.copy(p, q);
+                    facts.copy(node, self.bounds.node(q), by);
                 }
                 if k != 0 {
-                    facts.add(usize::from(self.zero), row, -1);
+                    facts.add(self.bounds.zero(), node, -1);
                 }
             }
             Statement::IndexPointer { p, q, .. } => {
                 if p == q {
-                    self.forget(p);
+                    self.bounds.forget(p);
                 } else {
-                    self.copy_bounds(p, q);
+                    self.bounds.copy(p, q);
                 }
-                facts.renew(self.row(p), 1, GREATEST);
+                facts.renew(self.bounds.node(p), 1, GREATEST);
             }
             Statement::Check { condition } => self.assume(facts, condition),
+            Statement::Declare { p, row } => self.bounds.declare(p, row),
             _ => {}
         }
     }
 
     fn add_constant(&mut self, x: Var, y: Var, k: i64, facts: &mut FastFacts) {
-        let (row, zero) = (self.row(y), usize::from(self.zero));
-        let in_range = facts.shows(zero, row, k) && facts.shows(row, zero, GREATEST - k);
+        let (node, zero) = (self.bounds.node(y), self.bounds.zero());
+        let in_range = facts.shows(zero, node, k) && facts.shows(node, zero, GREATEST - k);
         match (in_range, x == y) {
             (true, true) => {
-                self.invert(x, k);
-                facts.shift(row, k);
+                self.bounds.invert(x, k);
+                facts.shift(node, k);
             }
             (true, false) => {
-                self.forget(x);
-                if self.rows[usize::from(x)] != NO_ROW {
-                    facts.copy(self.row(x), row, k);
+                self.bounds.forget(x);
+                if let Some(target) = self.bounds.used_node(x) {
+                    facts.copy(target, node, k);
                 }
             }
             (false, _) => {
-                self.forget(x);
+                self.bounds.forget(x);
                 self.drop(x, facts);
             }
         }

@@ -1,6 +1,7 @@
 //! The translation for the fast interpreter: instructions that know where the
 //! run goes on, over slots of values.
 
+use crate::fast_bounds::{declared, InForce, AT_ENTRY};
 use oracle::table::{Bounds, Condition, End, Operator, Right, Routine, Statement, Var};
 
 /// A value slot: 0 to 15 the variables, `NOTHING` always 0. There is one for
@@ -66,18 +67,20 @@ pub enum Op {
         k: i32,
         near: Near,
     },
-    /// An access through any other pointer; its ends stand in the table of ends.
+    /// An access through any other pointer, with its place in the table of ends.
     Load {
         x: Slot,
         p: Slot,
         i: Slot,
         k: i32,
+        ends: u16,
     },
     Store {
         x: Slot,
         p: Slot,
         i: Slot,
         k: i32,
+        ends: u16,
     },
     /// A dynamic check: goes on at `next`, or stops.
     CheckVariable {
@@ -103,7 +106,7 @@ pub enum Op {
         other: u16,
         literal: u32,
     },
-    /// The head of a bundle.
+    /// The head of a bundle, and kind 14: a step that changes nothing here.
     Enter,
     /// Nothing is due.
     Done,
@@ -125,7 +128,7 @@ pub struct Instruction {
     pub next: u16,
 }
 
-#[derive(Clone, Copy, Default)]
+#[derive(Clone, Copy)]
 pub struct FlatEnd {
     pub pointer: Slot,
     pub integer: Slot,
@@ -134,7 +137,7 @@ pub struct FlatEnd {
 
 pub struct Code {
     pub instructions: Vec<Instruction>,
-    pub ends: [(FlatEnd, FlatEnd); 16],
+    pub ends: Vec<(FlatEnd, FlatEnd)>,
 }
 
 fn slot(variable: Option<Var>) -> Slot {
@@ -146,59 +149,108 @@ fn flat(end: End) -> FlatEnd {
 }
 
 /// Both ends at p itself, the lower one without an integer: as in count(n).
-fn near(p: Var, bounds: Bounds) -> Option<Near> {
+fn near(p: Var, bounds: &Bounds) -> Option<Near> {
     let Bounds { lower, upper } = bounds;
     let at_itself = lower.pointer == p && upper.pointer == p && lower.integer.is_none();
     at_itself.then_some(Near { count: slot(upper.integer), low: lower.constant, high: upper.constant })
 }
 
+/// Of an accepted routine.
 pub fn translate(routine: &Routine, directory: &[u32]) -> Code {
     let end = routine.statements.len();
-    let mut code =
-        Code { instructions: vec![Instruction { op: Op::Done, next: 0 }; end + 1], ends: Default::default() };
-    for (p, bounds) in routine.bounds.iter().enumerate() {
-        if let Some(bounds) = bounds {
-            code.ends[p] = (flat(bounds.lower), flat(bounds.upper));
-        }
-    }
-    translate_block(routine, directory, &mut code, 0, end, end);
-    code
+    let instructions = vec![Instruction { op: Op::Done, next: 0 }; end + 1];
+    let code = Code { instructions, ends: Vec::new() };
+    let mut translator = Translator { routine, directory, in_force: AT_ENTRY, code };
+    translator.block(0, end, end);
+    translator.code
 }
 
-/// Translates a block; its last statement goes on at `after`.
-fn translate_block(
-    routine: &Routine,
-    directory: &[u32],
-    code: &mut Code,
-    start: usize,
-    end: usize,
-    after: usize,
-) {
-    let mut s = start;
-    while s < end {
-        let statement = routine.statements[s];
-        let next = s + statement.size();
-        let follow = if next < end { next } else { after };
-        let first = |from: usize, to: usize, otherwise: usize| if from < to { from } else { otherwise };
-        let (op, next_due) = match statement {
-            Statement::If { condition, then_count, .. } => {
-                let middle = s + 1 + then_count as usize;
-                translate_block(routine, directory, code, s + 1, middle, follow);
-                translate_block(routine, directory, code, middle, next, follow);
-                (branch(condition, first(middle, next, follow)), first(s + 1, middle, follow))
+/// Where a routine is accepted, the row in force at a statement is the same by every way to it (13): so each access
+/// is translated with its ends, and a kind 14 has nothing left to do.
+struct Translator<'a> {
+    routine: &'a Routine,
+    directory: &'a [u32],
+    in_force: InForce,
+    code: Code,
+}
+
+impl Translator<'_> {
+    /// Translates a block; its last statement goes on at `after`.
+    fn block(&mut self, start: usize, end: usize, after: usize) {
+        let mut s = start;
+        while s < end {
+            let statement = self.routine.statements[s];
+            let next = s + statement.size();
+            let follow = if next < end { next } else { after };
+            let first = |from: usize, to: usize, otherwise: usize| if from < to { from } else { otherwise };
+            let (op, next_due) = match statement {
+                Statement::If { condition, then_count, .. } => {
+                    let middle = s + 1 + then_count as usize;
+                    let head = self.in_force;
+                    self.block(s + 1, middle, follow);
+                    self.in_force = head;
+                    self.block(middle, next, follow);
+                    (branch(condition, first(middle, next, follow)), first(s + 1, middle, follow))
+                }
+                Statement::While { condition, .. } => {
+                    self.block(s + 1, next, s);
+                    (branch(condition, follow), first(s + 1, next, s))
+                }
+                Statement::Bundle { .. } => {
+                    self.block(s + 1, next, follow);
+                    (Op::Enter, s + 1)
+                }
+                simple => (self.simple(simple), follow),
+            };
+            self.code.instructions[s] = Instruction { op, next: next_due as u16 };
+            s = next;
+        }
+    }
+
+    /// The bounds of an access through p: near ones, or their place in the table of ends.
+    fn bounds(&mut self, p: Var) -> Result<Near, u16> {
+        let bounds = declared(self.routine, usize::from(p), self.in_force[usize::from(p)]);
+        near(p, bounds).ok_or_else(|| {
+            self.code.ends.push((flat(bounds.lower), flat(bounds.upper)));
+            self.code.ends.len() as u16 - 1
+        })
+    }
+
+    fn simple(&mut self, statement: Statement) -> Op {
+        match statement {
+            Statement::Literal { x, literal } => Op::Set { x, value: literal },
+            Statement::AddConstant { x, y, k } => Op::AddConstant { x, y, k: k as u32 },
+            Statement::Operate { x, y, z, operator: Operator::Add } => Op::Add { x, y, z },
+            Statement::Operate { x, y, z, operator: Operator::Subtract } => Op::Subtract { x, y, z },
+            Statement::Operate { x, y, z, operator: Operator::Multiply } => Op::Multiply { x, y, z },
+            Statement::Null { p } => Op::Set { x: p, value: 0 },
+            Statement::Address { p, object } => {
+                Op::Set { x: p, value: self.directory[2 * usize::from(object)] }
             }
-            Statement::While { condition, .. } => {
-                translate_block(routine, directory, code, s + 1, next, s);
-                (branch(condition, follow), first(s + 1, next, s))
+            Statement::MovePointer { p, q, k: 0 } => Op::AddConstant { x: p, y: q, k: 0 },
+            Statement::MovePointer { p, q, k } => Op::MovePointer { p, q, k },
+            Statement::IndexPointer { p, q, i } => Op::IndexPointer { p, q, i },
+            Statement::Load { x, p, i, k } => match self.bounds(p) {
+                Ok(near) => Op::LoadNear { x, p, i: slot(i), k, near },
+                Err(ends) => Op::Load { x, p, i: slot(i), k, ends },
+            },
+            Statement::Store { p, i, k, x } => match self.bounds(p) {
+                Ok(near) => Op::StoreNear { x, p, i: slot(i), k, near },
+                Err(ends) => Op::Store { x, p, i: slot(i), k, ends },
+            },
+            Statement::Check { condition } => {
+                let (x, satisfied) = (condition.left, SATISFIED[condition.relation as usize]);
+                match condition.right {
+                    Right::Variable(y) => Op::CheckVariable { x, y, satisfied },
+                    Right::Literal(literal) => Op::CheckLiteral { x, satisfied, literal },
+                }
             }
-            Statement::Bundle { .. } => {
-                translate_block(routine, directory, code, s + 1, next, follow);
-                (Op::Enter, s + 1)
+            Statement::Declare { p, row } => {
+                self.in_force[usize::from(p)] = row;
+                Op::Enter
             }
-            simple => (translate_simple(routine, directory, simple), follow),
-        };
-        code.instructions[s] = Instruction { op, next: next_due as u16 };
-        s = next;
+            Statement::If { .. } | Statement::While { .. } | Statement::Bundle { .. } => Op::Enter,
+        }
     }
 }
 
@@ -207,38 +259,6 @@ fn branch(condition: Condition, other: usize) -> Op {
     match condition.right {
         Right::Variable(y) => Op::BranchVariable { x, y, satisfied, other },
         Right::Literal(literal) => Op::BranchLiteral { x, satisfied, other, literal },
-    }
-}
-
-fn translate_simple(routine: &Routine, directory: &[u32], statement: Statement) -> Op {
-    let near_of = |p: Var| routine.bounds[usize::from(p)].and_then(|bounds| near(p, bounds));
-    match statement {
-        Statement::Literal { x, literal } => Op::Set { x, value: literal },
-        Statement::AddConstant { x, y, k } => Op::AddConstant { x, y, k: k as u32 },
-        Statement::Operate { x, y, z, operator: Operator::Add } => Op::Add { x, y, z },
-        Statement::Operate { x, y, z, operator: Operator::Subtract } => Op::Subtract { x, y, z },
-        Statement::Operate { x, y, z, operator: Operator::Multiply } => Op::Multiply { x, y, z },
-        Statement::Null { p } => Op::Set { x: p, value: 0 },
-        Statement::Address { p, object } => Op::Set { x: p, value: directory[2 * usize::from(object)] },
-        Statement::MovePointer { p, q, k: 0 } => Op::AddConstant { x: p, y: q, k: 0 },
-        Statement::MovePointer { p, q, k } => Op::MovePointer { p, q, k },
-        Statement::IndexPointer { p, q, i } => Op::IndexPointer { p, q, i },
-        Statement::Load { x, p, i, k } => match near_of(p) {
-            Some(near) => Op::LoadNear { x, p, i: slot(i), k, near },
-            None => Op::Load { x, p, i: slot(i), k },
-        },
-        Statement::Store { p, i, k, x } => match near_of(p) {
-            Some(near) => Op::StoreNear { x, p, i: slot(i), k, near },
-            None => Op::Store { x, p, i: slot(i), k },
-        },
-        Statement::Check { condition } => {
-            let (x, satisfied) = (condition.left, SATISFIED[condition.relation as usize]);
-            match condition.right {
-                Right::Variable(y) => Op::CheckVariable { x, y, satisfied },
-                Right::Literal(literal) => Op::CheckLiteral { x, satisfied, literal },
-            }
-        }
-        Statement::If { .. } | Statement::While { .. } | Statement::Bundle { .. } => Op::Enter,
     }
 }
 

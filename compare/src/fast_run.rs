@@ -73,13 +73,13 @@ impl Values {
 
     /// Checks 2 and 3 by the declared ends; the address.
     #[inline(always)]
-    fn access(&self, p: Slot, i: Slot, k: i32, ends: &[(FlatEnd, FlatEnd); 16]) -> Result<i64, Check> {
+    fn access(&self, p: Slot, i: Slot, k: i32, ends: &(FlatEnd, FlatEnd)) -> Result<i64, Check> {
         let pointer = self.wide(p);
         if pointer == 0 {
             return Err(Check::NullAccess);
         }
         let address = pointer + self.wide(i) + i64::from(k);
-        let (lower, upper) = &ends[usize::from(p) % 16];
+        let (lower, upper) = ends;
         if address < self.end(lower) || address >= self.end(upper) {
             return Err(Check::OutOfBounds);
         }
@@ -154,14 +154,14 @@ fn run_loop(code: &Code, cells: &mut [u32], values: &mut Values, allowance: u32)
                 },
                 Err(check) => break Some(check),
             },
-            Op::Load { x, p, i, k } => match values.access(p, i, k, &code.ends) {
+            Op::Load { x, p, i, k, ends } => match values.access(p, i, k, &code.ends[usize::from(ends)]) {
                 Ok(address) => match cells.get(address as usize) {
                     Some(&cell) => values.set(x, cell),
                     None => break None,
                 },
                 Err(check) => break Some(check),
             },
-            Op::Store { x, p, i, k } => match values.access(p, i, k, &code.ends) {
+            Op::Store { x, p, i, k, ends } => match values.access(p, i, k, &code.ends[usize::from(ends)]) {
                 Ok(address) => match cells.get_mut(address as usize) {
                     Some(cell) => *cell = values.get(x),
                     None => break None,

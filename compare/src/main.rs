@@ -3,6 +3,7 @@
 
 mod bench;
 mod differ;
+mod fast_bounds;
 mod fast_check;
 mod fast_code;
 mod fast_facts;
@@ -25,7 +26,7 @@ const USAGE: &str = "usage: compare vectors DIR
        compare stats SEED COUNT
        compare differ SEED COUNT [FIRST]
        compare show SEED NUMBER
-       compare bench [check|run]
+       compare bench [check|run|rows]
        compare stack [KIB]";
 
 fn main() -> ExitCode {
@@ -40,6 +41,7 @@ fn main() -> ExitCode {
         ["bench"] => {
             bench::check();
             bench::run();
+            bench::rows();
             Ok(true)
         }
         ["bench", "check"] => {
@@ -50,10 +52,20 @@ fn main() -> ExitCode {
             bench::run();
             Ok(true)
         }
-        ["stack"] => {
-            println!("{} KiB of stack are enough for a check and a run of the deepest table", stack::least());
+        ["bench", "rows"] => {
+            bench::rows();
             Ok(true)
         }
+        ["stack"] => Ok(match stack::least() {
+            Some(kib) => {
+                println!("{kib} KiB of stack are enough for a check and a run of the deepest table");
+                true
+            }
+            None => {
+                println!("the proved implementation does not run the deepest tables to their end");
+                false
+            }
+        }),
         ["stack", kib] => number(kib).map(|kib| stack::probe(kib as usize)).map(|()| true),
         _ => Err(USAGE.to_string()),
     };

@@ -80,7 +80,7 @@ mod tests {
             vec![load(2, 0, -1, 1), dynamic_check(with_literal(2, EQUAL, 1)), load(2, 0, 1, 0)],
         ];
         let variables = vec![[1, 0, 0, -1, 0, 0, 1, 0], [0; 8], [0; 8]];
-        let table = Draft { objects: vec![3, 2], variables, statements: statements.concat() };
+        let table = Draft { objects: vec![3, 2], variables, statements: statements.concat(), rows: None };
         let input = RunInput {
             directory: vec![2, 3, 5, 2],
             cells: vec![0, 0, 10, 11, 12, 5_550_123, 5_550_124, 0],

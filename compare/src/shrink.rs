@@ -9,10 +9,14 @@ const TRIALS: usize = 50_000;
 /// The smallest case found for which `keeps` is true, as it is for `case`.
 pub fn shrink(case: &Case, keeps: &mut dyn FnMut(&Case) -> bool) -> Case {
     let mut shrinker = Shrinker { best: case.clone(), keeps, trials: TRIALS };
+    // First of all: a smaller table may go on until its allowance is used.
+    shrinker.halve_allowance();
     loop {
         let before = shrinker.best.clone();
+        shrinker.cut();
         shrinker.statements();
         shrinker.names();
+        shrinker.rows();
         shrinker.words();
         shrinker.input();
         if shrinker.best == before || shrinker.trials == 0 {
@@ -47,6 +51,27 @@ impl Shrinker<'_> {
 
     fn draft(&self) -> Option<Draft> {
         Draft::from_words(&self.best.table)
+    }
+
+    fn halve_allowance(&mut self) {
+        let mut taken = true;
+        while taken {
+            let mut smaller = self.best.clone();
+            smaller.input.allowance /= 2;
+            taken = self.offer(smaller);
+        }
+    }
+
+    /// Cuts statements off at the end, by halves: a long table has most of them for nothing.
+    fn cut(&mut self) {
+        let count = |draft: Option<Draft>| draft.map_or(0, |draft| draft.statements.len());
+        let mut cut = count(self.draft()) / 2;
+        while cut > 0 {
+            let Some(mut smaller) = self.draft() else { return };
+            smaller.statements.truncate(smaller.statements.len() - cut);
+            let taken = self.offer_table(smaller.words());
+            cut = if taken { cut.min(count(self.draft())) } else { cut / 2 };
+        }
     }
 
     /// Drops statements, with their blocks or the head alone.
@@ -93,9 +118,23 @@ impl Shrinker<'_> {
         }
     }
 
-    /// Sets words to smaller ones.
+    /// Drops rows that nothing names, and the section of rows once it is empty.
+    fn rows(&mut self) {
+        let count = self.draft().and_then(|draft| draft.rows).map_or(0, |rows| rows.len());
+        for row in (0..count).rev() {
+            if let Some(smaller) = self.draft().and_then(|draft| without_row(draft, row)) {
+                self.offer_table(smaller.words());
+            }
+        }
+        if let Some(draft) = self.draft() {
+            let rows = draft.rows.filter(|rows| !rows.is_empty());
+            self.offer_table(Draft { rows, ..draft }.words());
+        }
+    }
+
+    /// Sets words behind a right directory, or any, to smaller ones.
     fn words(&mut self) {
-        let first = if self.draft().is_some() { 6 } else { 0 };
+        let first = if self.draft().is_some() { self.best.table[0] as usize } else { 0 };
         for place in first..self.best.table.len() {
             for smaller in smaller_words(self.best.table[place].into()) {
                 let mut table = self.best.table.clone();
@@ -165,6 +204,7 @@ fn named(record: &Record) -> &'static [usize] {
         (9, _) => &[1, 2, 4],
         (10..=12, 0) => &[1, 4],
         (10..=12, _) => &[1],
+        (14, _) => &[1],
         _ => &[],
     }
 }
@@ -177,15 +217,28 @@ fn without_variable(mut draft: Draft, v: usize) -> Option<Draft> {
         *word -= i32::from(*word > v as i32);
         free
     };
-    let ends = draft.variables.iter_mut().filter(|record| record[0] == 1);
+    let own = draft.variables.iter_mut().filter(|record| record[0] == 1).map(|record| &mut record[2..]);
+    let rows = draft.rows.iter_mut().flatten().map(|row| &mut row[..]);
     let ends_free =
-        ends.flat_map(|record| [2, 3, 5, 6].map(|field| rename(&mut record[field]))).all(|free| free);
+        own.chain(rows).flat_map(|ends| [0, 1, 3, 4].map(|field| rename(&mut ends[field]))).all(|free| free);
     let statements_free = draft
         .statements
         .iter_mut()
         .flat_map(|record| named(record).iter().map(|&field| rename(&mut record[field])).collect::<Vec<_>>())
         .all(|free| free);
     (ends_free && statements_free && !draft.variables.is_empty()).then_some(draft)
+}
+
+/// The draft without a row, if no kind 14 names it.
+fn without_row(mut draft: Draft, row: usize) -> Option<Draft> {
+    draft.rows.as_mut()?.remove(row);
+    for record in draft.statements.iter_mut().filter(|record| record[0] == 14) {
+        if record[2] == row as i32 {
+            return None;
+        }
+        record[2] -= i32::from(record[2] > row as i32);
+    }
+    Some(draft)
 }
 
 #[cfg(test)]
@@ -210,6 +263,23 @@ mod tests {
             }
         }
         assert_eq!(seen, 8);
+    }
+
+    #[test]
+    fn rows_that_nothing_names_go() {
+        let is_thirteen = |c: &Case| matches!(checker::check(&c.table), Err(r) if r.cause == 13);
+        for found in (0..).map(|n| case(8, n)).filter(is_thirteen).take(8) {
+            let small = shrink(&found, &mut |c| is_thirteen(c));
+            let draft = Draft::from_words(&small.table).unwrap();
+            // A head and a kind 14 for one pointer: one row is enough.
+            assert_eq!(draft.rows.map(|rows| rows.len()), Some(1), "{:?}", small.table);
+            assert_eq!(draft.statements.len(), 2, "{:?}", small.table);
+        }
+        let unused = (0..).map(|n| case(8, n)).find(|c| c.table.first() == Some(&8)).unwrap();
+        let small = shrink(&unused, &mut |c| checker::check(&c.table) == checker::check(&[]));
+        assert_eq!(small.table[0], 8, "kept where the predicate is false of it");
+        let small = shrink(&unused, &mut |_| true);
+        assert_ne!(small.table[0], 8);
     }
 
     #[test]

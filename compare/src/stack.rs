@@ -1,5 +1,5 @@
 //! The stack that the proved check and run take: the least stack of a thread on which both come through the deepest
-//! accepted table. A thread whose stack is too small ends its process, so that each size is tried in a process of its own.
+//! accepted tables. A thread whose stack is too small ends its process, so that each size is tried in a process of its own.
 
 use crate::linked::Proved;
 use crate::proved::Implementation;
@@ -11,31 +11,45 @@ use std::thread;
 
 const KIB: usize = 1024;
 
-/// p (0, count(n)) and n; ifs within ifs to the greatest depth, and there a bundle.
-fn deepest() -> Vec<i32> {
-    let step = bundle(vec![move_pointer(0, 0, 1), add_constant(1, 1, -1)]);
-    let inner = [vec![dynamic_check(with_literal(1, GREATER, 0))], step].concat();
-    let statements = (0..MAX_DEPTH).fold(inner, |inner, _| if_else(with_literal(1, GREATER, 0), inner, vec![]));
+/// p (0, count(n)) and n; ifs within ifs to the greatest depth, and there a bundle: without rows, and with one that
+/// the bundle puts in force on both sides of each if.
+fn deepest() -> [Draft; 2] {
+    let condition = with_literal(1, GREATER, 0);
+    let step = [move_pointer(0, 0, 1), add_constant(1, 1, -1)];
+    let inner =
+        |more: Vec<Record>| [vec![dynamic_check(condition)], bundle([&step[..], &more].concat())].concat();
+    let nest = |inner: Vec<Record>, beside: Vec<Record>| {
+        (0..MAX_DEPTH).fold(inner, |inner, _| if_else(condition, inner, beside.clone()))
+    };
     let variables = vec![[1, 0, 0, -1, 0, 0, 1, 0], [0; 8]];
-    Draft { objects: vec![3], variables, statements }.words()
+    let plain = Draft { objects: vec![3], variables, statements: nest(inner(vec![]), vec![]), rows: None };
+    let row = declare(0, 0);
+    let statements = nest(inner(vec![row]), bundle(vec![row]));
+    let with_rows = Draft { statements, rows: Some(vec![[0, -1, 0, 0, 1, 0]]), ..plain.clone() };
+    [plain, with_rows]
 }
 
-/// Both calls on a thread with a stack of so many KiB.
+fn input() -> RunInput {
+    RunInput {
+        directory: vec![1, 3],
+        cells: vec![0; 4],
+        values: vec![1, 3],
+        origins: vec![1, 0],
+        allowance: 100,
+    }
+}
+
+/// Both calls for each table on a thread with a stack of so many KiB.
 pub fn probe(kib: usize) {
     let calls = || {
-        let table = deepest();
-        let mut input = RunInput {
-            directory: vec![1, 3],
-            cells: vec![0; 4],
-            values: vec![1, 3],
-            origins: vec![1, 0],
-            allowance: 100,
-        };
-        (Proved.check(&table), Proved.run(&table, &mut input))
+        deepest().map(|table| {
+            let table = table.words();
+            (Proved.check(&table)[0], Proved.run(&table, &mut input())[0])
+        })
     };
     let thread = thread::Builder::new().stack_size(kib * KIB).spawn(calls).expect("a thread");
-    let (check, run) = thread.join().expect("both calls return");
-    assert_eq!((check[0], run[0]), (0, 0), "accepted and done");
+    let answers = thread.join().expect("all calls return");
+    assert_eq!(answers, [(0, 0); 2], "accepted and done");
 }
 
 fn survives(kib: usize) -> bool {
@@ -45,9 +59,12 @@ fn survives(kib: usize) -> bool {
     child.status().is_ok_and(|status| status.success())
 }
 
-/// The least stack, to the KiB, with what the thread itself takes.
-pub fn least() -> usize {
+/// The least stack, to the KiB, with what the thread itself takes; `None` where no stack helps.
+pub fn least() -> Option<usize> {
     let (mut too_small, mut enough) = (16, 1024);
+    if !survives(enough) {
+        return None;
+    }
     while enough - too_small > 1 {
         let middle = (too_small + enough) / 2;
         if survives(middle) {
@@ -56,5 +73,20 @@ pub fn least() -> usize {
             too_small = middle;
         }
     }
-    enough
+    Some(enough)
+}
+
+#[cfg(test)]
+mod tests {
+    use super::*;
+    use oracle::machine;
+
+    #[test]
+    fn the_deepest_tables_run_to_their_end() {
+        for table in deepest() {
+            let depth = table.statements.iter().filter(|record| record[0] == 11).count();
+            let answer = machine::run(&table.words(), &mut input()).to_string();
+            assert!(depth == MAX_DEPTH && answer.starts_with("done"), "{depth} {answer}");
+        }
+    }
 }

@@ -2,7 +2,7 @@
 
 use crate::generate::case;
 use crate::{fast_check, fast_run};
-use oracle::answer::{CheckAnswer, RunAnswer, RunInput};
+use oracle::answer::{CheckAnswer, Refusal, RunAnswer, RunInput};
 use oracle::reach::reachable;
 use oracle::table::{decode, Routine, Statement};
 use oracle::{checker, machine};
@@ -20,6 +20,9 @@ pub struct Stats {
     /// an if, a while, a bundle.
     statements: u64,
     heads: [u64; 3],
+    /// Accepted tables with a kind 14, with one in an if, in a while, in a bundle; refusals 13 at an if, at a while.
+    declared: [u64; 4],
+    unlike_rows: [u64; 2],
     /// Accepted tables with a statement whose facts contradict, and with such facts at the end.
     dead: u64,
     dead_at_end: u64,
@@ -61,12 +64,19 @@ pub fn gather(seed: u64, count: u64) -> Stats {
         if !same || stuck {
             stats.differences.push(format!("case {seed} {number}: plain {answer}"));
         }
-        if let (Ok(()), Ok(routine)) = (&checked, decode(&case.table)) {
-            stats.accepted += 1;
-            stats.count_statements(&routine);
-            if !matches!(answer, RunAnswer::Refused(_)) {
-                stats.count_out_of_reach(&routine, &case.input);
+        match (checked, decode(&case.table)) {
+            (Ok(()), Ok(routine)) => {
+                stats.accepted += 1;
+                stats.count_statements(&routine);
+                if !matches!(answer, RunAnswer::Refused(_)) {
+                    stats.count_out_of_reach(&routine, &case.input);
+                }
             }
+            (Err(Refusal { cause: 13, place, .. }), Ok(routine)) => {
+                let head = routine.statements[place as usize];
+                stats.unlike_rows[usize::from(matches!(head, Statement::While { .. }))] += 1;
+            }
+            _ => {}
         }
         if let RunAnswer::Done { steps } | RunAnswer::Spent { steps, .. } | RunAnswer::Stopped { steps, .. } =
             answer
@@ -91,6 +101,23 @@ impl Stats {
         self.heads[0] += has(|s| matches!(s, Statement::If { .. }));
         self.heads[1] += has(|s| matches!(s, Statement::While { .. }));
         self.heads[2] += has(|s| matches!(s, Statement::Bundle { .. }));
+        self.count_declarations(statements);
+    }
+
+    fn count_declarations(&mut self, statements: &[Statement]) {
+        let declares = |part: &[Statement]| part.iter().any(|s| matches!(s, Statement::Declare { .. }));
+        let mut found = [declares(statements), false, false, false];
+        for (s, statement) in statements.iter().enumerate() {
+            let kind = match statement {
+                Statement::If { .. } => 1,
+                Statement::While { .. } => 2,
+                _ => 3,
+            };
+            found[kind] |= declares(&statements[s + 1..s + statement.size()]);
+        }
+        for (count, found) in self.declared.iter_mut().zip(found) {
+            *count += u64::from(found);
+        }
     }
 
     fn count_out_of_reach(&mut self, routine: &Routine, input: &RunInput) {
@@ -119,6 +146,13 @@ impl std::fmt::Display for Stats {
              {bundles} with a bundle, {} with dead code, {} dead at the end",
             self.dead, self.dead_at_end
         )?;
+        let [all, ifs, whiles, bundles] = self.declared;
+        let [at_ifs, at_whiles] = self.unlike_rows;
+        writeln!(
+            f,
+            "accepted tables with a kind 14: {all}, {ifs} in an if, {whiles} in a while, {bundles} in a bundle; \
+             refusals 13: {at_ifs} at an if, {at_whiles} at a while"
+        )?;
         let share = |part: u64| 100.0 * part as f64 / self.begun.max(1) as f64;
         writeln!(
             f,
@@ -139,9 +173,8 @@ impl std::fmt::Display for Stats {
 #[cfg(test)]
 mod tests {
     use super::*;
-    use oracle::answer::Refusal;
     use oracle::draft::Draft;
-    use oracle::table::MAX_DEPTH;
+    use oracle::table::{MAX_DEPTH, MAX_WORDS, MAX_WORDS_WITH_ROWS};
 
     /// The greatest depth of a statement in the block.
     fn depth(statements: &[Statement]) -> usize {
@@ -169,7 +202,7 @@ mod tests {
         assert!(stats.differences.is_empty(), "{:?}", stats.differences);
         let percent = 100 * stats.accepted / stats.cases;
         assert!((30..=60).contains(&percent), "{percent} percent accepted");
-        for cause in (1..=6).chain(8..=9) {
+        for cause in (1..=6).chain(8..=9).chain([13]) {
             assert!(stats.check.contains_key(&format!("refused {cause:2}")), "cause {cause}");
         }
         for class in ["done", "spent", "refused 10", "refused 11", "refused 12"] {
@@ -180,8 +213,28 @@ mod tests {
         }
         assert!(!stats.run.contains_key("STUCK"));
         assert!(5 * stats.dead > stats.accepted, "{stats}");
+        assert!(7 * stats.declared[0] > stats.accepted, "{stats}");
+        assert!(stats.declared.iter().all(|count| 30 * count > stats.accepted), "{stats}");
+        assert!(stats.unlike_rows.iter().all(|&count| count > 10), "{stats}");
         let [objects, cells] = stats.out_of_reach;
         assert!(3 * objects > stats.begun && 2 * cells > stats.begun, "{stats}");
+    }
+
+    #[test]
+    fn tables_are_as_long_as_the_limits_and_a_word_longer() {
+        let mut seen = BTreeMap::new();
+        for number in 0..12_000 {
+            let table = case(23, number).table;
+            let class = (table.first() == Some(&8), table.len(), check_class(&checker::check(&table)));
+            *seen.entry(class).or_insert(0) += 1;
+        }
+        for (rows, most) in [(false, MAX_WORDS), (true, MAX_WORDS_WITH_ROWS)] {
+            let accepted = seen.get(&(rows, most, "accepted".to_string()));
+            let longer = seen.get(&(rows, most + 1, "refused  1".to_string()));
+            assert!(accepted.is_some() && longer.is_some(), "{rows} {accepted:?} {longer:?}");
+        }
+        // With a first offset of 8 a table may be longer than one without rows.
+        assert!(seen.contains_key(&(true, MAX_WORDS + 1, "refused  2".to_string())));
     }
 
     #[test]

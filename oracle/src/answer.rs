@@ -3,12 +3,13 @@
 use crate::syntax::Var;
 use std::fmt;
 
-/// A refusal: its cause (1 to 12) and the place returned with it.
+/// A refusal: its cause and the place returned with it.
 #[derive(Clone, Copy, Debug, PartialEq, Eq)]
 pub struct Refusal {
     pub cause: u8,
     pub place: u32,
-    /// Cause 8 only (point 6): the lowest-numbered pointer whose declared bounds are not shown there.
+    /// Cause 8 only: the lowest-numbered pointer whose declared bounds are not shown there (point 6); for a kind
+    /// 14's row that statement's pointer.
     pub pointer: Option<Var>,
 }
 

@@ -1,32 +1,35 @@
-//! The checker in its plain form: bounds in force, the walk, refusals 8 and 9.
+//! The checker in its plain form: the walk, refusals 8, 9 and 13.
 
 use crate::answer::{CheckAnswer, Refusal};
-use crate::facts::{node_or_zero, Facts, Node, GREATEST, ZERO};
-use crate::table::{decode, Bounds, End, Routine, Statement, Var};
+pub use crate::bounds::{Known, KnownBounds, KnownEnd, Value};
+use crate::facts::{Facts, Node, GREATEST, ZERO};
+pub use crate::rows::Rows;
+use crate::table::{decode, Condition, Routine, Statement, Var};
 
-/// Causes 1 to 9 of a table.
+/// Causes 1 to 9 and 13 of a table.
 pub fn check(words: &[i32]) -> CheckAnswer {
     check_routine(&decode(words)?)
 }
 
-/// Causes 8 and 9 of a decoded routine.
+/// Causes 8, 9 and 13 of a decoded routine.
 pub fn check_routine(routine: &Routine) -> CheckAnswer {
     watch(routine, &mut ()).map(|_| ())
 }
 
 /// The walk over a decoded routine with somebody who looks on; gives the facts after it.
 pub fn watch(routine: &Routine, observer: &mut dyn Observer) -> Result<Facts, Refusal> {
-    let facts = Facts::new(&routine.kinds);
-    Walker { routine, observer }.block(0, routine.statements.len(), facts)
+    let state = State { facts: Facts::new(&routine.kinds), rows: Rows::at_entry(routine) };
+    let end = Walker { routine, observer }.block(0, routine.statements.len(), state)?;
+    Ok(end.facts)
 }
 
 /// Looks on while the walk goes, and changes nothing.
 pub trait Observer {
-    /// What is known before a statement.
-    fn before(&mut self, _statement: usize, _facts: &Facts, _known: &Known) {}
+    /// What is known before a statement, and the rows in force there.
+    fn before(&mut self, _statement: usize, _facts: &Facts, _rows: &Rows, _known: &Known) {}
 
     /// What is known after a statement with its blocks, when its declared bounds are asked for.
-    fn after(&mut self, _statement: usize, _facts: &Facts, _known: &Known) {}
+    fn after(&mut self, _statement: usize, _facts: &Facts, _rows: &Rows, _known: &Known) {}
 }
 
 /// Nobody looks on.
@@ -38,7 +41,7 @@ type Seen<'a> = &'a mut dyn FnMut(usize, &Facts);
 struct FactsBefore<'a>(Seen<'a>);
 
 impl Observer for FactsBefore<'_> {
-    fn before(&mut self, statement: usize, facts: &Facts, _: &Known) {
+    fn before(&mut self, statement: usize, facts: &Facts, _: &Rows, _: &Known) {
         (self.0)(statement, facts)
     }
 }
@@ -48,77 +51,17 @@ pub fn walk(routine: &Routine, seen: Seen) -> Result<Facts, Refusal> {
     watch(routine, &mut FactsBefore(seen))
 }
 
-/// A known end; its constant has no limit. `None` is an unknown end.
-#[derive(Clone, Copy, Debug, PartialEq, Eq)]
-pub struct Value {
-    pub pointer: Var,
-    pub integer: Option<Var>,
-    pub constant: i64,
+/// What is handed on from each statement to the next.
+#[derive(Clone)]
+struct State {
+    facts: Facts,
+    rows: Rows,
 }
 
-pub type KnownEnd = Option<Value>;
-
-#[derive(Clone, Copy, Debug, PartialEq, Eq)]
-pub struct KnownBounds {
-    pub lower: KnownEnd,
-    pub upper: KnownEnd,
-}
-
-fn value(end: End) -> Value {
-    Value { pointer: end.pointer, integer: end.integer, constant: i64::from(end.constant) }
-}
-
-fn declared(bounds: Bounds) -> KnownBounds {
-    KnownBounds { lower: Some(value(bounds.lower)), upper: Some(value(bounds.upper)) }
-}
-
-/// The bounds in force, of every variable; `None` for an integer.
-#[derive(Clone, Debug)]
-pub struct Known(Vec<Option<KnownBounds>>);
-
-impl Known {
-    pub fn of(&self, variable: usize) -> Option<KnownBounds> {
-        self.0[variable]
+impl State {
+    fn assume(self, condition: Condition) -> State {
+        State { facts: self.facts.assume(condition), ..self }
     }
-
-    fn declared(routine: &Routine) -> Known {
-        Known(routine.bounds.iter().map(|b| b.map(declared)).collect())
-    }
-
-    /// Assigning v: every end that names v gets the inverse where one exists
-    /// (v := v + k), otherwise that end is unknown.
-    fn assign(&mut self, v: Var, inverse: Option<i32>) {
-        let change = |end: KnownEnd| {
-            let end = end?;
-            if end.pointer != v && end.integer != Some(v) {
-                return Some(end);
-            }
-            inverse.map(|k| Value { constant: end.constant - i64::from(k), ..end })
-        };
-        for bounds in self.0.iter_mut().flatten() {
-            *bounds = KnownBounds { lower: change(bounds.lower), upper: change(bounds.upper) };
-        }
-    }
-
-    fn copy(&mut self, p: Var, q: Var) {
-        self.0[usize::from(p)] = self.0[usize::from(q)];
-    }
-
-    /// Kind 5 gives (p, p + length).
-    fn set_object(&mut self, p: Var, length: u32) {
-        let at = |constant| Some(Value { pointer: p, integer: None, constant });
-        self.0[usize::from(p)] = Some(KnownBounds { lower: at(0), upper: at(i64::from(length)) });
-    }
-}
-
-/// End a <= end b. An unknown end is below or above no end.
-fn end_below(facts: &Facts, a: KnownEnd, b: KnownEnd) -> bool {
-    let (Some(a), Some(b)) = (a, b) else {
-        return false;
-    };
-    let pointers = facts.sum(Node::from(a.pointer), Node::from(b.pointer));
-    let integers = facts.sum(node_or_zero(a.integer), node_or_zero(b.integer));
-    pointers + integers + a.constant <= b.constant
 }
 
 struct Walker<'a> {
@@ -127,22 +70,23 @@ struct Walker<'a> {
 }
 
 impl Walker<'_> {
-    /// Declared bounds of p are shown when p <= 0 is shown, or known lower <=
-    /// declared lower and declared upper <= known upper.
-    fn shown(&self, p: Var, facts: &Facts, known: &Known) -> bool {
-        let p = usize::from(p);
-        let (Some(bounds), Some(known)) = (self.routine.bounds[p], known.0[p]) else {
-            return true;
-        };
-        let declared = declared(bounds);
-        facts.shows(p, ZERO, 0)
-            || end_below(facts, known.lower, declared.lower) && end_below(facts, declared.upper, known.upper)
+    fn before(&mut self, s: usize, state: &State, known: &Known) {
+        self.observer.before(s, &state.facts, &state.rows, known);
+    }
+
+    fn after(&mut self, s: usize, state: &State, known: &Known) {
+        self.observer.after(s, &state.facts, &state.rows, known);
+    }
+
+    fn shown(&self, v: Var, state: &State, known: &Known) -> bool {
+        let declared = state.rows.declared(self.routine, v);
+        declared.is_none_or(|bounds| known.shows(bounds, v, &state.facts))
     }
 
     /// Point 6: "Refusal 8 gives the lowest-numbered one not shown."
-    fn all_shown(&self, place: usize, facts: &Facts, known: &Known) -> Result<(), Refusal> {
+    fn all_shown(&self, place: usize, state: &State, known: &Known) -> Result<(), Refusal> {
         let variables = 0..self.routine.kinds.len() as Var;
-        match variables.into_iter().find(|&v| !self.shown(v, facts, known)) {
+        match variables.into_iter().find(|&v| !self.shown(v, state, known)) {
             Some(p) => Err(Refusal::bounds(place, p)),
             None => Ok(()),
         }
@@ -150,61 +94,93 @@ impl Walker<'_> {
 
     /// Walks a block in table order. Outside bundles the known bounds before
     /// each statement are the declared ones.
-    fn block(&mut self, start: usize, end: usize, mut facts: Facts) -> Result<Facts, Refusal> {
+    fn block(&mut self, start: usize, end: usize, mut state: State) -> Result<State, Refusal> {
         let mut s = start;
         while s < end {
-            let mut known = Known::declared(self.routine);
-            self.observer.before(s, &facts, &known);
+            let mut known = Known::declared(self.routine, &state.rows);
+            self.before(s, &state, &known);
             let statement = self.routine.statements[s];
             let next = s + statement.size();
-            facts = match statement {
-                Statement::If { condition, then_count, .. } => {
-                    let middle = s + 1 + then_count as usize;
-                    let then = self.block(s + 1, middle, facts.clone().assume(condition))?;
-                    let other = self.block(middle, next, facts.assume(condition.negated()))?;
-                    then.join(&other)
+            state = match statement {
+                Statement::If { .. } | Statement::While { .. } => {
+                    let state = self.branch(s, statement, state)?;
+                    known = Known::declared(self.routine, &state.rows);
+                    state
                 }
-                Statement::While { condition, .. } => {
-                    for v in self.routine.statements[s + 1..next].iter().filter_map(Statement::target) {
-                        facts = facts.drop(Node::from(v));
-                    }
-                    self.block(s + 1, next, facts.clone().assume(condition))?;
-                    facts.assume(condition.negated())
-                }
-                Statement::Bundle { .. } => self.bundle(s + 1, next, facts, &mut known)?,
-                simple => self.simple(simple, facts, &mut known),
+                Statement::Bundle { .. } => self.bundle(s + 1, next, state, &mut known)?,
+                simple => self.simple(simple, state, &mut known),
             };
-            self.observer.after(s, &facts, &known);
-            self.all_shown(s, &facts, &known)?;
+            self.after(s, &state, &known);
+            // Of a kind 14 its pointer alone can be not shown: the others have their declared bounds.
+            self.all_shown(s, &state, &known)?;
             s = next;
         }
-        Ok(facts)
+        Ok(state)
     }
 
-    /// The statements of a bundle: 9, then the statement itself.
+    /// An if or a while with its blocks.
+    fn branch(&mut self, s: usize, statement: Statement, state: State) -> Result<State, Refusal> {
+        let next = s + statement.size();
+        match statement {
+            Statement::If { condition, then_count, .. } => {
+                let middle = s + 1 + then_count as usize;
+                let then = self.block(s + 1, middle, state.clone().assume(condition))?;
+                let other = self.block(middle, next, state.assume(condition.negated()))?;
+                same_rows(s, &then, &other)?;
+                Ok(State { facts: then.facts.join(&other.facts), ..then })
+            }
+            Statement::While { condition, .. } => {
+                let mut head = state;
+                for v in self.routine.statements[s + 1..next].iter().filter_map(Statement::target) {
+                    head.facts = head.facts.drop(Node::from(v));
+                }
+                let end = self.block(s + 1, next, head.clone().assume(condition))?;
+                same_rows(s, &head, &end)?;
+                Ok(head.assume(condition.negated()))
+            }
+            _ => Ok(state),
+        }
+    }
+
+    /// The statements of a bundle: 9, then the statement itself, then a kind 14's 8.
     fn bundle(
         &mut self,
         start: usize,
         end: usize,
-        mut facts: Facts,
+        mut state: State,
         known: &mut Known,
-    ) -> Result<Facts, Refusal> {
+    ) -> Result<State, Refusal> {
         for s in start..end {
-            self.observer.before(s, &facts, known);
+            self.before(s, &state, known);
             let statement = self.routine.statements[s];
             if let Statement::Load { p, .. } | Statement::Store { p, .. } = statement {
-                if !self.shown(p, &facts, known) {
+                if !self.shown(p, &state, known) {
                     return Err(Refusal::at(9, s));
                 }
             }
-            facts = self.simple(statement, facts, known);
-            self.observer.after(s, &facts, known);
+            state = self.simple(statement, state, known);
+            self.after(s, &state, known);
+            // "The row must be shown there as declared bounds are, else refusal 8 there with that pointer."
+            if let Statement::Declare { p, .. } = statement {
+                if !self.shown(p, &state, known) {
+                    return Err(Refusal::bounds(s, p));
+                }
+            }
         }
-        Ok(facts)
+        Ok(state)
+    }
+
+    /// Kinds 1 to 10 and 14. A kind 14 changes the row in force alone.
+    fn simple(&self, statement: Statement, mut state: State, known: &mut Known) -> State {
+        if let Statement::Declare { p, row } = statement {
+            state.rows.declare(p, row);
+            return state;
+        }
+        State { facts: self.effect(statement, state.facts, known), ..state }
     }
 
     /// What kinds 1 to 10 do to facts and known bounds.
-    fn simple(&self, statement: Statement, facts: Facts, known: &mut Known) -> Facts {
+    fn effect(&self, statement: Statement, facts: Facts, known: &mut Known) -> Facts {
         let not_null = |facts: Facts, p: Var| facts.add(ZERO, Node::from(p), -1);
         match statement {
             Statement::Literal { x, literal } => {
@@ -263,14 +239,28 @@ impl Walker<'_> {
             Statement::Store { .. }
             | Statement::If { .. }
             | Statement::While { .. }
-            | Statement::Bundle { .. } => facts,
+            | Statement::Bundle { .. }
+            | Statement::Declare { .. } => facts,
         }
+    }
+}
+
+/// 13: "the two sides of an if, or the head and end of a while body, leave rows of different numbers in force".
+fn same_rows(place: usize, one: &State, other: &State) -> Result<(), Refusal> {
+    if one.rows == other.rows {
+        Ok(())
+    } else {
+        Err(Refusal::at(13, place))
     }
 }
 
 #[cfg(test)]
 #[path = "checker_tests.rs"]
 mod tests;
+
+#[cfg(test)]
+#[path = "rows_tests.rs"]
+mod rows_tests;
 
 #[cfg(test)]
 #[path = "observer_tests.rs"]

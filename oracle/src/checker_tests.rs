@@ -21,6 +21,7 @@ fn draft(q: [i32; 8], statements: &[Vec<Record>]) -> Draft {
         objects: vec![10],
         variables: vec![[1, 0, P, -1, 0, P, N, 0], [0; 8], [0; 8], q],
         statements: statements.concat(),
+        rows: None,
     }
 }
 

@@ -1,6 +1,6 @@
 //! A table in the making: records that can be added, taken out and written as words.
 
-use crate::table::{STATEMENT_WORDS, VARIABLE_WORDS};
+use crate::table::{ROW_WORDS, STATEMENT_WORDS, VARIABLE_WORDS};
 
 pub type Record = [i32; STATEMENT_WORDS];
 /// Left, relation, form, right.
@@ -70,49 +70,63 @@ pub fn while_loop([a, b, c, d]: Cond, body: Vec<Record>) -> Vec<Record> {
     [vec![[12, a, b, c, d, body.len() as i32, 0]], body].concat()
 }
 
+/// Kind 14: the row is the pointer's declared bound from here on.
+pub fn declare(p: i32, row: i32) -> Record {
+    [14, p, row, 0, 0, 0, 0]
+}
+
 pub fn bundle(inner: Vec<Record>) -> Vec<Record> {
     [vec![[13, inner.len() as i32, 0, 0, 0, 0, 0]], inner].concat()
 }
 
-/// The three sections, not yet words. Records may break any rule.
+/// A row in the making: the lower end, then the upper end.
+pub type RowRecord = [i32; ROW_WORDS];
+
+/// The sections, not yet words. Records may break any rule.
 #[derive(Clone, Debug, Default)]
 pub struct Draft {
     pub objects: Vec<i32>,
     pub variables: Vec<[i32; VARIABLE_WORDS]>,
     pub statements: Vec<Record>,
+    /// The fourth section, where there is one.
+    pub rows: Option<Vec<RowRecord>>,
 }
 
 impl Draft {
     pub fn words(&self) -> Vec<i32> {
-        let lengths = [
-            self.objects.len(),
-            self.variables.len() * VARIABLE_WORDS,
-            self.statements.len() * STATEMENT_WORDS,
+        let sections = [
+            &self.objects,
+            self.variables.as_flattened(),
+            self.statements.as_flattened(),
+            self.rows.as_deref().unwrap_or_default().as_flattened(),
         ];
-        let mut words = Vec::with_capacity(6 + lengths.iter().sum::<usize>());
-        let mut offset = 6;
-        for length in lengths {
-            words.extend([offset as i32, length as i32]);
-            offset += length;
+        let pairs = if self.rows.is_some() { 4 } else { 3 };
+        let mut offset = 2 * pairs;
+        let mut words =
+            Vec::with_capacity(offset + sections.iter().map(|section| section.len()).sum::<usize>());
+        for section in &sections[..pairs] {
+            words.extend([offset as i32, section.len() as i32]);
+            offset += section.len();
         }
-        words.extend(&self.objects);
-        words.extend(self.variables.iter().flatten());
-        words.extend(self.statements.iter().flatten());
+        words.extend(sections.into_iter().flatten());
         words
     }
 
     /// The sections of a table whose directory is right.
     pub fn from_words(words: &[i32]) -> Option<Draft> {
-        if words.len() < 6 {
-            return None;
+        let pairs = if words.first() == Some(&8) { 4 } else { 3 };
+        let mut rest = words.get(2 * pairs..)?;
+        let mut sections: [&[i32]; 4] = [&[]; 4];
+        for (pair, section) in sections.iter_mut().take(pairs).enumerate() {
+            let length = usize::try_from(words[2 * pair + 1]).ok()?;
+            (*section, rest) = rest.split_at_checked(length)?;
         }
-        let length = |section: usize| usize::try_from(words[2 * section + 1]).ok();
-        let (objects, variables) = (6 + length(0)?, length(1)?);
-        let middle = objects.checked_add(variables)?;
+        let [objects, variables, statements, rows] = sections;
         let draft = Draft {
-            objects: words.get(6..objects)?.to_vec(),
-            variables: words.get(objects..middle)?.chunks_exact(VARIABLE_WORDS).map(to_record).collect(),
-            statements: words.get(middle..)?.chunks_exact(STATEMENT_WORDS).map(to_record).collect(),
+            objects: objects.to_vec(),
+            variables: to_records(variables),
+            statements: to_records(statements),
+            rows: (pairs == 4).then(|| to_records(rows)),
         };
         (draft.words() == words).then_some(draft)
     }
@@ -153,8 +167,8 @@ impl Draft {
     }
 }
 
-fn to_record<const N: usize>(words: &[i32]) -> [i32; N] {
-    words.try_into().expect("an exact chunk")
+fn to_records<const N: usize>(words: &[i32]) -> Vec<[i32; N]> {
+    words.chunks_exact(N).map(|chunk| chunk.try_into().expect("an exact chunk")).collect()
 }
 
 #[cfg(test)]

@@ -2,10 +2,12 @@
 //! alone and close to their words. It is to be read and believed, not to be quick.
 
 pub mod answer;
+pub mod bounds;
 pub mod checker;
 pub mod draft;
 pub mod facts;
 pub mod machine;
 pub mod reach;
+pub mod rows;
 pub mod syntax;
 pub mod table;

@@ -3,6 +3,7 @@
 
 use crate::answer::{Check, Refusal, RunAnswer, RunInput};
 use crate::checker::check_routine;
+use crate::rows::Rows;
 use crate::table::{decode, Condition, End, Kind, Operator, Right, Routine, Statement, Var};
 
 pub const MAX_CELLS: usize = 16_777_216;
@@ -90,6 +91,8 @@ struct Machine<'a> {
     cells: &'a mut [u32],
     values: &'a mut [u32],
     origins: Vec<u32>,
+    /// Point 2: whose bounds are the declared ones, "for the access check too".
+    rows: Rows,
     allowance: u64,
     due: Option<usize>,
     steps: u64,
@@ -121,6 +124,7 @@ impl<'a> Machine<'a> {
             cells: &mut input.cells,
             values: &mut input.values,
             origins: input.origins.clone(),
+            rows: Rows::at_entry(routine),
             allowance: u64::from(input.allowance),
             due: (count > 0).then_some(0),
             steps: 0,
@@ -200,7 +204,7 @@ impl<'a> Machine<'a> {
             return Err(Halt::Stopped(Check::NullAccess));
         }
         let address = self.value(p) + i.map_or(0, |i| self.value(i)) + i64::from(k);
-        let bounds = self.routine.bounds[usize::from(p)].expect("a pointer has bounds");
+        let bounds = self.rows.declared(self.routine, p).expect("a pointer has bounds");
         if address < end_value(bounds.lower, self.values) || address >= end_value(bounds.upper, self.values) {
             return Err(Halt::Stopped(Check::OutOfBounds));
         }
@@ -279,6 +283,7 @@ impl<'a> Machine<'a> {
                 }
             }
             Statement::Bundle { .. } => return Ok(self.enter(s, s + 1, next)),
+            Statement::Declare { p, row } => self.rows.declare(p, row),
         }
         Ok(self.after(s))
     }

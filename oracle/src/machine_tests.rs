@@ -13,6 +13,7 @@ fn draft(statements: Vec<Record>) -> Draft {
         objects: vec![3, 4],
         variables: vec![[1, 0, P, -1, 0, P, N, 0], [0; 8], [0; 8], [1, 0, P, -1, 0, P, N, 0]],
         statements,
+        rows: None,
     }
 }
 
@@ -106,6 +107,30 @@ fn checks_of_pointer_arithmetic() {
     assert_eq!(run(vec![move_pointer(Q, Q, -1), move_pointer(Q, Q, -1)]), "stopped 2 1 5");
     assert_eq!(run(vec![add_constant(X, X, -2), index_pointer(Q, P, X)]), "stopped 2 1 5");
     assert_eq!(run(vec![add_constant(X, X, -3), index_pointer(Q, P, X)]), "done 2");
+}
+
+/// The rows for p: its first cell, its cells from 1 on.
+const ROWS: [RowRecord; 2] = [[P, -1, 0, P, -1, 1], [P, -1, 1, P, N, 0]];
+
+#[test]
+fn an_access_is_checked_by_the_row_in_force() {
+    let outcome = |statements: Vec<Record>| {
+        let table = Draft { rows: Some(ROWS.to_vec()), ..draft(statements) };
+        let mut input = lent();
+        machine::run(&table.words(), &mut input).to_string()
+    };
+    let guard = dynamic_check(with_literal(N, GREATER, 1));
+    let (first, second) = (load(X, P, -1, 0), store(P, -1, 1, X));
+    assert_eq!(outcome(vec![guard, first, second, declare(P, 0), first, second]), "stopped 6 5 3");
+    assert_eq!(outcome(vec![guard, declare(P, 1), second, first]), "stopped 4 3 3");
+    // Until another kind 14, also where p is assigned anew.
+    let again = vec![guard, null(Q), declare(P, 0), address(P, 0), first, second];
+    assert_eq!(outcome(again), "stopped 6 5 3");
+    // In a bundle each access goes by the row in force then.
+    let inside = bundle(vec![second, declare(P, 1), second, declare(P, 0), first, second]);
+    assert_eq!(outcome([vec![guard], inside].concat()), "stopped 8 7 3");
+    // The other pointer keeps its own bound.
+    assert_eq!(outcome(vec![guard, declare(P, 0), load(X, Q, -1, 1)]), "done 3");
 }
 
 #[test]

@@ -43,7 +43,8 @@ mod tests {
     /// p (0), n (1) and four objects of 2 cells, the first two touching.
     fn lent(statements: Vec<Record>, origin: u32) -> (Routine, RunInput) {
         let variables = vec![[1, 0, 0, -1, 0, 0, -1, 1], [0; 8]];
-        let routine = decode(&Draft { objects: vec![2; 4], variables, statements }.words()).unwrap();
+        let routine =
+            decode(&Draft { objects: vec![2; 4], variables, statements, rows: None }.words()).unwrap();
         let input = RunInput {
             directory: vec![1, 2, 3, 2, 6, 2, 10, 2],
             cells: vec![0; 14],

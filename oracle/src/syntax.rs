@@ -1,6 +1,8 @@
 //! A decoded routine: objects, variables with their bounds, typed statements.
 
 pub type Var = u8;
+/// A bounds row by its number (point 2).
+pub type Row = u8;
 
 #[derive(Clone, Copy, Debug, PartialEq, Eq)]
 pub enum Kind {
@@ -151,6 +153,11 @@ pub enum Statement {
     Bundle {
         count: i32,
     },
+    /// Kind 14 (point 2): the row is the pointer's declared bound from here on.
+    Declare {
+        p: Var,
+        row: Row,
+    },
 }
 
 impl Statement {
@@ -189,8 +196,10 @@ impl Statement {
 pub struct Routine {
     pub objects: Vec<u32>,
     pub kinds: Vec<Kind>,
-    /// Declared bounds; `None` for an integer.
+    /// The variables' own bounds; `None` for an integer.
     pub bounds: Vec<Option<Bounds>>,
+    /// The bounds rows (point 2).
+    pub rows: Vec<Bounds>,
     pub statements: Vec<Statement>,
     /// Bit v for each variable that a condition or the right side of kind 2 reads.
     pub compared: u16,

@@ -5,9 +5,12 @@ pub use crate::syntax::*;
 
 /// 6 directory words, 16 objects, 16 variables of 8, 1,024 statements of 7.
 pub const MAX_WORDS: usize = 7_318;
+/// Point 2: "up to 7,704 words in all", with a fourth pair and 64 rows of 6.
+pub const MAX_WORDS_WITH_ROWS: usize = 7_704;
 pub const MAX_OBJECTS: usize = 16;
 pub const MAX_VARIABLES: usize = 16;
 pub const MAX_STATEMENTS: usize = 1_024;
+pub const MAX_ROWS: usize = 64;
 pub const MAX_OBJECT_LENGTH: i32 = 1_000_000;
 pub const MAX_CONSTANT: i32 = 65_536;
 /// Point 8: "The limit becomes 6; depth 7 is refusal 6." Top statements have depth 0.
@@ -15,35 +18,44 @@ pub const MAX_DEPTH: usize = 6;
 pub const MAX_BUNDLE: usize = 16;
 pub const VARIABLE_WORDS: usize = 8;
 pub const STATEMENT_WORDS: usize = 7;
+pub const ROW_WORDS: usize = 6;
 
 /// Decodes a table, or gives the first refusal of causes 1 to 6.
 pub fn decode(words: &[i32]) -> Result<Routine, Refusal> {
-    if words.len() < 6 || words.len() > MAX_WORDS {
+    // Point 2: "A first offset of 8 means a fourth pair and section"; every other table keeps its limit.
+    let (pairs, most) = if words.first() == Some(&8) { (4, MAX_WORDS_WITH_ROWS) } else { (3, MAX_WORDS) };
+    if words.len() < 6 || words.len() > most {
         return Err(Refusal::at(1, 0));
     }
-    let Some([objects, variables, statements]) = sections(words) else {
+    let Some([objects, variables, statements, rows]) = sections(words, pairs) else {
         return Err(Refusal::at(2, 0));
     };
     if let Some(place) = objects.iter().position(|n| !(1..=MAX_OBJECT_LENGTH).contains(n)) {
         return Err(Refusal::at(3, place));
     }
-    let (kinds, bounds) = read_variables(variables)?;
-    let mut names = Names::new(&kinds, objects.len());
+    let ends = Ends::new(variables);
+    let (kinds, bounds) = read_variables(variables, &ends)?;
+    let rows = read_rows(rows, kinds.len(), &ends)?;
+    let mut names = Names::new(&kinds, objects.len(), rows.len());
     let statements = read_statements(statements, &mut names)?;
     check_block(&statements, 0, statements.len(), 0).map_err(|place| Refusal::at(6, place))?;
     let objects = objects.iter().map(|&n| n as u32).collect();
-    Ok(Routine { objects, kinds, bounds, statements, compared: names.compared })
+    Ok(Routine { objects, kinds, bounds, rows, statements, compared: names.compared })
 }
 
-/// Cause 2: the three sections, if directory and lengths are right.
-fn sections(words: &[i32]) -> Option<[&[i32]; 3]> {
-    let limits =
-        [(1, 0, MAX_OBJECTS), (VARIABLE_WORDS, 1, MAX_VARIABLES), (STATEMENT_WORDS, 0, MAX_STATEMENTS)];
-    let mut parts: [&[i32]; 3] = [&[]; 3];
-    let mut start = 6usize;
-    for (section, (size, least, most)) in limits.into_iter().enumerate() {
-        let offset = usize::try_from(words[2 * section]).ok()?;
-        let length = usize::try_from(words[2 * section + 1]).ok()?;
+/// Cause 2: the sections of so many pairs, if directory and lengths are right; one without a pair is empty.
+fn sections(words: &[i32], pairs: usize) -> Option<[&[i32]; 4]> {
+    let limits = [
+        (1, 0, MAX_OBJECTS),
+        (VARIABLE_WORDS, 1, MAX_VARIABLES),
+        (STATEMENT_WORDS, 0, MAX_STATEMENTS),
+        (ROW_WORDS, 0, MAX_ROWS),
+    ];
+    let mut parts: [&[i32]; 4] = [&[]; 4];
+    let mut start = 2 * pairs;
+    for (section, (size, least, most)) in limits.into_iter().take(pairs).enumerate() {
+        let offset = usize::try_from(*words.get(2 * section)?).ok()?;
+        let length = usize::try_from(*words.get(2 * section + 1)?).ok()?;
         let right_length = length % size == 0 && (least..=most).contains(&(length / size));
         if offset != start || !right_length {
             return None;
@@ -54,31 +66,45 @@ fn sections(words: &[i32]) -> Option<[&[i32]; 3]> {
     (start == words.len()).then_some(parts)
 }
 
+/// Reads ends. An end names a pointer or an integer by that record's kind word
+/// alone, whatever else is wrong with the record.
+struct Ends {
+    kind_words: Vec<i32>,
+}
+
+impl Ends {
+    fn new(variables: &[i32]) -> Ends {
+        Ends { kind_words: variables.chunks_exact(VARIABLE_WORDS).map(|record| record[0]).collect() }
+    }
+
+    fn of_kind(&self, word: i32, kind: i32) -> Option<Var> {
+        let variable = usize::try_from(word).ok()?;
+        (self.kind_words.get(variable) == Some(&kind)).then_some(variable as Var)
+    }
+
+    fn end(&self, end: &[i32]) -> Option<End> {
+        let pointer = self.of_kind(end[0], 1)?;
+        let integer = if end[1] == -1 { None } else { Some(self.of_kind(end[1], 0)?) };
+        Some(End { pointer, integer, constant: constant(end[2])? })
+    }
+
+    /// The lower and the upper end, six words.
+    fn bounds(&self, words: &[i32]) -> Option<Bounds> {
+        Some(Bounds { lower: self.end(&words[..3])?, upper: self.end(&words[3..])? })
+    }
+}
+
 type Variables = (Vec<Kind>, Vec<Option<Bounds>>);
 
-/// Cause 4. An end names a pointer or an integer by that record's kind word
-/// alone, whatever else is wrong with the record.
-fn read_variables(words: &[i32]) -> Result<Variables, Refusal> {
-    let kind_words: Vec<i32> = words.chunks_exact(VARIABLE_WORDS).map(|r| r[0]).collect();
-    let of_kind = |word: i32, kind: i32| {
-        let variable = usize::try_from(word).ok()?;
-        (kind_words.get(variable) == Some(&kind)).then_some(variable as Var)
-    };
-    let read_end = |end: &[i32]| {
-        let pointer = of_kind(end[0], 1)?;
-        let integer = if end[1] == -1 { None } else { Some(of_kind(end[1], 0)?) };
-        Some(End { pointer, integer, constant: constant(end[2])? })
-    };
+/// Cause 4 of the variables.
+fn read_variables(words: &[i32], ends: &Ends) -> Result<Variables, Refusal> {
     let read_record = |record: &[i32]| {
         if record[1] != 0 {
             return None;
         }
         match record[0] {
             0 if record[2..].iter().all(|&w| w == 0) => Some((Kind::Integer, None)),
-            1 => {
-                let (lower, upper) = (read_end(&record[2..5])?, read_end(&record[5..8])?);
-                Some((Kind::Pointer, Some(Bounds { lower, upper })))
-            }
+            1 => Some((Kind::Pointer, Some(ends.bounds(&record[2..])?))),
             _ => None,
         }
     };
@@ -86,6 +112,15 @@ fn read_variables(words: &[i32]) -> Result<Variables, Refusal> {
         .chunks_exact(VARIABLE_WORDS)
         .enumerate()
         .map(|(v, record)| read_record(record).ok_or(Refusal::at(4, v)))
+        .collect()
+}
+
+/// Point 2: "A faulty row is refusal 4 with the place number of variables plus row."
+fn read_rows(words: &[i32], variables: usize, ends: &Ends) -> Result<Vec<Bounds>, Refusal> {
+    words
+        .chunks_exact(ROW_WORDS)
+        .enumerate()
+        .map(|(r, row)| ends.bounds(row).ok_or(Refusal::at(4, variables + r)))
         .collect()
 }
 
@@ -110,13 +145,13 @@ fn literal(word: i32) -> u32 {
 }
 
 /// How many fields each kind has; kind 0 is none.
-const FIELDS: [usize; 14] = [0, 2, 3, 4, 1, 2, 3, 3, 4, 4, 4, 6, 5, 1];
+const FIELDS: [usize; 15] = [0, 2, 3, 4, 1, 2, 3, 3, 4, 4, 4, 6, 5, 1, 2];
 
 /// The fields that have to be 0, as masks over their words.
-const UNUSED: [[i32; 6]; 14] = {
-    let mut masks = [[0; 6]; 14];
+const UNUSED: [[i32; 6]; 15] = {
+    let mut masks = [[0; 6]; 15];
     let mut kind = 0;
-    while kind < 14 {
+    while kind < 15 {
         let mut field = FIELDS[kind];
         while field < 6 {
             masks[kind][field] = -1;
@@ -136,12 +171,13 @@ struct Names {
     integers: u32,
     pointers: u32,
     objects: i32,
+    rows: i32,
     /// Gathered on the way.
     compared: u16,
 }
 
 impl Names {
-    fn new(kinds: &[Kind], objects: usize) -> Names {
+    fn new(kinds: &[Kind], objects: usize, rows: usize) -> Names {
         let mask = |wanted: Kind| {
             let bits = kinds.iter().enumerate().filter(|(_, &kind)| kind == wanted);
             bits.fold(0, |mask, (v, _)| mask | 1u32 << v)
@@ -150,6 +186,7 @@ impl Names {
             integers: mask(Kind::Integer),
             pointers: mask(Kind::Pointer),
             objects: objects as i32,
+            rows: rows as i32,
             compared: 0,
         }
     }
@@ -172,6 +209,10 @@ impl Names {
 
     fn object(&self, word: i32) -> Option<u8> {
         (0..self.objects).contains(&word).then_some(word as u8)
+    }
+
+    fn row(&self, word: i32) -> Option<Row> {
+        (0..self.rows).contains(&word).then_some(word as Row)
     }
 
     /// Form 0: a variable of the same kind. Form 1: a literal, only 0 beside a pointer.
@@ -235,6 +276,7 @@ impl Names {
             },
             12 => Statement::While { condition: self.condition(a, b, c, d)?, count: u32::try_from(e).ok()? },
             13 => Statement::Bundle { count: a },
+            14 => Statement::Declare { p: self.pointer(a)?, row: self.row(b)? },
             _ => return None,
         })
     }

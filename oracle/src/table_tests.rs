@@ -3,7 +3,8 @@ use crate::draft::*;
 
 /// Variables: p (0, count(n)), n (1), x (2); object 0 has 10 cells.
 fn draft(statements: Vec<Record>) -> Draft {
-    Draft { objects: vec![10], variables: vec![[1, 0, 0, -1, 0, 0, 1, 0], [0; 8], [0; 8]], statements }
+    let variables = vec![[1, 0, 0, -1, 0, 0, 1, 0], [0; 8], [0; 8]];
+    Draft { objects: vec![10], variables, statements, rows: None }
 }
 
 fn refused(words: &[i32]) -> Option<(u8, u32)> {
@@ -24,6 +25,20 @@ fn cause_1_is_the_number_of_words() {
     assert_eq!(refused(&[6, 0, 6, 8, 14]), Some((1, 0)));
     assert_eq!(refused(&vec![0; MAX_WORDS + 1]), Some((1, 0)));
     assert_eq!(refused(&vec![0; MAX_WORDS]), Some((2, 0)));
+    // A first offset of 8 has a limit of its own, whatever else is wrong; 8 words are no other least.
+    let first = |word: i32, length: usize| [vec![word], vec![0; length - 1]].concat();
+    for (word, length, cause) in [
+        (6, MAX_WORDS + 1, 1),
+        (7, MAX_WORDS + 1, 1),
+        (8, 5, 1),
+        (8, 6, 2),
+        (8, 7, 2),
+        (8, MAX_WORDS + 1, 2),
+        (8, MAX_WORDS_WITH_ROWS, 2),
+        (8, MAX_WORDS_WITH_ROWS + 1, 1),
+    ] {
+        assert_eq!(refused(&first(word, length)), Some((cause, 0)), "{length} words from {word} on");
+    }
 }
 
 #[test]
@@ -33,6 +48,69 @@ fn the_largest_table_is_read() {
     largest.variables.resize(MAX_VARIABLES, [0; 8]);
     assert_eq!(largest.words().len(), MAX_WORDS);
     assert_eq!(refused(&largest.words()), None);
+    largest.rows = Some(vec![ROW; MAX_ROWS]);
+    assert_eq!(largest.words().len(), MAX_WORDS_WITH_ROWS);
+    assert_eq!(refused(&largest.words()), None);
+}
+
+/// Both ends of the routine's pointer, with its count.
+const ROW: RowRecord = [0, -1, 0, 0, 1, 0];
+
+fn with_rows(statements: Vec<Record>, rows: Vec<RowRecord>) -> Vec<i32> {
+    Draft { rows: Some(rows), ..draft(statements) }.words()
+}
+
+#[test]
+fn the_fourth_section_has_at_most_64_whole_rows() {
+    assert_eq!(refused(&with_rows(vec![], vec![])), None);
+    assert_eq!(refused(&with_rows(vec![], vec![ROW; 64])), None);
+    assert_eq!(refused(&with_rows(vec![], vec![ROW; 65])), Some((2, 0)));
+    let right = with_rows(vec![], vec![ROW; 2]);
+    for place in 0..8 {
+        for change in [-1, 1, 6, 7, 8, i32::MIN, i32::MAX] {
+            let mut words = right.clone();
+            words[place] = words[place].wrapping_add(change);
+            assert_eq!(refused(&words), Some((2, 0)), "word {place} by {change}");
+        }
+    }
+    // The rows stand after the statements: no other order is right.
+    let mut exchanged = with_rows(vec![[0; 7]; 6], vec![ROW; 7]);
+    exchanged.swap(4, 6);
+    assert_eq!(refused(&exchanged), Some((2, 0)));
+    assert_eq!(refused(&right[..right.len() - 1]), Some((2, 0)));
+}
+
+#[test]
+fn a_faulty_row_is_cause_4_after_all_variables() {
+    for (field, word) in [(0, -1), (0, 1), (0, 3), (1, 0), (1, -2), (2, 65_537), (3, 2), (4, 3), (5, -65_537)]
+    {
+        let mut rows = vec![ROW; 3];
+        rows[1][field] = word;
+        assert_eq!(refused(&with_rows(vec![[0; 7]], rows.clone())), Some((4, 4)), "field {field} {word}");
+        let mut both = Draft { rows: Some(rows), ..draft(vec![]) };
+        both.variables[2][5] = 1;
+        assert_eq!(refused(&both.words()), Some((4, 2)));
+    }
+    let edges = [0, 2, -65_536, 0, -1, 65_536];
+    assert_eq!(refused(&with_rows(vec![], vec![edges])), None);
+}
+
+#[test]
+fn kind_14_names_a_pointer_and_a_row() {
+    let rows = || vec![ROW; 2];
+    assert_eq!(refused(&with_rows(vec![declare(0, 1)], rows())), None);
+    assert_eq!(refused(&with_rows(bundle(vec![declare(0, 0), set(1, 1), declare(0, 1)]), rows())), None);
+    for wrong in [declare(0, 2), declare(0, -1), declare(1, 0), declare(-1, 0), declare(16, 0)] {
+        assert_eq!(refused(&with_rows(vec![some_check(), wrong], rows())), Some((5, 1)), "{wrong:?}");
+    }
+    for field in 3..7 {
+        let mut stray = declare(0, 0);
+        stray[field] = 1;
+        assert_eq!(refused(&with_rows(vec![stray], rows())), Some((5, 0)), "field {field}");
+    }
+    // Where there are no rows there is none to name, with or without a fourth section.
+    assert_eq!(refused_statements(vec![declare(0, 0)]), Some((5, 0)));
+    assert_eq!(refused(&with_rows(vec![declare(0, 0)], vec![])), Some((5, 0)));
 }
 
 #[test]
@@ -132,7 +210,7 @@ fn statement_fields_by_kind() {
         dynamic_check(with_literal(1, -1, 0)),
         dynamic_check([1, 0, 2, 0]),
         [0, 0, 0, 0, 0, 0, 0],
-        [14, 0, 0, 0, 0, 0, 0],
+        [15, 0, 0, 0, 0, 0, 0],
         [-1, 0, 0, 0, 0, 0, 0],
         [11, 1, 0, 1, 0, -1, 0],
         [11, 1, 0, 1, 0, 0, -1],

@@ -2,9 +2,12 @@
 
 use crate::rng::Rng;
 use oracle::draft::Draft;
-use oracle::table::VARIABLE_WORDS;
+use oracle::table::{
+    MAX_OBJECTS, MAX_ROWS, MAX_STATEMENTS, MAX_VARIABLES, MAX_WORDS, MAX_WORDS_WITH_ROWS, ROW_WORDS,
+    VARIABLE_WORDS,
+};
 
-const WORDS: [i32; 22] = [
+const WORDS: [i32; 24] = [
     -1,
     0,
     1,
@@ -14,6 +17,7 @@ const WORDS: [i32; 22] = [
     5,
     6,
     7,
+    8,
     11,
     12,
     13,
@@ -21,6 +25,7 @@ const WORDS: [i32; 22] = [
     15,
     16,
     17,
+    64,
     65_536,
     65_537,
     -65_536,
@@ -45,9 +50,9 @@ pub fn mutate(rng: &mut Rng, words: &mut [i32]) {
             return;
         }
         let place = match rng.below(12) {
-            0 => rng.below(words.len().min(6)),
+            0 => rng.below(words.len().min(8)),
             1..=3 => rng.below(words.len()),
-            _ => words.len() - 1 - rng.below(words.len().saturating_sub(6).max(1)) * 3 / 4,
+            _ => words.len() - 1 - rng.below(words.len().saturating_sub(8).max(1)) * 3 / 4,
         };
         words[place] = other_word(rng, words[place]);
     }
@@ -56,17 +61,33 @@ pub fn mutate(rng: &mut Rng, words: &mut [i32]) {
 /// Cuts words off or adds some.
 pub fn resize(rng: &mut Rng, words: &mut Vec<i32>) {
     match rng.below(5) {
-        0 => words.truncate(rng.below(8)),
-        1 => words.truncate(words.len().saturating_sub(7)),
+        0 => words.truncate(rng.below(9)),
+        1 => words.truncate(words.len().saturating_sub(rng.pick(&[6, 7]))),
         2 => words.truncate(rng.below(words.len() + 1)),
-        3 => words.resize(rng.pick(&[7_318, 7_319, 8_000]), 0),
+        3 => {
+            let (least, most) = (MAX_WORDS, MAX_WORDS_WITH_ROWS);
+            words.resize(rng.pick(&[least, least + 1, most, most + 1, 8_000]), 0);
+        }
         _ => words.extend([0; 7]),
+    }
+}
+
+/// Fills each section with items that change no answer: the largest table with as many pairs.
+pub fn fill(draft: &mut Draft) {
+    let same = |v: i32| [10, v, 4, 0, v, 0, 0];
+    draft.objects.resize(MAX_OBJECTS, 1);
+    draft.variables.resize(MAX_VARIABLES, [0; VARIABLE_WORDS]);
+    draft.statements.resize(MAX_STATEMENTS, same(0));
+    let pointer = draft.variables.iter().position(|record| record[0] == 1);
+    if let (Some(rows), Some(p)) = (&mut draft.rows, pointer) {
+        let p = p as i32;
+        rows.resize(MAX_ROWS, [p, -1, 0, p, -1, 0]);
     }
 }
 
 /// Breaks one rule of causes 2 to 6 in the records; a later one may break it again.
 pub fn break_record(rng: &mut Rng, draft: &mut Draft) {
-    match rng.below(10) {
+    match rng.below(13) {
         0 => draft.objects.resize(17, 1),
         1 => draft.variables.resize(rng.pick(&[0, 17]), [0; VARIABLE_WORDS]),
         2 => draft.statements.resize(rng.pick(&[1_024, 1_025]), [4, 0, 0, 0, 0, 0, 0]),
@@ -90,7 +111,35 @@ pub fn break_record(rng: &mut Rng, draft: &mut Draft) {
                 record[field] = other_word(rng, record[field]);
             }
         }
+        7 | 8 => break_row(rng, draft),
+        9 => break_declaration(rng, draft),
         _ => break_head(rng, draft),
+    }
+}
+
+/// A faulty row, or a wrong number of them.
+fn break_row(rng: &mut Rng, draft: &mut Draft) {
+    let rows = draft.rows.get_or_insert_default();
+    let (r, field) = (rng.below(rows.len()), rng.below(ROW_WORDS));
+    match rows.get_mut(r) {
+        Some(row) if rng.chance(85) => row[field] = other_word(rng, row[field]),
+        _ => rows.resize(rng.pick(&[0, 1, 64, 65]), [0, -1, 0, 0, -1, 0]),
+    }
+}
+
+/// A kind 14 that names no pointer or no row, or has a field too many.
+fn break_declaration(rng: &mut Rng, draft: &mut Draft) {
+    let rows = draft.rows.as_ref().map_or(0, Vec::len) as i32;
+    let declarations: Vec<usize> =
+        (0..draft.statements.len()).filter(|&s| draft.statements[s][0] == 14).collect();
+    let Some(s) = rng.pick_any(&declarations) else {
+        draft.statements.push([14, rng.range(0, 3), rng.range(-1, 1), 0, 0, 0, 0]);
+        return;
+    };
+    match rng.below(4) {
+        0 => draft.statements[s][rng.range(3, 6) as usize] = 1,
+        1 => draft.statements[s][1] = rng.range(-1, draft.variables.len() as i32),
+        _ => draft.statements[s][2] = rng.pick(&[-1, rows - 1, rows, rows + 1]),
     }
 }
 

@@ -1,8 +1,8 @@
 //! Objects and variables of a generated routine: what the bounds hang on.
 
 use crate::rng::Rng;
-use oracle::draft::Draft;
-use oracle::table::VARIABLE_WORDS;
+use oracle::draft::{Draft, RowRecord};
+use oracle::table::{MAX_ROWS, VARIABLE_WORDS};
 
 /// The names a routine can use, by what they are good for.
 #[derive(Clone, Debug, Default)]
@@ -19,6 +19,15 @@ pub struct Layout {
     pub groups: Vec<Group>,
     /// Pointers whose ends do not name themselves: they can move freely.
     pub movers: Vec<i32>,
+    /// The variables' own bounds, and the bounds rows, each with the pointer that it was made for.
+    pub own: Vec<RowRecord>,
+    pub rows: Vec<LaidRow>,
+}
+
+#[derive(Clone, Copy, Debug)]
+pub struct LaidRow {
+    pub pointer: i32,
+    pub bounds: RowRecord,
 }
 
 #[derive(Clone, Debug)]
@@ -65,7 +74,52 @@ pub fn choose(rng: &mut Rng, draft: &mut Draft) -> Layout {
     if rng.chance(60) {
         layout.named.retain(|_| rng.chance(40));
     }
+    if rng.chance(55) {
+        let rows = match rng.below(60) {
+            0 => MAX_ROWS,
+            _ => rng.pick(&[0, 1, 1, 2, 2, 3, 4, 6]),
+        };
+        add_rows(rng, draft, &mut layout, rows);
+    }
     layout
+}
+
+/// A fourth section with so many rows, where there is a pointer to make them for.
+pub fn add_rows(rng: &mut Rng, draft: &mut Draft, layout: &mut Layout, rows: usize) {
+    // Few pointers share the rows, so that one has several to choose from.
+    let mut pointers = layout.pointers.clone();
+    rng.shuffle(&mut pointers);
+    pointers.truncate(1 + rng.below(3));
+    for _ in 0..rows {
+        let Some(pointer) = rng.pick_any(&pointers) else { break };
+        let bounds = row(rng, layout, pointer);
+        layout.rows.push(LaidRow { pointer, bounds });
+    }
+    draft.rows = Some(layout.rows.iter().map(|row| row.bounds).collect());
+}
+
+/// A row for p: its own bound, one narrower or wider, one by another count or constant, one at another pointer.
+fn row(rng: &mut Rng, layout: &Layout, p: i32) -> RowRecord {
+    let own = layout.own[p as usize];
+    let other = rng.pick(&layout.pointers);
+    let integer = rng.pick_any(&layout.integers).unwrap_or(-1);
+    let moved = |by: i32| [own[0], own[1], own[2] + by, own[3], own[4], own[5] - by];
+    let bounds = match rng.below(16) {
+        0..=3 => own,
+        4 | 5 => moved(rng.range(1, 2)),
+        6 => moved(-rng.range(1, 2)),
+        7 | 8 => [own[0], own[1], own[2], own[0], own[1], own[2]],
+        9 | 10 => [p, -1, 0, p, -1, rng.range(1, 5)],
+        11 | 12 => [p, -1, 0, p, integer, 0],
+        13 => [other, -1, 0, other, integer, 0],
+        14 => layout.own[other as usize],
+        _ => {
+            let integer = if rng.chance(50) { -1 } else { integer };
+            [other, -1, constant(rng), p, integer, constant(rng)]
+        }
+    };
+    let k = |word: i32| word.clamp(-65_536, 65_536);
+    [bounds[0], bounds[1], k(bounds[2]), bounds[3], bounds[4], k(bounds[5])]
 }
 
 /// The variables alone, so many of them.
@@ -167,4 +221,7 @@ fn classify(draft: &Draft, layout: &mut Layout) {
         bounds[2] != **p && bounds[5] != **p
     };
     layout.movers = layout.pointers.iter().filter(moves).copied().collect();
+    let own =
+        |record: &[i32; VARIABLE_WORDS]| record[2..].try_into().expect("six words behind the first two");
+    layout.own = draft.variables.iter().map(own).collect();
 }

@@ -8,6 +8,7 @@ mod routine;
 
 use crate::fast_check;
 use crate::rng::Rng;
+use layout::Layout;
 use oracle::answer::RunInput;
 use oracle::checker;
 use oracle::draft::Draft;
@@ -49,10 +50,16 @@ fn table(rng: &mut Rng) -> Vec<i32> {
     if fault < 8 {
         faults::break_record(rng, &mut draft);
     }
+    let large = fault == 20 && rng.chance(25);
+    if large {
+        faults::fill(&mut draft);
+    }
     let mut words = draft.words();
     match fault {
         8..=17 => faults::mutate(rng, &mut words),
         18..=19 => faults::resize(rng, &mut words),
+        // One word too many for the largest table.
+        _ if large && rng.chance(40) => words.push(0),
         _ => {}
     }
     words
@@ -81,11 +88,15 @@ fn makes_dead(routine: &Routine) -> Option<usize> {
     None
 }
 
-/// Takes out statements that are refused by 6, 8 or 9 until none is; now and then
+/// Takes out statements that are refused by 6, 8, 9 or 13 until none is; now and then
 /// leaves the rest as it is.
 fn repair(rng: &mut Rng, draft: &mut Draft) {
     while let Err(refusal) = fast_check::check(&draft.words()) {
         if refusal.cause < 6 || draft.statements.is_empty() || rng.chance(4) {
+            return;
+        }
+        // A 13 is rare without repair: something else is refused before it.
+        if refusal.cause == 13 && rng.chance(25) {
             return;
         }
         draft.remove(refusal.place as usize, false);
@@ -93,18 +104,32 @@ fn repair(rng: &mut Rng, draft: &mut Draft) {
 }
 
 /// An accepted table of exactly so many statements over so many variables, all
-/// kinds mixed, for measuring.
+/// kinds but 14 mixed, for measuring. It stays the same from version to version.
 pub fn accepted(seed: u64, statements: usize, variables: usize) -> Vec<i32> {
     let mut rng = Rng::of_case(seed, variables as u64);
     let mut draft = Draft { objects: vec![10, 4, 7], ..Draft::default() };
     let layout = layout::with_size(&mut rng, &mut draft, variables);
+    filled(&mut rng, draft, &layout, statements)
+}
+
+/// The same with rows and kinds 14.
+pub fn accepted_with_rows(seed: u64, statements: usize, variables: usize) -> Vec<i32> {
+    let mut rng = Rng::of_case(seed, variables as u64);
+    let mut draft = Draft { objects: vec![10, 4, 7], ..Draft::default() };
+    let mut layout = layout::with_size(&mut rng, &mut draft, variables);
+    layout::add_rows(&mut rng, &mut draft, &mut layout, 16);
+    filled(&mut rng, draft, &layout, statements)
+}
+
+/// The words of a draft once it has exactly so many statements and is accepted.
+fn filled(rng: &mut Rng, mut draft: Draft, layout: &Layout, statements: usize) -> Vec<i32> {
     while draft.statements.len() < statements {
         // A part that is accepted after what is there, and leaves no
         // contradiction behind: a table that is dead from there on measures nothing.
         let mut longer = draft.clone();
         let room = statements - draft.statements.len();
-        longer.statements.extend(Writer { rng: &mut rng, layout: &layout }.body(room.min(4), 0));
-        repair(&mut rng, &mut longer);
+        longer.statements.extend(Writer { rng: &mut *rng, layout }.body(room.min(4), 0));
+        repair(rng, &mut longer);
         let length = longer.statements.len();
         if length <= statements && length > draft.statements.len() && ends_alive(&longer) {
             draft = longer;
@@ -122,6 +147,7 @@ fn ends_alive(draft: &Draft) -> bool {
 #[cfg(test)]
 mod tests {
     use super::*;
+    use oracle::table::Statement;
 
     #[test]
     fn a_case_is_always_the_same() {
@@ -133,11 +159,27 @@ mod tests {
 
     #[test]
     fn tables_for_measuring_are_accepted() {
-        for variables in [11, 16] {
-            let table = accepted(3, 1_024, variables);
-            let routine = decode(&table).unwrap();
-            assert_eq!((routine.statements.len(), routine.kinds.len()), (1_024, variables));
-            assert_eq!(fast_check::check(&table), Ok(()));
+        for (make, rows) in [(accepted as fn(_, _, _) -> _, false), (accepted_with_rows, true)] {
+            for variables in [11, 16] {
+                let table: Vec<i32> = make(3, 1_024, variables);
+                let routine = decode(&table).unwrap();
+                assert_eq!((routine.statements.len(), routine.kinds.len()), (1_024, variables));
+                assert_eq!(fast_check::check(&table), Ok(()));
+                let declared = routine.statements.iter().filter(|s| matches!(s, Statement::Declare { .. }));
+                assert_eq!(declared.count() > 50, rows);
+            }
+        }
+    }
+
+    /// Else times taken with two versions could not be compared.
+    #[test]
+    fn tables_for_measuring_stay_the_same() {
+        for (variables, right) in [(11, 0x15bf_1e33_ed86_ac41), (16, 0x18ea_6190_8300_410f)] {
+            let words = (0..8).flat_map(|seed| accepted(seed, 1_024, variables));
+            let sum = words.fold(0xcbf2_9ce4_8422_2325u64, |sum, word| {
+                (sum ^ u64::from(word as u32)).wrapping_mul(0x0000_0100_0000_01b3)
+            });
+            assert_eq!(sum, right, "{variables} variables");
         }
     }
 }

@@ -24,6 +24,9 @@ impl Writer<'_> {
     }
 
     fn chunk(&mut self, depth: usize) -> Chunk {
+        if !self.layout.rows.is_empty() && self.rng.chance(40) {
+            return self.with_rows(depth).unwrap_or_else(|| vec![self.check()]);
+        }
         let chunk = match self.rng.below(44) {
             0 | 1 => Some(vec![self.simple()]),
             2 | 3 => Some(vec![self.check()]),
@@ -116,8 +119,11 @@ impl Writer<'_> {
         dynamic_check(self.condition())
     }
 
-    /// Any statement of kinds 1 to 10.
+    /// Any statement of kinds 1 to 10 and 14.
     fn simple(&mut self) -> Record {
+        if !self.layout.rows.is_empty() && self.rng.chance(12) {
+            return self.any_declaration();
+        }
         self.try_simple().unwrap_or_else(|| self.check())
     }
 
@@ -353,5 +359,7 @@ impl Writer<'_> {
 mod dead;
 #[path = "patterns.rs"]
 mod patterns;
+#[path = "rows.rs"]
+mod rows;
 #[path = "unequal.rs"]
 mod unequal;

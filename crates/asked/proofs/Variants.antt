@@ -7,11 +7,11 @@ use types.Run.{OneOf}
 use denote.Enum.Declared.{tagOf}
 use Rattle.statements.proofs.Simple as simple-enum
 use Rattle.statements.specs.declared.Simple.{Simple}
-use Rattle.statements.specs.declared.Simple.the-variants.{Literal, AddConstant, Arithmetic, Null, Address, PointerOffset, PointerIndex, Load, Store, Check}
+use Rattle.statements.specs.declared.Simple.the-variants.{Literal, AddConstant, Arithmetic, Null, Address, PointerOffset, PointerIndex, Load, Store, Check, Declare}
 use Rattle.asked.specs.Asked.{nothingAsked, statementAsked}
 
 -- Kinds 2 and 10 ask.
-pub nothing-asked : (s : Simple) → OneOf (0 ∷ 2 ∷ 3 ∷ 4 ∷ 5 ∷ 6 ∷ 7 ∷ 8 ∷ []) (tagOf simple-enum.the-type s) → nothingAsked ≡ statementAsked s
+pub nothing-asked : (s : Simple) → OneOf (0 ∷ 2 ∷ 3 ∷ 4 ∷ 5 ∷ 6 ∷ 7 ∷ 8 ∷ 10 ∷ []) (tagOf simple-enum.the-type s) → nothingAsked ≡ statementAsked s
 nothing-asked (Literal x k) t = refl
 nothing-asked (AddConstant x y k) t =
     absurd
@@ -20,7 +20,7 @@ nothing-asked (AddConstant x y k) t =
     (⊎-elim (λ (z : 1 ≡ 3). omega arith)
     (⊎-elim (λ (z : 1 ≡ 4). omega arith)
     (⊎-elim (λ (z : 1 ≡ 5). omega arith)
-    (⊎-elim (λ (z : 1 ≡ 6). omega arith) (⊎-elim (λ (z : 1 ≡ 7). omega arith) (λ (z : 1 ≡ 8). omega arith))))))) t)
+    (⊎-elim (λ (z : 1 ≡ 6). omega arith) (⊎-elim (λ (z : 1 ≡ 7). omega arith) (⊎-elim (λ (z : 1 ≡ 8). omega arith) (λ (z : 1 ≡ 10). omega arith)))))))) t)
 nothing-asked (Arithmetic x y z op) t = refl
 nothing-asked (Null p) t = refl
 nothing-asked (Address p o) t = refl
@@ -35,4 +35,5 @@ nothing-asked (Check c) t =
     (⊎-elim (λ (z : 9 ≡ 3). omega arith)
     (⊎-elim (λ (z : 9 ≡ 4). omega arith)
     (⊎-elim (λ (z : 9 ≡ 5). omega arith)
-    (⊎-elim (λ (z : 9 ≡ 6). omega arith) (⊎-elim (λ (z : 9 ≡ 7). omega arith) (λ (z : 9 ≡ 8). omega arith))))))) t)
+    (⊎-elim (λ (z : 9 ≡ 6). omega arith) (⊎-elim (λ (z : 9 ≡ 7). omega arith) (⊎-elim (λ (z : 9 ≡ 8). omega arith) (λ (z : 9 ≡ 10). omega arith)))))))) t)
+nothing-asked (Declare p r) t = refl

@@ -7,7 +7,7 @@ use Rattle.sums.specs.Sums.{roomAbove}
 use Rattle.changes.specs.declared.Questions.{Questions}
 use Rattle.conditions.specs.declared.Condition.{Condition}
 use Rattle.statements.specs.declared.Simple.{Simple}
-use Rattle.statements.specs.declared.Simple.the-variants.{Literal, AddConstant, Arithmetic, Null, Address, PointerOffset, PointerIndex, Load, Store, Check}
+use Rattle.statements.specs.declared.Simple.the-variants.{Literal, AddConstant, Arithmetic, Null, Address, PointerOffset, PointerIndex, Load, Store, Check, Declare}
 
 abbrev pub nothingAsked : Questions
 nothingAsked = record { asked = false; chained = false; x = 0; y = 0; there = 0; back = 0 }
@@ -31,3 +31,4 @@ statementAsked (PointerIndex p q i) = nothingAsked
 statementAsked (Load x p i k) = nothingAsked
 statementAsked (Store p i k x) = nothingAsked
 statementAsked (Check c) = conditionAsked c
+statementAsked (Declare p r) = nothingAsked

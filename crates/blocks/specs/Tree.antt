@@ -7,7 +7,7 @@ use lib.Dec.{ltb}
 use Rattle.sections.specs.declared.Sections.{Sections}
 use Rattle.conditions.specs.declared.Condition.{Condition}
 use Rattle.statements.specs.declared.Simple.{Simple}
-use Rattle.statements.specs.declared.Simple.the-variants.{Literal, AddConstant, Arithmetic, Null, Address, PointerOffset, PointerIndex, Load, Store, Check}
+use Rattle.statements.specs.declared.Simple.the-variants.{Literal, AddConstant, Arithmetic, Null, Address, PointerOffset, PointerIndex, Load, Store, Check, Declare}
 use Rattle.statements.specs.declared.Statement.the-variants.{Plain, If, While, Bundle}
 use Rattle.statements.specs.declared.StatementRead.{StatementRead}
 use Rattle.statements.specs.declared.StatementRead.the-variants.{Read, Unread}
@@ -23,7 +23,7 @@ pub data Block : Type 0 where
   bundle : ℕ → List Simple → Block → Block
   unread : ℕ → Block
 
--- "A bundle holds kinds 1 to 10 only": the n statements from a on, cut short at the first that is of another kind or does not read.
+-- "A bundle holds kinds 1 to 10 only", and 14: the n statements from a on, cut short at the first that is of another kind or does not read.
 abbrev pub simplesFrom : StatementRead → List Simple → List Simple
 simplesFrom Unread ss = []
 simplesFrom (Read (Plain s)) ss = s ∷ ss
@@ -67,6 +67,8 @@ target (PointerIndex p q i) = p ∷ []
 target (Load x p i k) = x ∷ []
 target (Store p i k x) = []
 target (Check c) = []
+-- Point 2: kind 14 assigns nothing.
+target (Declare p r) = []
 
 unfoldable pub targets : List Simple → List ℕ
 targets [] = []

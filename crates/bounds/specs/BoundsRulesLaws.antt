@@ -15,7 +15,7 @@ use Rattle.arrays.specs.TabulateLaws.{length-tabulate, getD-tabulate, Filled, f
 use Rattle.facts.specs.declared.FactSet.{FactSet}
 use Rattle.sections.specs.SectionsLaws.{both}
 use Rattle.statements.specs.declared.Simple.{Simple}
-use Rattle.statements.specs.declared.Simple.the-variants.{Literal, AddConstant, Arithmetic, Null, Address, PointerOffset, PointerIndex, Load, Store, Check}
+use Rattle.statements.specs.declared.Simple.the-variants.{Literal, AddConstant, Arithmetic, Null, Address, PointerOffset, PointerIndex, Load, Store, Check, Declare}
 use Rattle.rules.specs.BoundsRules.{nothingKnown, known, names, forgetEnd, forgetBounds, objectBounds}
 use Rattle.rules.specs.Stored.{effect, shiftConstant, shiftEnd, shiftBounds, effectOn, boundsAfter}
 use Rattle.rules.specs.Ranges.{InRange, Measured, Short}
@@ -56,6 +56,7 @@ effect-short E f (PointerIndex p q i) m r = cond-either Short (eqb p q) (Forget 
 effect-short E f (Load x p i k) m r = tt
 effect-short E f (Store p i k x) m r = tt
 effect-short E f (Check c) m r = tt
+effect-short E f (Declare p r) m l = tt
 
 -- ---- bounds that an effect leaves as they are
 

@@ -5,52 +5,52 @@ use mathlib.Core.Bool.{Bool, true, false}
 use mathlib.Core.List.{List, [], _∷_}
 use native.Mathlib.Omega.{arith}
 use lib.IntN.{ℤ}
+use lib.ListN.{set}
 use Rattle.facts.specs.declared.FactSet.{FactSet}
 use Rattle.refusals.specs.declared.Refusal.{Refusal}
 use Rattle.refusals.specs.declared.Refusal.the-variants.{BundleAccess}
 use Rattle.sections.specs.declared.Sections.{Sections}
 use Rattle.statements.specs.declared.Simple.{Simple}
+use Rattle.statements.specs.declared.Simple.the-variants.{Declare}
 use Rattle.statements.specs.declared.Statement.{Statement}
 use Rattle.statements.specs.declared.Statement.the-variants.{Plain, If, While, Bundle}
 use Rattle.statements.specs.declared.StatementRead.the-variants.{Read, Unread}
 use Rattle.statements.specs.Statements.{statementAt}
+use Rattle.statements.specs.StatementLaws.{read-typed, read-limits}
 use Rattle.blocks.specs.Tree.{simples, simplesFrom}
 use Rattle.blocks.specs.Layout.{also}
 use Rattle.flow.specs.FlowLaws.{simples-some}
-use Rattle.rules.specs.Stored.{factsAfter, effect, unshown, accessShown, bundleFacts, bundleBounds, bundleFaults, boundsAfter}
+use Rattle.rules.specs.States.{State}
+use Rattle.rules.specs.Stored.{factsAfter, effect, unshown, accessShown, bundleBounds, bundleFaults, boundsAfter, stateAfter, unshownIn, rowUnshown, accessIn, bundleAfter}
+use Rattle.rules.specs.BoundsRules.{inForce, rowsAfter}
 use Rattle.rules.specs.Rules.{accessAt, boundsAt}
 use Rattle.rules.specs.Verdict.{verdictOf}
 use Rattle.rules.specs.Ranges.{InRange, Measured, Short}
 use Rattle.effects.specs.Applied.{Applied, applied}
+use Rattle.declared.specs.Shown.{declaresOf}
+use Rattle.touched.specs.Touched.{seenAs, seenOf}
+use Rattle.touched.specs.declared.Seen.{Seen}
+use Rattle.declared.specs.ShownLaws.{row-named, rows-stay, no-row-asked, seen-unshown, seen-access}
+use Rattle.declared.specs.declared.Declares.the-variants.{Row, NoRow}
+use Rattle.force.specs.Force.{stateOf}
+use Rattle.force.specs.ForceLaws.{none-refused, pass, refuse-part}
 use Rattle.bundles.specs.Bundles.{Passes, WalksBundle}
 use Rattle.effects.specs.FactRulesLaws.{effect-lengths}
 use Rattle.bounds.specs.BoundsRulesLaws.{effect-short}
 use Rattle.rules.specs.declared.Bounds.{Bounds}
 use Rattle.rules.specs.declared.Environment.{Environment}
 use Rattle.rules.specs.declared.Effect.{Effect}
+use Rattle.rules.specs.declared.Effect.the-variants.{Keep}
 use Rattle.rules.specs.declared.Verdict.{Verdict}
 use Rattle.rules.specs.declared.Verdict.the-variants.{Accepted, Refused}
 use Rattle.bundles.specs.declared.Walked.{Walked}
 use Rattle.rules.specs.Rules as walkRules
+use Rattle.rules.specs.FactRules as factRules
+use Rattle.rules.specs.BoundsRules as boundsRules
 
 -- ---- faults in order
 
-pub none-refused : (xs : List Refusal) {v : Verdict} → v ≡ verdictOf xs → v ≡ Accepted → xs ≡ []
-unfolding verdictOf
-none-refused [] e p = refl
-none-refused (r ∷ xs) e p = cc
-
-pub pass : (xs ys : List Refusal) → xs ≡ [] → also xs ys ≡ ys
-unfolding also
-pass xs ys e = rw e
-
--- A part that is refused is the answer.
-refuse-part : (xs ys : List Refusal) {v : Verdict} {r : Refusal} → v ≡ verdictOf xs → v ≡ Refused r → (v ≡ verdictOf (also xs ys)) × (also xs ys ≡ [] → ⊥)
-unfolding also verdictOf
-refuse-part [] ys {v} {r} e p = let z : Accepted ≡ Refused r = sym e ∙ p in let o : _≡_ {A = ℕ} 0 1 = cc in absurd (omega arith)
-refuse-part (x ∷ xs) ys e p = (e, λ q. let o : _≡_ {A = ℕ} 0 1 = cc in omega arith)
-
-pub stops : {zs : List Refusal} (xs ys : List Refusal) {g : FactSet} {w : Walked} {r : Refusal} → zs ≡ also xs ys → w .verdict ≡ verdictOf xs → w .verdict ≡ Refused r → Passes zs g w
+pub stops : {zs : List Refusal} (xs ys : List Refusal) {g : State FactSet} {w : Walked} {r : Refusal} → zs ≡ also xs ys → w .verdict ≡ verdictOf xs → w .verdict ≡ Refused r → Passes zs g w
 stops xs ys z e p =
     let h = refuse-part xs ys e p in
     record { said = h .0 ∙ ap verdictOf (sym z); kept = λ q. absurd (h .1 (sym z ∙ q)) }
@@ -63,7 +63,7 @@ access-pass : (b : Bool) (a : ℕ) → b ≡ true → accessAt b a ≡ []
 unfolding accessAt
 access-pass b a e = rw e
 
-pub ends : {xs : List Refusal} {g : FactSet} {w : Walked} → xs ≡ [] → w .verdict ≡ Accepted → w .facts ≡ g → Passes xs g w
+pub ends : {xs : List Refusal} {g : State FactSet} {w : Walked} → xs ≡ [] → w .verdict ≡ Accepted → stateOf (w .facts) (w .rows .each) ≡ g → Passes xs g w
 unfolding verdictOf
 ends e p q = record { said = p ∙ ap verdictOf (sym e); kept = λ z. q }
 
@@ -81,6 +81,18 @@ module _ (E : Environment) (f : FactSet) (s : Simple) {d : Applied} (e : d ≡ a
   pub applied-short : Measured E → InRange s → Short (d .effect)
   applied-short m r = rw applied-effect (effect-short E f s m r)
 
+-- With the lengths that the table declares.
+pub measured-by : (f : FactSet) (s : Simple) {L M : List ℕ} {d : Applied} → L ≡ M → d ≡ applied L f s → d ≡ applied M f s
+measured-by f s l e = e ∙ ap (λ (x : List ℕ). applied x f s) l
+
+-- A kind 14 names a pointer and a row of the table.
+pub row-limits : (T : List ℤ) (h : Sections) (a : ℕ) {s : Statement} {p : Simple} {y r : ℕ} → statementAt T h a ≡ Read s → s ≡ Plain p → declaresOf p ≡ Row y r → (y < 16) × (r < 64)
+row-limits T h a {s} {p} {y} {r} e d n =
+    let q : statementAt T h a ≡ Read (Plain (Declare y r)) = e ∙ ap Read (d ∙ ap Plain (row-named p y r n)) in
+    let t = read-typed T h a (Plain (Declare y r)) q in
+    let l = read-limits T h a _ q in
+    (omega (arith, t .pointer .below, l .0 .variables), omega (arith, t .row, l .0 .rows))
+
 -- ---- a bundle
 
 simples-none : (n : ℕ) (T : List ℤ) (h : Sections) (a : ℕ) → n ≤ 0 → simples n T h a ≡ []
@@ -89,57 +101,81 @@ simples-none zero T h a p = refl
 simples-none (suc n) T h a p = absurd (omega arith)
 
 -- The faults of a bundle from statement a on, with the question at its head's end; and the bundle's loop invariant: what is left of it is the whole.
-abbrev pub lineFaults : Environment → ℕ → ℕ → List Simple → FactSet → List Bounds → List Refusal
-lineFaults E head a ss f K = also (bundleFaults E a ss f K) (boundsAt head (unshown E (bundleFacts ss f) (bundleBounds E ss f K)))
+abbrev pub lineFaults : Environment → ℕ → ℕ → List Simple → State FactSet → List Bounds → List Refusal
+lineFaults E head a ss w K = also (bundleFaults E a ss w K) (boundsAt head (unshownIn E (bundleAfter ss w) (bundleBounds E ss w K)))
 
-pub record Held (T : List ℤ) (h : Sections) (E : Environment) (head count : ℕ) (f₀ : FactSet) (K₀ : List Bounds) (at left : ℕ) (f : FactSet) (K : List Bounds) : Type 0 where
-  pub blamed : lineFaults E head (head + 1) (simples count T h (head + 1)) f₀ K₀ ≡ lineFaults E head at (simples left T h at) f K
-  pub left-facts : bundleFacts (simples count T h (head + 1)) f₀ ≡ bundleFacts (simples left T h at) f
+pub record Held (T : List ℤ) (h : Sections) (E : Environment) (head count : ℕ) (w₀ : State FactSet) (K₀ : List Bounds) (at left : ℕ) (f : FactSet) (R : List ℕ) (I : Seen) (K : List Bounds) : Type 0 where
+  pub blamed : lineFaults E head (head + 1) (simples count T h (head + 1)) w₀ K₀ ≡ lineFaults E head at (simples left T h at) (stateOf f R) K
+  pub left-state : bundleAfter (simples count T h (head + 1)) w₀ ≡ bundleAfter (simples left T h at) (stateOf f R)
+  -- I is what is seen of the environment in force.
+  pub inside : I ≡ seenOf (inForce E R)
 
-pub held-none : (T : List ℤ) (h : Sections) (E : Environment) (head count : ℕ) (f₀ : FactSet) (K₀ : List Bounds) → Held T h E head count f₀ K₀ (head + 1) count f₀ K₀
-held-none T h E head count f₀ K₀ = record { blamed = refl; left-facts = refl }
+pub held-none : (T : List ℤ) (h : Sections) (E : Environment) (head count : ℕ) (f : FactSet) (R : List ℕ) {I : Seen} {K : List Bounds} → I ≡ seenOf (inForce E R) → K ≡ I .declared
+    → Held T h E head count (stateOf f R) (inForce E R .declared) (head + 1) count f R I K
+held-none T h E head count f R i k =
+    let e = k ∙ ap (λ (x : Seen). x .declared) i in
+    record { blamed = ap (lineFaults E head (head + 1) (simples count T h (head + 1)) (stateOf f R)) (sym e); left-state = refl; inside = i }
 
-pub carry : {xs ys : List Refusal} {f g : FactSet} {w : Walked} → xs ≡ ys → f ≡ g → Passes ys g w → Passes xs f w
+pub carry : {xs ys : List Refusal} {f g : State FactSet} {w : Walked} → xs ≡ ys → f ≡ g → Passes ys g w → Passes xs f w
 carry e d p = record { said = p .said ∙ ap verdictOf (sym e); kept = λ z. p .kept (sym e ∙ z) ∙ sym d }
 
 also-none : (xs : List Refusal) → also [] xs ≡ xs
 unfolding also
 also-none xs = refl
 
-line-none : (E : Environment) (head a : ℕ) (f : FactSet) (K : List Bounds) → lineFaults E head a [] f K ≡ boundsAt head (unshown E f K)
-unfolding walkRules.bundleFaults walkRules.bundleFacts walkRules.bundleBounds
-line-none E head a f K = also-none (boundsAt head (unshown E f K))
+line-none : (E : Environment) (head a : ℕ) (w : State FactSet) (K : List Bounds) → lineFaults E head a [] w K ≡ boundsAt head (unshownIn E w K)
+unfolding walkRules.bundleFaults walkRules.bundleAfter walkRules.bundleBounds
+line-none E head a w K = also-none (boundsAt head (unshownIn E w K))
 
-facts-more : (s : Simple) (ss : List Simple) (f : FactSet) → bundleFacts (s ∷ ss) f ≡ bundleFacts ss (factsAfter s f)
-unfolding walkRules.bundleFacts
-facts-more s ss f = refl
+after-more : (s : Simple) (ss : List Simple) (w : State FactSet) → bundleAfter (s ∷ ss) w ≡ bundleAfter ss (stateAfter s w)
+unfolding walkRules.bundleAfter
+after-more s ss w = refl
 
-facts-none : (f : FactSet) → bundleFacts [] f ≡ f
-unfolding walkRules.bundleFacts
-facts-none f = refl
+after-none : (w : State FactSet) → bundleAfter [] w ≡ w
+unfolding walkRules.bundleAfter
+after-none w = refl
 
 pub also-assoc : (xs ys zs : List Refusal) → also (also xs ys) zs ≡ also xs (also ys zs)
 unfolding also
 also-assoc [] ys zs = refl
 also-assoc (x ∷ xs) ys zs = ap (λ (l : List Refusal). x ∷ l) (also-assoc xs ys zs)
 
-line-some : (E : Environment) (head a : ℕ) (s : Simple) (ss : List Simple) (f : FactSet) (K : List Bounds)
-    → lineFaults E head a (s ∷ ss) f K ≡ also (accessAt (accessShown E f K s) a) (lineFaults E head (a + 1) ss (factsAfter s f) (boundsAfter (effect E f s) K))
-unfolding walkRules.bundleFaults walkRules.bundleFacts walkRules.bundleBounds
-line-some E head a s ss f K = also-assoc _ _ _
+line-some : (E : Environment) (head a : ℕ) (s : Simple) (ss : List Simple) (w : State FactSet) (K : List Bounds)
+    → lineFaults E head a (s ∷ ss) w K ≡ also (accessAt (accessIn E w K s) a) (also (boundsAt a (rowUnshown E (w .facts) K s)) (lineFaults E head (a + 1) ss (stateAfter s w) (boundsAfter (effect E (w .facts) s) K)))
+unfolding walkRules.bundleFaults walkRules.bundleAfter walkRules.bundleBounds
+line-some E head a s ss w K = also-assoc _ _ _ ∙ ap (also (accessAt (accessIn E w K s) a)) (also-assoc _ _ _)
 
-module _ {T : List ℤ} {h : Sections} {E : Environment} {head count : ℕ} {f₀ : FactSet} {K₀ : List Bounds} {at left : ℕ} {f : FactSet} {K : List Bounds}
-    (k : Held T h E head count f₀ K₀ at left f K) where
+-- What a kind 14 does to the state and to the known bounds.
+pub declare-after : (p r : ℕ) (f : FactSet) (R : List ℕ) → stateAfter (Declare p r) (stateOf f R) ≡ stateOf f (set R p (r + 1))
+unfolding factRules.factsAfter rowsAfter
+declare-after p r f R = refl
+
+pub declare-keeps : (E : Environment) (f : FactSet) (p r : ℕ) → effect E f (Declare p r) ≡ Keep
+unfolding boundsRules.effect
+declare-keeps E f p r = refl
+
+-- Any other asks for no row.
+pub nothing-asked : (E : Environment) (f : FactSet) (K : List Bounds) (s : Simple) (a : ℕ) → declaresOf s ≡ NoRow → boundsAt a (rowUnshown E f K s) ≡ []
+unfolding boundsAt
+nothing-asked E f K s a n = rw (no-row-asked E f K s n) refl
+
+declare-accesses : (E : Environment) (w : State FactSet) (K : List Bounds) (p r a : ℕ) → accessAt (accessIn E w K (Declare p r)) a ≡ []
+unfolding boundsRules.accessShown accessAt
+declare-accesses E w K p r a = refl
+
+module _ {T : List ℤ} {h : Sections} {E : Environment} {head count : ℕ} {w₀ : State FactSet} {K₀ : List Bounds} {at left : ℕ} {f : FactSet} {R : List ℕ} {I : Seen} {K : List Bounds}
+    (k : Held T h E head count w₀ K₀ at left f R I K) where
   -- The bundle ends, or is cut short.
-  held-end : {w : Walked} → simples left T h at ≡ [] → Passes (boundsAt head (unshown E f K)) f w → WalksBundle E head (simples count T h (head + 1)) f₀ K₀ w
+  held-end : {w : Walked} → simples left T h at ≡ [] → Passes (boundsAt head (unshown (seenAs I) f K)) (stateOf f R) w → WalksBundle E head (simples count T h (head + 1)) w₀ K₀ w
   held-end e p =
-      carry (k .blamed ∙ (ap (λ (ss : List Simple). lineFaults E head at ss f K) e ∙ line-none E head at f K)) (k .left-facts ∙ (ap (λ (ss : List Simple). bundleFacts ss f) e ∙ facts-none f)) p
+      carry (k .blamed ∙ (ap (λ (ss : List Simple). lineFaults E head at ss (stateOf f R) K) e ∙ line-none E head at (stateOf f R) K))
+      (k .left-state ∙ (ap (λ (ss : List Simple). bundleAfter ss (stateOf f R)) e ∙ after-none (stateOf f R))) (carry (ap (boundsAt head) (sym (seen-unshown (inForce E R) f K) ∙ ap (λ (x : Seen). unshown (seenAs x) f K) (sym (k .inside)))) refl p)
 
-  pub held-done : {w : Walked} → left ≤ 0 → Passes (boundsAt head (unshown E f K)) f w → WalksBundle E head (simples count T h (head + 1)) f₀ K₀ w
+  pub held-done : {w : Walked} → left ≤ 0 → Passes (boundsAt head (unshown (seenAs I) f K)) (stateOf f R) w → WalksBundle E head (simples count T h (head + 1)) w₀ K₀ w
   held-done z p = held-end (simples-none left T h at z) p
 
   module _ (some : 0 < left) where
-    pub held-unread : {w : Walked} → statementAt T h at ≡ Unread → Passes (boundsAt head (unshown E f K)) f w → WalksBundle E head (simples count T h (head + 1)) f₀ K₀ w
+    pub held-unread : {w : Walked} → statementAt T h at ≡ Unread → Passes (boundsAt head (unshown (seenAs I) f K)) (stateOf f R) w → WalksBundle E head (simples count T h (head + 1)) w₀ K₀ w
     held-unread e p = held-end (simples-some left T h at _ some e) p
 
     cut : (s : Statement) → ((p : Simple) → s ≡ Plain p → ⊥) → (ss : List Simple) → simplesFrom (Read s) ss ≡ []
@@ -148,29 +184,61 @@ module _ {T : List ℤ} {h : Sections} {E : Environment} {head count : ℕ} {f�
     cut (While c i) n ss = refl
     cut (Bundle i) n ss = refl
 
-    pub held-other : {w : Walked} {s : Statement} → statementAt T h at ≡ Read s → ((p : Simple) → s ≡ Plain p → ⊥) → Passes (boundsAt head (unshown E f K)) f w
-        → WalksBundle E head (simples count T h (head + 1)) f₀ K₀ w
+    pub held-other : {w : Walked} {s : Statement} → statementAt T h at ≡ Read s → ((p : Simple) → s ≡ Plain p → ⊥) → Passes (boundsAt head (unshown (seenAs I) f K)) (stateOf f R) w
+        → WalksBundle E head (simples count T h (head + 1)) w₀ K₀ w
     held-other {w} {s} e n p = held-end (simples-some left T h at _ some e ∙ cut s n (simples (left - 1) T h (at + 1))) p
 
     module _ {s : Statement} {p : Simple} (e : statementAt T h at ≡ Read s) (d : s ≡ Plain p) where
       line : simples left T h at ≡ p ∷ simples (left - 1) T h (at + 1)
       line = simples-some left T h at _ some (e ∙ ap Read d)
 
-      line-here : lineFaults E head (head + 1) (simples count T h (head + 1)) f₀ K₀ ≡ also (accessAt (accessShown E f K p) at)
-          (lineFaults E head (at + 1) (simples (left - 1) T h (at + 1)) (factsAfter p f) (boundsAfter (effect E f p) K))
-      line-here = k .blamed ∙ (ap (λ (ss : List Simple). lineFaults E head at ss f K) line ∙ line-some E head at p (simples (left - 1) T h (at + 1)) f K)
+      line-here : lineFaults E head (head + 1) (simples count T h (head + 1)) w₀ K₀ ≡ also (accessAt (accessIn E (stateOf f R) K p) at) (also (boundsAt at (rowUnshown E f K p))
+          (lineFaults E head (at + 1) (simples (left - 1) T h (at + 1)) (stateAfter p (stateOf f R)) (boundsAfter (effect E f p) K)))
+      line-here = k .blamed ∙ (ap (λ (ss : List Simple). lineFaults E head at ss (stateOf f R) K) line ∙ line-some E head at p (simples (left - 1) T h (at + 1)) (stateOf f R) K)
 
-      pub held-access : {w : Walked} {b : Bool} → b ≡ accessShown E f K p → b ≡ false → w .verdict ≡ Refused (BundleAccess at)
-          → WalksBundle E head (simples count T h (head + 1)) f₀ K₀ w
-      held-access a t v = stops _ _ line-here (v ∙ access-verdict (accessShown E f K p) at (sym a ∙ t)) v
+      state-here : bundleAfter (simples count T h (head + 1)) w₀ ≡ bundleAfter (simples (left - 1) T h (at + 1)) (stateAfter p (stateOf f R))
+      state-here = k .left-state ∙ (ap (λ (ss : List Simple). bundleAfter ss (stateOf f R)) line ∙ after-more p (simples (left - 1) T h (at + 1)) (stateOf f R))
 
-      pub held-more : {b : Bool} {g : FactSet} {L : List Bounds} {x : Effect} → b ≡ accessShown E f K p → b ≡ true → g ≡ factsAfter p f → x ≡ effect E f p → L ≡ boundsAfter x K
-          → Held T h E head count f₀ K₀ (at + 1) (left - 1) g L
-      held-more {b} {g} {L} a t q x l = record {
-        blamed = line-here ∙ (pass _ _ (access-pass (accessShown E f K p) at (sym a ∙ t))
-            ∙ ap₂ (lineFaults E head (at + 1) (simples (left - 1) T h (at + 1))) (sym q) (sym (l ∙ ap (λ (y : Effect). boundsAfter y K) x)));
-        left-facts = k .left-facts ∙ (ap (λ (ss : List Simple). bundleFacts ss f) line ∙ facts-some q);
-      }
-        where
-          facts-some : {g : FactSet} → g ≡ factsAfter p f → bundleFacts (p ∷ simples (left - 1) T h (at + 1)) f ≡ bundleFacts (simples (left - 1) T h (at + 1)) g
-          facts-some q = facts-more p (simples (left - 1) T h (at + 1)) f ∙ ap (bundleFacts (simples (left - 1) T h (at + 1))) (sym q)
+      access-here : {b : Bool} → b ≡ accessShown (seenAs I) f K p → b ≡ accessIn E (stateOf f R) K p
+      access-here a = a ∙ (ap (λ (x : Seen). accessShown (seenAs x) f K p) (k .inside) ∙ seen-access (inForce E R) f K p)
+
+      -- Any kind but 14.
+      pub held-access : {w : Walked} {b : Bool} → b ≡ accessShown (seenAs I) f K p → b ≡ false → w .verdict ≡ Refused (BundleAccess at)
+          → WalksBundle E head (simples count T h (head + 1)) w₀ K₀ w
+      held-access a t v = stops _ _ line-here (v ∙ access-verdict (accessIn E (stateOf f R) K p) at (sym (access-here a) ∙ t)) v
+
+      pub held-more : {b : Bool} {g : FactSet} {L : List Bounds} {x : Effect} → declaresOf p ≡ NoRow → b ≡ accessShown (seenAs I) f K p → b ≡ true → g ≡ factsAfter p f → x ≡ effect E f p → L ≡ boundsAfter x K
+          → Held T h E head count w₀ K₀ (at + 1) (left - 1) g R I L
+      held-more {b} {g} {L} n a t q x l =
+          let o : stateAfter p (stateOf f R) ≡ stateOf g R = ap₂ stateOf (sym q) (rows-stay p R n) in
+          let m : boundsAfter (effect E f p) K ≡ L = sym (l ∙ ap (λ (y : Effect). boundsAfter y K) x) in
+          record {
+            blamed = line-here ∙ (pass _ _ (access-pass (accessIn E (stateOf f R) K p) at (sym (access-here a) ∙ t)) ∙ (pass _ _ (nothing-asked E f K p at n)
+                ∙ ap₂ (lineFaults E head (at + 1) (simples (left - 1) T h (at + 1))) o m));
+            left-state = state-here ∙ ap (bundleAfter (simples (left - 1) T h (at + 1))) o;
+            inside = k .inside;
+          }
+
+      -- Kind 14.
+      module _ {y r : ℕ} (n : declaresOf p ≡ Row y r) {v : Verdict} (z : v ≡ verdictOf (boundsAt at (rowUnshown E f K (Declare y r)))) where
+        row-here : lineFaults E head (head + 1) (simples count T h (head + 1)) w₀ K₀ ≡ also (boundsAt at (rowUnshown E f K (Declare y r)))
+            (lineFaults E head (at + 1) (simples (left - 1) T h (at + 1)) (stateOf f (set R y (r + 1))) (boundsAfter Keep K))
+        row-here =
+            line-here ∙ (ap (λ (q : Simple). also (accessAt (accessIn E (stateOf f R) K q) at) (also (boundsAt at (rowUnshown E f K q))
+            (lineFaults E head (at + 1) (simples (left - 1) T h (at + 1)) (stateAfter q (stateOf f R)) (boundsAfter (effect E f q) K)))) (row-named p y r n)
+            ∙ (pass _ _ (declare-accesses E (stateOf f R) K y r at)
+            ∙ ap₂ (λ (w : State FactSet) (x : Effect). also (boundsAt at (rowUnshown E f K (Declare y r))) (lineFaults E head (at + 1) (simples (left - 1) T h (at + 1)) w (boundsAfter x K)))
+            (declare-after y r f R) (declare-keeps E f y r)))
+
+        pub held-missed : {w : Walked} {x : Refusal} → v ≡ Refused x → w .verdict ≡ v → WalksBundle E head (simples count T h (head + 1)) w₀ K₀ w
+        held-missed t q = stops _ _ row-here (q ∙ z) (q ∙ t)
+
+        pub held-row : {Q : List ℕ} {J : Seen} {L : List Bounds} → v ≡ Accepted → L ≡ boundsAfter Keep K → Q ≡ set R y (r + 1) → J ≡ seenOf (inForce E Q)
+            → Held T h E head count w₀ K₀ (at + 1) (left - 1) f Q J L
+        held-row {Q} {J} {L} t l q j =
+            let o : stateAfter p (stateOf f R) ≡ stateOf f Q = ap (λ (x : Simple). stateAfter x (stateOf f R)) (row-named p y r n) ∙ (declare-after y r f R ∙ ap (stateOf f) (sym q)) in
+            record {
+              blamed = row-here ∙ (pass _ _ (none-refused _ z t) ∙ ap₂ (λ (U : List ℕ) (M : List Bounds). lineFaults E head (at + 1) (simples (left - 1) T h (at + 1)) (stateOf f U) M) (sym q) (sym l));
+              left-state = state-here ∙ ap (bundleAfter (simples (left - 1) T h (at + 1))) o;
+              inside = j;
+            }

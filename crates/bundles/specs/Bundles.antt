@@ -4,21 +4,23 @@ use mathlib.Core.Path.{_≡_}
 use mathlib.Core.List.{List, []}
 use Rattle.facts.specs.declared.FactSet.{FactSet}
 use Rattle.statements.specs.declared.Simple.{Simple}
-use Rattle.rules.specs.Stored.{unshown, bundleFacts, bundleBounds, bundleFaults}
+use Rattle.rules.specs.States.{State}
+use Rattle.rules.specs.Stored.{bundleBounds, bundleFaults, unshownIn, bundleAfter}
 use Rattle.refusals.specs.declared.Refusal.{Refusal}
 use Rattle.blocks.specs.Layout.{also}
 use Rattle.rules.specs.Rules.{boundsAt}
 use Rattle.rules.specs.Verdict.{verdictOf}
 use Rattle.rules.specs.declared.Bounds.{Bounds}
 use Rattle.rules.specs.declared.Environment.{Environment}
+use Rattle.force.specs.Force.{stateOf}
 use Rattle.bundles.specs.declared.Walked.{Walked}
 
--- The verdict is that of the faults; where there is none, the facts are these.
-pub record Passes (faults : List Refusal) (facts : FactSet) (r : Walked) : Type 0 where
+-- The verdict is that of the faults; where there is none, the facts and the rows in force are these.
+pub record Passes (faults : List Refusal) (after : State FactSet) (r : Walked) : Type 0 where
   pub said : r .verdict ≡ verdictOf faults
-  pub kept : faults ≡ [] → r .facts ≡ facts
+  pub kept : faults ≡ [] → stateOf (r .facts) (r .rows .each) ≡ after
 
 -- The walk over a bundle with its head at `head` and its statements ss: their faults, then the question about all declared bounds.
-abbrev pub WalksBundle : Environment → ℕ → List Simple → FactSet → List Bounds → Walked → Type 0
-WalksBundle E head ss f K r =
-    Passes (also (bundleFaults E (head + 1) ss f K) (boundsAt head (unshown E (bundleFacts ss f) (bundleBounds E ss f K)))) (bundleFacts ss f) r
+abbrev pub WalksBundle : Environment → ℕ → List Simple → State FactSet → List Bounds → Walked → Type 0
+WalksBundle E head ss w K r =
+    Passes (also (bundleFaults E (head + 1) ss w K) (boundsAt head (unshownIn E (bundleAfter ss w) (bundleBounds E ss w K)))) (bundleAfter ss w) r

@@ -2,38 +2,54 @@
 use asked::ask_statement;
 use bounds::KnownBounds;
 use bounds::bounds_after;
+use declared::Declares;
 use declared::access_shown;
 use declared::check_known;
+use declared::check_row;
+use declared::declares_of;
 use effects::plan_statement;
 use facts::FactSet;
+use force::Force;
+use force::Frame;
+use force::seen_in;
+use force::with_row;
+use lookups::Rows;
 use reader::read_due;
 use refusals::Refusal;
-use rules::Environment;
+use rules::Effect;
 use rules::Verdict;
+use rules::read_environment;
 use sections::Sections;
 use shown::answer;
 use statements::Statement;
 use statements::StatementRead;
+use touched::Seen;
 ghost use Prim.Native.Nat.{_+_, _^_, _<_};
 ghost use Rattle.blocks.specs.Tree.{simples};
 ghost use Rattle.rules.specs.Stored.{unshown};
+ghost use Rattle.rules.specs.BoundsRules.{inForce};
+ghost use Rattle.force.specs.Force.{stateOf, Framed, Forced};
 ghost use Rattle.rules.specs.Rules.{boundsAt};
+ghost use Rattle.rules.specs.Verdict.{environmentOf};
+ghost use Rattle.touched.specs.Touched.{seenAs};
 ghost use Rattle.rules.specs.Ranges.{Measured};
 ghost use Rattle.bundles.specs.Bundles.{Passes, WalksBundle};
 
-// The verdict on a block or a bundle, and the facts after it where nothing is refused.
+// The verdict on a block or a bundle, and the facts and rows in force after it where nothing is refused.
 pub struct Walked {
     pub verdict: Verdict,
     pub facts: FactSet,
+    pub rows: Rows,
 }
 
-// The end of a bundle with its head at `head`: all declared bounds must be shown.
-fn end_bundle(environment: Environment, head: usize, facts: FactSet, known: KnownBounds) -> Walked
-    ensures { λ r. ⌜ Passes (boundsAt head (unshown environment facts (known .each))) facts r ⌝ }
+// The end of a bundle with its head at `head`: all declared bounds in force must be shown.
+fn end_bundle(seen: Seen, head: usize, facts: FactSet, rows: Rows, known: KnownBounds) -> Walked
+    ensures { λ r. ⌜ Passes (boundsAt head (unshown (seenAs seen) facts (known .each))) (stateOf facts (rows .each)) r ⌝ }
 {
     Walked {
-        verdict: check_known(environment, facts, known, head),
+        verdict: check_known(seen, facts, known, head),
         facts,
+        rows,
     }
 }
 
@@ -41,16 +57,19 @@ fn end_bundle(environment: Environment, head: usize, facts: FactSet, known: Know
 pub fn walk_bundle(
     table: &[i32],
     sections: Sections,
-    environment: Environment,
+    frame: Frame,
+    force: Force,
     head: usize,
     count: usize,
     given: FactSet,
 ) -> Walked
-    requires { ⌜ Measured environment × (head < 2 ^ 40) ⌝ }
-    ensures { λ r. ⌜ WalksBundle environment head (simples count (now (table .entry)) sections (head + 1)) given (environment .declared) r ⌝ }
+    requires { ⌜ Measured (environmentOf (now table) sections) × (head < 2 ^ 40) × Framed (environmentOf (now table) sections) frame × Forced (environmentOf (now table) sections) (force .rows .each) force ⌝ }
+    ensures { λ r. ⌜ WalksBundle (environmentOf (now (table .entry)) sections) head (simples count (now (table .entry)) sections (head + 1)) (stateOf given (force .rows .each)) (inForce (environmentOf (now (table .entry)) sections) (force .rows .each) .declared) r ⌝ }
 {
-    let lengths = environment.lengths;
-    let declared = environment.declared;
+    let lengths = frame.lengths;
+    let mut rows = force.rows;
+    let mut seen = force.seen;
+    let declared = seen.declared;
     let mut known = KnownBounds { each: declared };
     let mut facts = given;
     let mut at = head + 1;
@@ -63,19 +82,44 @@ pub fn walk_bundle(
         let Statement::Plain(simple) = statement else {
             break;
         };
-        if !access_shown(environment, facts, known, simple) {
-            return Walked {
-                verdict: Verdict::Refused(Refusal::BundleAccess(at)),
-                facts,
-            };
+        let next = at + 1;
+        let fewer = left - 1;
+        let declares = declares_of(simple);
+        match declares {
+            Declares::Row { pointer, row } => {
+                let environment = read_environment(table, sections);
+                let verdict = check_row(environment, facts, known, pointer, row, at);
+                let Verdict::Accepted = verdict else {
+                    return Walked {
+                        verdict,
+                        facts,
+                        rows,
+                    };
+                };
+                rows = with_row(rows, pointer, row);
+                seen = seen_in(environment, rows);
+                let each = known.each;
+                known = bounds_after(Effect::Keep, KnownBounds { each });
+                at = next;
+                left = fewer;
+            }
+            Declares::NoRow => {
+                if !access_shown(seen, facts, known, simple) {
+                    return Walked {
+                        verdict: Verdict::Refused(Refusal::BundleAccess(at)),
+                        facts,
+                        rows,
+                    };
+                }
+                let answers = answer(facts, ask_statement(simple));
+                let plan = plan_statement(lengths, simple, answers);
+                let effect = plan.effect;
+                known = bounds_after(effect, known);
+                facts = facts.after(plan.change);
+                at = next;
+                left = fewer;
+            }
         }
-        let answers = answer(facts, ask_statement(simple));
-        let plan = plan_statement(lengths, simple, answers);
-        let effect = plan.effect;
-        known = bounds_after(effect, known);
-        facts = facts.after(plan.change);
-        at += 1;
-        left -= 1;
     }
-    end_bundle(environment, head, facts, known)
+    end_bundle(seen, head, facts, rows, known)
 }

@@ -32,12 +32,14 @@ use Rattle.rules.specs.Verdict.{environmentOf, verdictOf}
 use Rattle.rules.specs.Ranges.{Measured}
 use Rattle.rules.specs.ByChains.{Judged}
 use Rattle.rules.specs.Decidable.{judged}
+use Rattle.rules.specs.BoundsRules.{ownRows}
 use Rattle.checker.specs.Walk.{Walks}
-use Rattle.rules.specs.declared.Environment.{Environment}
 use Rattle.rules.specs.declared.Verdict.{Verdict}
 use Rattle.rules.specs.declared.Verdict.the-variants.{Refused}
 use Rattle.bundles.specs.declared.Walked.{Walked}
 use Rattle.rules.specs.Verdict as verdictRules
+use Rattle.force.specs.Force.{stateOf, Forced}
+use Rattle.force.specs.declared.Force.{Force}
 
 -- The lengths that a well-formed table declares are in range.
 module _ (T : List ℤ) (h : Sections) (w : Formed T h) where
@@ -45,8 +47,8 @@ module _ (T : List ℤ) (h : Sections) (w : Formed T h) where
   unfolding objectAt
   object-short o = go (inLimits h && ltb o (h .objects)) refl
     where
-      go : (b : Bool) → (inLimits h && ltb o (h .objects)) ≡ b → cond b (plain (word T (objectStart o))) 0 < 2 ^ 40
-      go true e = let q : objectAt T h o ≡ plain (word T (objectStart o)) = ap (λ (b : Bool). cond b (plain (word T (objectStart o))) 0) e in
+      go : (b : Bool) → (inLimits h && ltb o (h .objects)) ≡ b → cond b (plain (word T (objectStart h o))) 0 < 2 ^ 40
+      go true e = let q : objectAt T h o ≡ plain (word T (objectStart h o)) = ap (λ (b : Bool). cond b (plain (word T (objectStart h o))) 0) e in
           omega (arith, w .objects o (object-limits h o e .1))
       go false e = omega arith
 
@@ -59,9 +61,9 @@ module _ (T : List ℤ) (h : Sections) (w : Formed T h) where
           let p : length (tabulate 16 (objectAt T h)) ≤ o = omega (arith, length-tabulate 16 (objectAt T h), ltb-false o 16 e) in
           rw (List·getD-eq-default (tabulate 16 (objectAt T h)) 0 {n = o} p) (omega arith)
 
-  pub measured : {E : Environment} → E ≡ environmentOf T h → Measured E
+  pub measured : Measured (environmentOf T h)
   unfolding environmentOf
-  measured {E} e o = let q : getD (E .lengths) o 0 ≡ getD (tabulate 16 (objectAt T h)) o 0 = ap (λ (F : Environment). getD (F .lengths) o 0) e in rw q (lengths-short o)
+  measured o = lengths-short o
 
 -- Cause 6, then the walk.
 first-refused : (xs : List Refusal) (ys : List Refusal) {r : Refusal} → verdict xs ≡ layout-variant.Refused r → Refused r ≡ verdictOf (also xs ys)
@@ -79,11 +81,11 @@ module _ (T : List ℤ) (h : Sections) {l : Layout} (e : l ≡ verdict (layout T
   unfolding verdictRules.sectionFaults
   section-refused p = first-refused (layout T h) _ (sym e ∙ p)
 
-  pub section-walked : {E : Environment} {f : FactSet} {w : Walked} → l ≡ layout-variant.LaidOut → E ≡ environmentOf T h → f ≡ newSet
-      → Walks T h E (parse (h .statements) T h 0 (h .statements)) f w → w .verdict ≡ verdictOf (sectionFaults T h)
+  pub section-walked : {F : Force} {f : FactSet} {w : Walked} → l ≡ layout-variant.LaidOut → Forced (environmentOf T h) ownRows F → f ≡ newSet
+      → Walks T h (environmentOf T h) (parse (h .statements) T h 0 (h .statements)) (stateOf f (F .rows .each)) w → w .verdict ≡ verdictOf (sectionFaults T h)
   unfolding verdictRules.sectionFaults tree
-  section-walked p q n w =
-      w .said ∙ ap verdictOf (ap₂ (λ (F : Environment) (g : FactSet). blockFaults T h F (parse (h .statements) T h 0 (h .statements)) g) q n
+  section-walked p o n w =
+      w .said ∙ ap verdictOf (ap (blockFaults T h (environmentOf T h) (parse (h .statements) T h 0 (h .statements))) (ap₂ stateOf n (o .rows))
       ∙ sym (none-laid (layout T h) _ (sym e ∙ p)))
 
 module _ (T : List ℤ) {f : Form} (e : f ≡ formOf T) where

@@ -5,15 +5,17 @@ use mathlib.Core.Bool.{Bool, true, false}
 use mathlib.Core.List.{List, []}
 use native.Mathlib.Omega.{arith}
 use lib.IntN.{ℤ}
+use lib.ListN.{set, getD}
 use Rattle.facts.specs.Store.{joined}
 use Rattle.facts.specs.declared.FactSet.{FactSet}
 use Rattle.refusals.specs.declared.Refusal.{Refusal}
-use Rattle.refusals.specs.declared.Refusal.the-variants.{StatementRecord}
+use Rattle.refusals.specs.declared.Refusal.the-variants.{StatementRecord, RowsDiffer}
 use Rattle.sections.specs.declared.Sections.{Sections}
 use Rattle.conditions.specs.ConditionLaws.{offset-small}
 use Rattle.conditions.specs.declared.Condition.{Condition}
 use Rattle.conditions.specs.Negation.{negatedOf}
 use Rattle.statements.specs.declared.Simple.{Simple}
+use Rattle.statements.specs.declared.Simple.the-variants.{Declare}
 use Rattle.statements.specs.declared.Statement.{Statement}
 use Rattle.statements.specs.declared.Statement.the-variants.{Plain, If, While, Bundle}
 use Rattle.statements.specs.declared.StatementRead.the-variants.{Read, Unread}
@@ -21,65 +23,79 @@ use Rattle.statements.specs.Statements.{statementAt}
 use Rattle.statements.specs.StatementLaws.{read-typed, read-limits, read-counts-if, read-counts-while, read-counts-bundle}
 use Rattle.blocks.specs.Tree.{Block, nil, unread, simples, node, parse}
 use Rattle.blocks.specs.TreeLaws.{parse-none, parse-end, parse-some}
-use Rattle.blocks.specs.Layout.{also}
+use Rattle.blocks.specs.Layout.{also, when}
+use Rattle.rules.specs.States.{State}
 use Rattle.flow.specs.Targets.{targetsFrom}
-use Rattle.rules.specs.Stored.{factsAfter, conditionFacts, loopFacts, effect, unshown, bundleFacts, bundleBounds, bundleFaults, blockFacts, blockFaults, boundsAfter}
-use Rattle.rules.specs.BoundsRules.{isPointer}
-use Rattle.rules.specs.Rules.{boundsAt}
+use Rattle.rules.specs.Stored.{factsAfter, conditionFacts, loopFacts, effect, unshown, bundleBounds, bundleFaults, blockFaults, boundsAfter, stateAfter, assumed, atHead, unshownIn, rowUnshown, declaredIn, bundleAfter, sidesJoined, blockAfter}
+use Rattle.rules.specs.BoundsRules.{inForce}
+use Rattle.rules.specs.Rules.{boundsAt, sameRows, rowsAt}
 use Rattle.rules.specs.Verdict.{verdictOf}
 use Rattle.rules.specs.Ranges.{InRange}
 use Rattle.effects.specs.Applied.{Applied, applied}
-use Rattle.touched.specs.Touched.{namedIn, touches}
+use Rattle.touched.specs.Touched.{touches, seenAs, seenOf}
+use Rattle.touched.specs.declared.Seen.{Seen}
 use Rattle.declared.specs.UntouchedLaws.{unnamed}
 use Rattle.bundles.specs.Bundles.{WalksBundle}
 use Rattle.checker.specs.Walk.{Walks}
 use Rattle.effects.specs.FactRulesLaws.{read-ranged}
 use Rattle.rules.specs.declared.Environment.{Environment}
+use Rattle.lookups.specs.declared.Rows.{Rows}
 use Rattle.rules.specs.declared.Effect.{Effect}
+use Rattle.rules.specs.declared.Effect.the-variants.{Keep}
 use Rattle.rules.specs.declared.Verdict.{Verdict}
 use Rattle.rules.specs.declared.Verdict.the-variants.{Accepted, Refused}
 use Rattle.bundles.specs.declared.Walked.{Walked}
-use Rattle.bundles.specs.BundleLaws.{pass, stops, ends, carry, also-assoc, none-refused, applied-facts, applied-effect, lineFaults}
+use Rattle.declared.specs.Shown.{declaresOf}
+use Rattle.declared.specs.ShownLaws.{row-named, rows-stay, seen-unshown}
+use Rattle.declared.specs.declared.Declares.the-variants.{Row, NoRow}
+use Rattle.force.specs.Force.{stateOf, Forced, DeclaresRow}
+use Rattle.force.specs.ForceLaws.{pass, none-refused}
+use Rattle.force.specs.declared.Force.{Force}
+use Rattle.force.specs.declared.Declared.{Declared}
+use Rattle.bundles.specs.BundleLaws.{stops, ends, carry, also-assoc, applied-facts, applied-effect, lineFaults, declare-after, declare-keeps, nothing-asked, row-limits}
 use Rattle.rules.specs.Rules as walkRules
+use Rattle.rules.specs.RuleLaws.{same-rows}
 
 -- A walk of the one block is a walk of the other.
-pub record Same (T : List ℤ) (h : Sections) (E : Environment) (b : Block) (f : FactSet) (c : Block) (g : FactSet) : Type 0 where
-  pub blamed : blockFaults T h E b f ≡ blockFaults T h E c g
-  pub left : blockFacts T h E b f ≡ blockFacts T h E c g
+pub record Same (T : List ℤ) (h : Sections) (E : Environment) (b : Block) (v : State FactSet) (c : Block) (w : State FactSet) : Type 0 where
+  pub blamed : blockFaults T h E b v ≡ blockFaults T h E c w
+  pub left : blockAfter T h E b v ≡ blockAfter T h E c w
 
--- The loop's invariant: a walk of what is left, from the facts now, is a walk of the whole.
-pub record Kept (T : List ℤ) (h : Sections) (E : Environment) (end allowed : ℕ) (b : Block) (f₀ : FactSet) (at left : ℕ) (f : FactSet) : Type 0 where
-  pub same : Same T h E b f₀ (parse left T h at end) f
+-- The loop's invariant: a walk of what is left, from the facts now and what is in force now, is a walk of the whole.
+pub record Kept (T : List ℤ) (h : Sections) (E : Environment) (end allowed : ℕ) (b : Block) (w₀ : State FactSet) (at left : ℕ) (f : FactSet) (F : Force) : Type 0 where
+  pub same : Same T h E b w₀ (parse left T h at end) (stateOf f (F .rows .each))
+  pub forced : Forced E (F .rows .each) F
   pub less : left ≤ allowed
 
-pub kept-none : (T : List ℤ) (h : Sections) (E : Environment) (first end allowed : ℕ) (f₀ : FactSet) → Kept T h E end allowed (parse allowed T h first end) f₀ first allowed f₀
-kept-none T h E first end allowed f₀ = record { same = record { blamed = refl; left = refl }; less = omega arith }
+pub kept-none : (T : List ℤ) (h : Sections) (E : Environment) (first end allowed : ℕ) (f : FactSet) (F : Force) → Forced E (F .rows .each) F
+    → Kept T h E end allowed (parse allowed T h first end) (stateOf f (F .rows .each)) first allowed f F
+kept-none T h E first end allowed f F o = record { same = record { blamed = refl; left = refl }; forced = o; less = omega arith }
 
-nil-passes : (T : List ℤ) (h : Sections) (E : Environment) (b : Block) (f : FactSet) {w : Walked} → b ≡ nil → w .verdict ≡ Accepted → w .facts ≡ f → Walks T h E b f w
-unfolding walkRules.blockFaults walkRules.blockFacts
-nil-passes T h E b f e p q = rw e (ends refl p q)
+nil-passes : (T : List ℤ) (h : Sections) (E : Environment) (b : Block) (v : State FactSet) {w : Walked} → b ≡ nil → w .verdict ≡ Accepted → stateOf (w .facts) (w .rows .each) ≡ v → Walks T h E b v w
+unfolding walkRules.blockFaults walkRules.blockAfter
+nil-passes T h E b v e p q = rw e (ends refl p q)
 
-unread-stops : (T : List ℤ) (h : Sections) (E : Environment) (b : Block) (f : FactSet) (a : ℕ) {w : Walked} → b ≡ unread a → w .verdict ≡ Refused (StatementRecord a) → Walks T h E b f w
+unread-stops : (T : List ℤ) (h : Sections) (E : Environment) (b : Block) (v : State FactSet) (a : ℕ) {w : Walked} → b ≡ unread a → w .verdict ≡ Refused (StatementRecord a) → Walks T h E b v w
 unfolding walkRules.blockFaults verdictOf
-unread-stops T h E b f a e p = rw e (record { said = p; kept = λ q. let o : _≡_ {A = ℕ} 0 1 = cc in absurd (omega arith) })
+unread-stops T h E b v a e p = rw e (record { said = p; kept = λ q. let o : _≡_ {A = ℕ} 0 1 = cc in absurd (omega arith) })
 
-module _ {T : List ℤ} {h : Sections} {E : Environment} {end allowed : ℕ} {b : Block} {f₀ : FactSet} {at left : ℕ} {f : FactSet} (k : Kept T h E end allowed b f₀ at left f) where
-  walks : {w : Walked} → Walks T h E (parse left T h at end) f w → Walks T h E b f₀ w
+module _ {T : List ℤ} {h : Sections} {E : Environment} {end allowed : ℕ} {b : Block} {w₀ : State FactSet} {at left : ℕ} {f : FactSet} {F : Force} (k : Kept T h E end allowed b w₀ at left f F) where
+  walks : {w : Walked} → Walks T h E (parse left T h at end) (stateOf f (F .rows .each)) w → Walks T h E b w₀ w
   walks p = carry (k .same .blamed) (k .same .left) p
 
-  pub kept-done : {w : Walked} → left ≤ 0 → w .verdict ≡ Accepted → w .facts ≡ f → Walks T h E b f₀ w
-  kept-done z p q = walks (nil-passes T h E _ f (parse-none left T h at end z) p q)
+  pub kept-done : {w : Walked} → left ≤ 0 → w .verdict ≡ Accepted → w .facts ≡ f → w .rows ≡ F .rows → Walks T h E b w₀ w
+  kept-done z p q r = walks (nil-passes T h E _ _ (parse-none left T h at end z) p (ap₂ (λ (g : FactSet) (x : Rows). stateOf g (x .each)) q r))
 
-  pub kept-end : {w : Walked} → end ≤ at → w .verdict ≡ Accepted → w .facts ≡ f → Walks T h E b f₀ w
-  kept-end z p q = walks (nil-passes T h E _ f (parse-end left T h at end z) p q)
+  pub kept-end : {w : Walked} → end ≤ at → w .verdict ≡ Accepted → w .facts ≡ f → w .rows ≡ F .rows → Walks T h E b w₀ w
+  kept-end z p q r = walks (nil-passes T h E _ _ (parse-end left T h at end z) p (ap₂ (λ (g : FactSet) (x : Rows). stateOf g (x .each)) q r))
 
   module _ (some : 0 < left) (within : at < end) where
-    pub kept-unread : {w : Walked} → statementAt T h at ≡ Unread → w .verdict ≡ Refused (StatementRecord at) → Walks T h E b f₀ w
-    kept-unread e p = walks (unread-stops T h E _ f at (parse-some left T h at end Unread some within e) p)
+    pub kept-unread : {w : Walked} → statementAt T h at ≡ Unread → w .verdict ≡ Refused (StatementRecord at) → Walks T h E b w₀ w
+    kept-unread e p = walks (unread-stops T h E _ _ at (parse-some left T h at end Unread some within e) p)
 
 -- A turn of the loop, once its statement is read.
-pub record Turn (T : List ℤ) (h : Sections) (E : Environment) (end allowed : ℕ) (b : Block) (f₀ : FactSet) (at left : ℕ) (f : FactSet) (s : Statement) : Type 0 where
-  pub so-far : Kept T h E end allowed b f₀ at left f
+pub record Turn (T : List ℤ) (h : Sections) (E : Environment) (end allowed : ℕ) (b : Block) (w₀ : State FactSet) (at left : ℕ) (f : FactSet) (F : Force) (s : Statement) : Type 0 where
+  pub so-far : Kept T h E end allowed b w₀ at left f F
   pub some : 0 < left
   pub within : at < end
   pub read : statementAt T h at ≡ Read s
@@ -88,155 +104,252 @@ pub record Turn (T : List ℤ) (h : Sections) (E : Environment) (end allowed : �
 abbrev rest : List ℤ → Sections → ℕ → ℕ → ℕ → Block
 rest T h left x y = parse (left - 1) T h x y
 
-module _ (T : List ℤ) (h : Sections) (E : Environment) (at left end : ℕ) (f : FactSet) where
+module _ (T : List ℤ) (h : Sections) (E : Environment) (at left end : ℕ) (w : State FactSet) where
   abbrev at-statement : Statement → Block
   at-statement s = node true (Read s) (rest T h left) T h at end
 
+  abbrev after-then : Condition → ℕ → State FactSet
+  after-then c n = blockAfter T h E (rest T h left (at + 1) (at + 1 + n)) (assumed w c)
+
+  abbrev after-else : Condition → ℕ → ℕ → State FactSet
+  after-else c n m = blockAfter T h E (rest T h left (at + 1 + n) (at + 1 + n + m)) (assumed w (negatedOf c))
+
+  abbrev head-state : ℕ → State FactSet
+  head-state n = atHead (targetsFrom T h (at + 1) n) w
+
   abbrev kindFaults : Statement → List Refusal
-  kindFaults (Plain s) = also (boundsAt at (unshown E (factsAfter s f) (boundsAfter (effect E f s) (E .declared)))) (blockFaults T h E (rest T h left (at + 1) end) (factsAfter s f))
+  kindFaults (Plain s) =
+      also (boundsAt at (rowUnshown E (w .facts) (declaredIn E w) s))
+      (also (boundsAt at (unshownIn E (stateAfter s w) (boundsAfter (effect E (w .facts) s) (declaredIn E w)))) (blockFaults T h E (rest T h left (at + 1) end) (stateAfter s w)))
   kindFaults (If c n m) =
-      also (blockFaults T h E (rest T h left (at + 1) (at + 1 + n)) (conditionFacts f c))
-      (also (blockFaults T h E (rest T h left (at + 1 + n) (at + 1 + n + m)) (conditionFacts f (negatedOf c)))
-      (blockFaults T h E (rest T h left (at + 1 + n + m) end)
-      (joined (isPointer E) (blockFacts T h E (rest T h left (at + 1) (at + 1 + n)) (conditionFacts f c)) (blockFacts T h E (rest T h left (at + 1 + n) (at + 1 + n + m)) (conditionFacts f (negatedOf c))))))
+      also (blockFaults T h E (rest T h left (at + 1) (at + 1 + n)) (assumed w c))
+      (also (blockFaults T h E (rest T h left (at + 1 + n) (at + 1 + n + m)) (assumed w (negatedOf c)))
+      (also (rowsAt at (after-then c n .rows) (after-else c n m .rows))
+      (blockFaults T h E (rest T h left (at + 1 + n + m) end) (sidesJoined T h E (after-then c n) (after-else c n m)))))
   kindFaults (While c n) =
-      also (blockFaults T h E (rest T h left (at + 1) (at + 1 + n)) (conditionFacts (loopFacts (targetsFrom T h (at + 1) n) f) c))
-      (blockFaults T h E (rest T h left (at + 1 + n) end) (conditionFacts (loopFacts (targetsFrom T h (at + 1) n) f) (negatedOf c)))
+      also (blockFaults T h E (rest T h left (at + 1) (at + 1 + n)) (assumed (head-state n) c))
+      (also (rowsAt at (w .rows) (blockAfter T h E (rest T h left (at + 1) (at + 1 + n)) (assumed (head-state n) c) .rows))
+      (blockFaults T h E (rest T h left (at + 1 + n) end) (assumed (head-state n) (negatedOf c))))
   kindFaults (Bundle n) =
-      also (bundleFaults E (at + 1) (simples n T h (at + 1)) f (E .declared))
-      (also (boundsAt at (unshown E (bundleFacts (simples n T h (at + 1)) f) (bundleBounds E (simples n T h (at + 1)) f (E .declared))))
-      (blockFaults T h E (rest T h left (at + 1 + n) end) (bundleFacts (simples n T h (at + 1)) f)))
+      also (bundleFaults E (at + 1) (simples n T h (at + 1)) w (declaredIn E w))
+      (also (boundsAt at (unshownIn E (bundleAfter (simples n T h (at + 1)) w) (bundleBounds E (simples n T h (at + 1)) w (declaredIn E w))))
+      (blockFaults T h E (rest T h left (at + 1 + n) end) (bundleAfter (simples n T h (at + 1)) w)))
 
-  abbrev kindFacts : Statement → FactSet
-  kindFacts (Plain s) = blockFacts T h E (rest T h left (at + 1) end) (factsAfter s f)
-  kindFacts (If c n m) = blockFacts T h E (rest T h left (at + 1 + n + m) end)
-      (joined (isPointer E) (blockFacts T h E (rest T h left (at + 1) (at + 1 + n)) (conditionFacts f c)) (blockFacts T h E (rest T h left (at + 1 + n) (at + 1 + n + m)) (conditionFacts f (negatedOf c))))
-  kindFacts (While c n) = blockFacts T h E (rest T h left (at + 1 + n) end) (conditionFacts (loopFacts (targetsFrom T h (at + 1) n) f) (negatedOf c))
-  kindFacts (Bundle n) = blockFacts T h E (rest T h left (at + 1 + n) end) (bundleFacts (simples n T h (at + 1)) f)
+  abbrev kindAfter : Statement → State FactSet
+  kindAfter (Plain s) = blockAfter T h E (rest T h left (at + 1) end) (stateAfter s w)
+  kindAfter (If c n m) = blockAfter T h E (rest T h left (at + 1 + n + m) end) (sidesJoined T h E (after-then c n) (after-else c n m))
+  kindAfter (While c n) = blockAfter T h E (rest T h left (at + 1 + n) end) (assumed (head-state n) (negatedOf c))
+  kindAfter (Bundle n) = blockAfter T h E (rest T h left (at + 1 + n) end) (bundleAfter (simples n T h (at + 1)) w)
 
-  faults-here : (s : Statement) → blockFaults T h E (at-statement s) f ≡ kindFaults s
+  faults-here : (s : Statement) → blockFaults T h E (at-statement s) w ≡ kindFaults s
   unfolding walkRules.blockFaults
   faults-here (Plain s) = refl
   faults-here (If c n m) = refl
   faults-here (While c n) = refl
   faults-here (Bundle n) = refl
 
-  facts-here : (s : Statement) → blockFacts T h E (at-statement s) f ≡ kindFacts s
-  unfolding walkRules.blockFacts
-  facts-here (Plain s) = refl
-  facts-here (If c n m) = refl
-  facts-here (While c n) = refl
-  facts-here (Bundle n) = refl
+  after-here : (s : Statement) → blockAfter T h E (at-statement s) w ≡ kindAfter s
+  unfolding walkRules.blockAfter
+  after-here (Plain s) = refl
+  after-here (If c n m) = refl
+  after-here (While c n) = refl
+  after-here (Bundle n) = refl
+
+-- 13, where the rows are not the same, and nothing where they are.
+rows-refused : (a : ℕ) (R Q : List ℕ) → sameRows R Q ≡ false → Refused (RowsDiffer a) ≡ verdictOf (rowsAt a R Q)
+unfolding rowsAt when verdictOf
+rows-refused a R Q e = rw e refl
+
+rows-clear : (a : ℕ) (R Q : List ℕ) → sameRows R Q ≡ true → rowsAt a R Q ≡ []
+unfolding rowsAt when
+rows-clear a R Q e = rw e refl
+
+-- What is in force stays where the rows do; else it is made anew.
+pub same-force : {E : Environment} {F : Force} {R : List ℕ} {b : Bool} → Forced E (F .rows .each) F → b ≡ sameRows (F .rows .each) R → b ≡ true → Forced E R F
+same-force {E} {F} {R} o e t =
+    let q : F .rows .each ≡ R = same-rows (F .rows .each) R (sym e ∙ t) in
+    record { rows = q; seen = o .seen ∙ ap (λ (x : List ℕ). seenOf (inForce E x)) q; named = o .named }
+
+pub forced-own : {E : Environment} {F : Force} {R : List ℕ} → Forced E R F → Forced E (F .rows .each) F
+forced-own {E} {F} o = record { rows = refl; seen = o .seen ∙ ap (λ (x : List ℕ). seenOf (inForce E x)) (sym (o .rows)); named = o .named }
 
 -- A negated condition has the same offset.
 pub negated-offset : (c d : Condition) → d ≡ negatedOf c → c .offset < 2 ^ 32 → d .offset < 2 ^ 32
 unfolding negatedOf
 negated-offset c d e h = rw e h
 
-module _ {T : List ℤ} {h : Sections} {E : Environment} {end allowed : ℕ} {b : Block} {f₀ : FactSet} {at left : ℕ} {f : FactSet} where
-  pub arm : {s r : Statement} → Turn T h E end allowed b f₀ at left f s → s ≡ r → Turn T h E end allowed b f₀ at left f r
+module _ {T : List ℤ} {h : Sections} {E : Environment} {end allowed : ℕ} {b : Block} {w₀ : State FactSet} {at left : ℕ} {f : FactSet} {F : Force} where
+  pub arm : {s r : Statement} → Turn T h E end allowed b w₀ at left f F s → s ≡ r → Turn T h E end allowed b w₀ at left f F r
   arm u e = rw e at u
 
-  pub falls : {s : Statement} {t : ℕ} → Turn T h E end allowed b f₀ at left f s → allowed ≡ t → left - 1 < t
+  pub falls : {s : Statement} {t : ℕ} → Turn T h E end allowed b w₀ at left f F s → allowed ≡ t → left - 1 < t
   falls u e = omega (arith, u .some, u .so-far .less)
 
-  pub placed : {s : Statement} → Turn T h E end allowed b f₀ at left f s → at < 1024
+  pub placed : {s : Statement} → Turn T h E end allowed b w₀ at left f F s → at < 1024
   placed u = let l = read-limits T h at _ (u .read) in omega (arith, l .0 .statements, l .1)
 
-  pub if-counts : {c : Condition} {n m : ℕ} → Turn T h E end allowed b f₀ at left f (If c n m) → (n < 2 ^ 31) × (m < 2 ^ 31)
+  pub if-counts : {c : Condition} {n m : ℕ} → Turn T h E end allowed b w₀ at left f F (If c n m) → (n < 2 ^ 31) × (m < 2 ^ 31)
   if-counts {c} {n} {m} u = read-counts-if T h at c n m (u .read)
 
-  pub while-count : {c : Condition} {n : ℕ} → Turn T h E end allowed b f₀ at left f (While c n) → n < 2 ^ 31
+  pub while-count : {c : Condition} {n : ℕ} → Turn T h E end allowed b w₀ at left f F (While c n) → n < 2 ^ 31
   while-count {c} {n} u = read-counts-while T h at c n (u .read)
 
-  pub bundle-count : {n : ℕ} → Turn T h E end allowed b f₀ at left f (Bundle n) → n < 2 ^ 31
+  pub bundle-count : {n : ℕ} → Turn T h E end allowed b w₀ at left f F (Bundle n) → n < 2 ^ 31
   bundle-count {n} u = read-counts-bundle T h at n (u .read)
 
-  pub if-offset : {c : Condition} {n m : ℕ} → Turn T h E end allowed b f₀ at left f (If c n m) → c .offset < 2 ^ 32
+  pub if-offset : {c : Condition} {n m : ℕ} → Turn T h E end allowed b w₀ at left f F (If c n m) → c .offset < 2 ^ 32
   if-offset {c} {n} {m} u = offset-small (read-typed T h at (If c n m) (u .read) .condition)
 
-  pub while-offset : {c : Condition} {n : ℕ} → Turn T h E end allowed b f₀ at left f (While c n) → c .offset < 2 ^ 32
+  pub while-offset : {c : Condition} {n : ℕ} → Turn T h E end allowed b w₀ at left f F (While c n) → c .offset < 2 ^ 32
   while-offset {c} {n} u = offset-small (read-typed T h at (While c n) (u .read) .condition)
 
-  pub plain-ranged : {p : Simple} → Turn T h E end allowed b f₀ at left f (Plain p) → InRange p
+  pub plain-ranged : {p : Simple} → Turn T h E end allowed b w₀ at left f F (Plain p) → InRange p
   plain-ranged {p} u = read-ranged T h at p (u .read)
 
-  module _ (s : Statement) (u : Turn T h E end allowed b f₀ at left f s) where
-    here : blockFaults T h E b f₀ ≡ kindFaults T h E at left end f s
-    here = u .so-far .same .blamed ∙ (ap (λ (x : Block). blockFaults T h E x f) (parse-some left T h at end _ (u .some) (u .within) (u .read)) ∙ faults-here T h E at left end f s)
+  pub row-named-within : {p : Simple} {y r : ℕ} → Turn T h E end allowed b w₀ at left f F (Plain p) → declaresOf p ≡ Row y r → (y < 16) × (r < 64)
+  row-named-within u n = row-limits T h at (u .read) refl n
 
-    whole-facts : blockFacts T h E b f₀ ≡ kindFacts T h E at left end f s
-    whole-facts = u .so-far .same .left ∙ (ap (λ (x : Block). blockFacts T h E x f) (parse-some left T h at end _ (u .some) (u .within) (u .read)) ∙ facts-here T h E at left end f s)
+  module _ (s : Statement) (u : Turn T h E end allowed b w₀ at left f F s) where
+    here : blockFaults T h E b w₀ ≡ kindFaults T h E at left end (stateOf f (F .rows .each)) s
+    here = u .so-far .same .blamed ∙ (ap (λ (x : Block). blockFaults T h E x (stateOf f (F .rows .each))) (parse-some left T h at end _ (u .some) (u .within) (u .read)) ∙ faults-here T h E at left end (stateOf f (F .rows .each)) s)
+
+    whole-after : blockAfter T h E b w₀ ≡ kindAfter T h E at left end (stateOf f (F .rows .each)) s
+    whole-after = u .so-far .same .left ∙ (ap (λ (x : Block). blockAfter T h E x (stateOf f (F .rows .each))) (parse-some left T h at end _ (u .some) (u .within) (u .read)) ∙ after-here T h E at left end (stateOf f (F .rows .each)) s)
 
   -- The next turn.
-  next : {s : Statement} {x : ℕ} {g i : FactSet} → Turn T h E end allowed b f₀ at left f s
-      → blockFaults T h E b f₀ ≡ blockFaults T h E (rest T h left x end) i → blockFacts T h E b f₀ ≡ blockFacts T h E (rest T h left x end) i → g ≡ i
-      → Kept T h E end allowed b f₀ x (left - 1) g
-  next {s} {x} u p q e = record {
-    same = record { blamed = p ∙ ap (blockFaults T h E (rest T h left x end)) (sym e); left = q ∙ ap (blockFacts T h E (rest T h left x end)) (sym e) };
+  next : {s : Statement} {x : ℕ} {g : FactSet} {G : Force} {i : State FactSet} → Turn T h E end allowed b w₀ at left f F s
+      → blockFaults T h E b w₀ ≡ blockFaults T h E (rest T h left x end) i → blockAfter T h E b w₀ ≡ blockAfter T h E (rest T h left x end) i → stateOf g (G .rows .each) ≡ i
+      → Forced E (G .rows .each) G → Kept T h E end allowed b w₀ x (left - 1) g G
+  next {s} {x} u p q e o = record {
+    same = record { blamed = p ∙ ap (blockFaults T h E (rest T h left x end)) (sym e); left = q ∙ ap (blockAfter T h E (rest T h left x end)) (sym e) };
+    forced = o;
     less = omega (arith, u .so-far .less);
   }
 
-  module _ {p : Simple} (u : Turn T h E end allowed b f₀ at left f (Plain p)) {d : Applied} (e : d ≡ applied (E .lengths) f p)
-      {v : Verdict} (z : v ≡ verdictOf (boundsAt at (unshown E (d .facts) (boundsAfter (d .effect) (E .declared))))) where
-    shown-here : v ≡ verdictOf (boundsAt at (unshown E (factsAfter p f) (boundsAfter (effect E f p) (E .declared))))
-    shown-here = z ∙ ap₂ (λ (g : FactSet) (x : Effect). verdictOf (boundsAt at (unshown E g (boundsAfter x (E .declared))))) (applied-facts E f p e) (applied-effect E f p e)
+  -- Any kind but 14.
+  module _ {p : Simple} (u : Turn T h E end allowed b w₀ at left f F (Plain p)) (n : declaresOf p ≡ NoRow) {d : Applied} (e : d ≡ applied (E .lengths) f p)
+      {v : Verdict} (z : v ≡ verdictOf (boundsAt at (unshown (seenAs (F .seen)) (d .facts) (boundsAfter (d .effect) (F .seen .declared))))) where
+    still : stateAfter p (stateOf f (F .rows .each)) ≡ stateOf (factsAfter p f) (F .rows .each)
+    still = ap (stateOf (factsAfter p f)) (rows-stay p (F .rows .each) n)
 
-    pub plain-refused : {w : Walked} {r : Refusal} → w .verdict ≡ v → v ≡ Refused r → Walks T h E b f₀ w
-    plain-refused q x = stops _ _ (here (Plain p) u) (q ∙ shown-here) (q ∙ x)
+    shown-here : v ≡ verdictOf (boundsAt at (unshownIn E (stateAfter p (stateOf f (F .rows .each))) (boundsAfter (effect E f p) (declaredIn E (stateOf f (F .rows .each))))))
+    shown-here =
+        z ∙ (ap (λ (x : Seen). verdictOf (boundsAt at (unshown (seenAs x) (d .facts) (boundsAfter (d .effect) (x .declared))))) (u .so-far .forced .seen)
+        ∙ (ap (λ (ps : List ℕ). verdictOf (boundsAt at ps)) (seen-unshown (inForce E (F .rows .each)) (d .facts) (boundsAfter (d .effect) (declaredIn E (stateOf f (F .rows .each)))))
+        ∙ (ap₂ (λ (g : FactSet) (x : Effect). verdictOf (boundsAt at (unshown (inForce E (F .rows .each)) g (boundsAfter x (declaredIn E (stateOf f (F .rows .each))))))) (applied-facts E f p e) (applied-effect E f p e)
+        ∙ ap (λ (w : State FactSet). verdictOf (boundsAt at (unshownIn E w (boundsAfter (effect E f p) (declaredIn E (stateOf f (F .rows .each))))))) (sym still))))
 
-    pub turn-plain : v ≡ Accepted → Kept T h E end allowed b f₀ (at + 1) (left - 1) (d .facts)
-    turn-plain x = next u (here (Plain p) u ∙ pass _ _ (none-refused _ shown-here x)) (whole-facts (Plain p) u) (applied-facts E f p e)
+    plain-here : blockFaults T h E b w₀ ≡ also (boundsAt at (unshownIn E (stateAfter p (stateOf f (F .rows .each))) (boundsAfter (effect E f p) (declaredIn E (stateOf f (F .rows .each)))))) (blockFaults T h E (rest T h left (at + 1) end) (stateAfter p (stateOf f (F .rows .each))))
+    plain-here = here (Plain p) u ∙ pass _ _ (nothing-asked E f (declaredIn E (stateOf f (F .rows .each))) p at n)
+
+    pub plain-refused : {w : Walked} {r : Refusal} → w .verdict ≡ v → v ≡ Refused r → Walks T h E b w₀ w
+    plain-refused q x = stops _ _ plain-here (q ∙ shown-here) (q ∙ x)
+
+    pub turn-plain : v ≡ Accepted → Kept T h E end allowed b w₀ (at + 1) (left - 1) (d .facts) F
+    turn-plain x =
+        next u (plain-here ∙ pass _ _ (none-refused _ shown-here x)) (whole-after (Plain p) u) (ap (λ (g : FactSet). stateOf g (F .rows .each)) (applied-facts E f p e) ∙ sym still) (u .so-far .forced)
 
   -- Nothing has to be shown again.
-  pub turn-untouched : {p : Simple} → Turn T h E end allowed b f₀ at left f (Plain p) → {d : Applied} → d ≡ applied (E .lengths) f p
-      → {named : List Bool} → named ≡ namedIn E → touches named (E .pointers) (d .effect) ≡ false → Kept T h E end allowed b f₀ (at + 1) (left - 1) (d .facts)
+  pub turn-untouched : {p : Simple} → Turn T h E end allowed b w₀ at left f F (Plain p) → declaresOf p ≡ NoRow → {d : Applied} → d ≡ applied (E .lengths) f p
+      → {P : List Bool} → P ≡ E .pointers → touches (F .named .each) P (d .effect) ≡ false → Kept T h E end allowed b w₀ (at + 1) (left - 1) (d .facts) F
   unfolding boundsAt verdictOf
-  turn-untouched u {d} e r x = turn-plain u e {v = Accepted} (sym (ap (λ (ps : List ℕ). verdictOf (boundsAt at ps)) (unnamed E (d .effect) r x (d .facts)))) refl
+  turn-untouched u n {d} e y x =
+      turn-plain u n e {v = Accepted}
+      (sym (ap (λ (ps : List ℕ). verdictOf (boundsAt at ps)) (unnamed (seenAs (F .seen)) (d .effect) (u .so-far .forced .named) (ap (λ (z : List Bool). touches (F .named .each) z (d .effect)) (ap (λ (s : Seen). s .pointers) (u .so-far .forced .seen) ∙ sym y) ∙ x) (d .facts)))) refl
 
-  module _ {c : Condition} {n m : ℕ} (u : Turn T h E end allowed b f₀ at left f (If c n m))
-      {g : FactSet} (e : g ≡ conditionFacts f c) {r : Walked} (w : Walks T h E (rest T h left (at + 1) (at + 1 + n)) g r) where
-    then-walk : Walks T h E (rest T h left (at + 1) (at + 1 + n)) (conditionFacts f c) r
+  -- Kind 14.
+  module _ {p : Simple} (u : Turn T h E end allowed b w₀ at left f F (Plain p)) {y r : ℕ} (n : declaresOf p ≡ Row y r) {d : Declared} (z : DeclaresRow E f (F .rows .each) y r at d) where
+    row-after : stateAfter p (stateOf f (F .rows .each)) ≡ stateOf f (set (F .rows .each) y (r + 1))
+    row-after = ap (λ (s : Simple). stateAfter s (stateOf f (F .rows .each))) (row-named p y r n) ∙ declare-after y r f (F .rows .each)
+
+    row-here : blockFaults T h E b w₀ ≡ also (also (boundsAt at (rowUnshown E f (declaredIn E (stateOf f (F .rows .each))) (Declare y r))) (boundsAt at (unshown (inForce E (set (F .rows .each) y (r + 1))) f (boundsAfter Keep (declaredIn E (stateOf f (F .rows .each)))))))
+        (blockFaults T h E (rest T h left (at + 1) end) (stateOf f (set (F .rows .each) y (r + 1))))
+    row-here =
+        here (Plain p) u ∙ (ap (λ (s : Simple). kindFaults T h E at left end (stateOf f (F .rows .each)) (Plain s)) (row-named p y r n)
+        ∙ (ap₂ (λ (w : State FactSet) (x : Effect). also (boundsAt at (rowUnshown E f (declaredIn E (stateOf f (F .rows .each))) (Declare y r)))
+        (also (boundsAt at (unshownIn E w (boundsAfter x (declaredIn E (stateOf f (F .rows .each)))))) (blockFaults T h E (rest T h left (at + 1) end) w))) (declare-after y r f (F .rows .each)) (declare-keeps E f y r)
+        ∙ sym (also-assoc _ _ _)))
+
+    pub row-refused : {w : Walked} {x : Refusal} → w .verdict ≡ d .verdict → d .verdict ≡ Refused x → Walks T h E b w₀ w
+    row-refused q x = stops _ _ row-here (q ∙ z .said) (q ∙ x)
+
+    pub turn-row : d .verdict ≡ Accepted → Kept T h E end allowed b w₀ (at + 1) (left - 1) f (d .force)
+    turn-row x =
+        let o = z .kept x in
+        next u (row-here ∙ pass _ _ (none-refused _ (z .said) x)) (whole-after (Plain p) u ∙ ap (blockAfter T h E (rest T h left (at + 1) end)) row-after) (ap (stateOf f) (o .rows)) (forced-own o)
+
+  module _ {c : Condition} {n m : ℕ} (u : Turn T h E end allowed b w₀ at left f F (If c n m))
+      {g : FactSet} (e : g ≡ conditionFacts f c) {r : Walked} (w : Walks T h E (rest T h left (at + 1) (at + 1 + n)) (stateOf g (F .rows .each)) r) where
+    then-walk : Walks T h E (rest T h left (at + 1) (at + 1 + n)) (assumed (stateOf f (F .rows .each)) c) r
     then-walk = rw e at w
 
-    pub then-refused : {v : Refusal} → r .verdict ≡ Refused v → Walks T h E b f₀ r
+    pub then-refused : {v : Refusal} → r .verdict ≡ Refused v → Walks T h E b w₀ r
     then-refused x = stops _ _ (here (If c n m) u) (then-walk .said) x
 
     module _ (q : r .verdict ≡ Accepted) {i : FactSet} {d : Condition} (j : d ≡ negatedOf c) (k : i ≡ conditionFacts f d) {o : Walked}
-        (z : Walks T h E (rest T h left (at + 1 + n) (at + 1 + n + m)) i o) where
-      else-walk : Walks T h E (rest T h left (at + 1 + n) (at + 1 + n + m)) (conditionFacts f (negatedOf c)) o
+        (z : Walks T h E (rest T h left (at + 1 + n) (at + 1 + n + m)) (stateOf i (F .rows .each)) o) where
+      else-walk : Walks T h E (rest T h left (at + 1 + n) (at + 1 + n + m)) (assumed (stateOf f (F .rows .each)) (negatedOf c)) o
       else-walk = rw (k, j) at z
 
-      then-clear : blockFaults T h E (rest T h left (at + 1) (at + 1 + n)) (conditionFacts f c) ≡ []
+      then-clear : blockFaults T h E (rest T h left (at + 1) (at + 1 + n)) (assumed (stateOf f (F .rows .each)) c) ≡ []
       then-clear = none-refused _ (then-walk .said) q
 
-      pub else-refused : {v : Refusal} → o .verdict ≡ Refused v → Walks T h E b f₀ o
+      pub else-refused : {v : Refusal} → o .verdict ≡ Refused v → Walks T h E b w₀ o
       else-refused x = stops _ _ (here (If c n m) u ∙ pass _ _ then-clear) (else-walk .said) x
 
-      pub turn-if : {x : FactSet} → o .verdict ≡ Accepted → x ≡ joined (isPointer E) (r .facts) (o .facts) → Kept T h E end allowed b f₀ (at + 1 + n + m) (left - 1) x
-      turn-if x y =
-          let else-clear = none-refused _ (else-walk .said) x in
-          next u (here (If c n m) u ∙ (pass _ _ then-clear ∙ pass _ _ else-clear)) (whole-facts (If c n m) u) (y ∙ ap₂ (joined (isPointer E)) (then-walk .kept then-clear) (else-walk .kept else-clear))
+      module _ (x : o .verdict ≡ Accepted) {s : Bool} (l : s ≡ sameRows (r .rows .each) (o .rows .each)) where
+        else-clear : blockFaults T h E (rest T h left (at + 1 + n) (at + 1 + n + m)) (assumed (stateOf f (F .rows .each)) (negatedOf c)) ≡ []
+        else-clear = none-refused _ (else-walk .said) x
 
-  module _ {c : Condition} {n : ℕ} (u : Turn T h E end allowed b f₀ at left f (While c n))
-      {l : FactSet} (y : l ≡ loopFacts (targetsFrom T h (at + 1) n) f) {g : FactSet} (e : g ≡ conditionFacts l c) {r : Walked} (w : Walks T h E (rest T h left (at + 1) (at + 1 + n)) g r) where
-    body-walk : Walks T h E (rest T h left (at + 1) (at + 1 + n)) (conditionFacts (loopFacts (targetsFrom T h (at + 1) n) f) c) r
+        sides-here : blockFaults T h E b w₀ ≡ also (rowsAt at (r .rows .each) (o .rows .each)) (blockFaults T h E (rest T h left (at + 1 + n + m) end) (sidesJoined T h E (stateOf (r .facts) (r .rows .each)) (stateOf (o .facts) (o .rows .each))))
+        sides-here =
+            here (If c n m) u ∙ (pass _ _ then-clear ∙ (pass _ _ else-clear
+            ∙ ap₂ (λ (v w : State FactSet). also (rowsAt at (v .rows) (w .rows)) (blockFaults T h E (rest T h left (at + 1 + n + m) end) (sidesJoined T h E v w))) (sym (then-walk .kept then-clear)) (sym (else-walk .kept else-clear))))
+
+        pub sides-differ : {w : Walked} → s ≡ false → w .verdict ≡ Refused (RowsDiffer at) → Walks T h E b w₀ w
+        sides-differ t v = stops _ _ sides-here (v ∙ rows-refused at (r .rows .each) (o .rows .each) (sym l ∙ t)) v
+
+        pub turn-if : {y : FactSet} {G : Force} → s ≡ true → {P : List Bool} → P ≡ E .pointers → y ≡ joined (λ v. getD P v false) (r .facts) (o .facts) → Forced E (r .rows .each) G
+            → Kept T h E end allowed b w₀ (at + 1 + n + m) (left - 1) y G
+        turn-if t {P} p y a =
+            next u (sides-here ∙ pass _ _ (rows-clear at (r .rows .each) (o .rows .each) (sym l ∙ t)))
+            (whole-after (If c n m) u ∙ ap₂ (λ (v w : State FactSet). blockAfter T h E (rest T h left (at + 1 + n + m) end) (sidesJoined T h E v w)) (sym (then-walk .kept then-clear)) (sym (else-walk .kept else-clear)))
+            (ap₂ stateOf (y ∙ ap (λ (Q : List Bool). joined (λ v. getD Q v false) (r .facts) (o .facts)) p) (a .rows)) (forced-own a)
+
+  module _ {c : Condition} {n : ℕ} (u : Turn T h E end allowed b w₀ at left f F (While c n))
+      {l : FactSet} (y : l ≡ loopFacts (targetsFrom T h (at + 1) n) f) {g : FactSet} (e : g ≡ conditionFacts l c) {r : Walked} (w : Walks T h E (rest T h left (at + 1) (at + 1 + n)) (stateOf g (F .rows .each)) r) where
+    body-walk : Walks T h E (rest T h left (at + 1) (at + 1 + n)) (assumed (head-state T h E at left end (stateOf f (F .rows .each)) n) c) r
     body-walk = rw (e, y) at w
 
-    pub body-refused : {v : Refusal} → r .verdict ≡ Refused v → Walks T h E b f₀ r
+    pub body-refused : {v : Refusal} → r .verdict ≡ Refused v → Walks T h E b w₀ r
     body-refused x = stops _ _ (here (While c n) u) (body-walk .said) x
 
-    pub turn-while : {d : Condition} {i : FactSet} → r .verdict ≡ Accepted → d ≡ negatedOf c → i ≡ conditionFacts l d → Kept T h E end allowed b f₀ (at + 1 + n) (left - 1) i
-    turn-while x j k =
-        next u (here (While c n) u ∙ pass _ _ (none-refused _ (body-walk .said) x)) (whole-facts (While c n) u) (k ∙ ap₂ conditionFacts y j)
+    module _ (x : r .verdict ≡ Accepted) {s : Bool} (o : s ≡ sameRows (F .rows .each) (r .rows .each)) where
+      body-clear : blockFaults T h E (rest T h left (at + 1) (at + 1 + n)) (assumed (head-state T h E at left end (stateOf f (F .rows .each)) n) c) ≡ []
+      body-clear = none-refused _ (body-walk .said) x
 
-  module _ {n : ℕ} (u : Turn T h E end allowed b f₀ at left f (Bundle n))
-      {r : Walked} (w : WalksBundle E at (simples n T h (at + 1)) f (E .declared) r) where
-    bundle-here : blockFaults T h E b f₀ ≡ also (lineFaults E at (at + 1) (simples n T h (at + 1)) f (E .declared)) (blockFaults T h E (rest T h left (at + 1 + n) end) (bundleFacts (simples n T h (at + 1)) f))
+      loop-here : blockFaults T h E b w₀ ≡ also (rowsAt at (F .rows .each) (r .rows .each)) (blockFaults T h E (rest T h left (at + 1 + n) end) (assumed (head-state T h E at left end (stateOf f (F .rows .each)) n) (negatedOf c)))
+      loop-here =
+          here (While c n) u ∙ (pass _ _ body-clear
+          ∙ ap (λ (v : State FactSet). also (rowsAt at (F .rows .each) (v .rows)) (blockFaults T h E (rest T h left (at + 1 + n) end) (assumed (head-state T h E at left end (stateOf f (F .rows .each)) n) (negatedOf c)))) (sym (body-walk .kept body-clear)))
+
+      pub ends-differ : {w : Walked} → s ≡ false → w .verdict ≡ Refused (RowsDiffer at) → Walks T h E b w₀ w
+      ends-differ t v = stops _ _ loop-here (v ∙ rows-refused at (F .rows .each) (r .rows .each) (sym o ∙ t)) v
+
+      pub turn-while : {d : Condition} {i : FactSet} → s ≡ true → d ≡ negatedOf c → i ≡ conditionFacts l d → Kept T h E end allowed b w₀ (at + 1 + n) (left - 1) i F
+      turn-while t j k =
+          next u (loop-here ∙ pass _ _ (rows-clear at (F .rows .each) (r .rows .each) (sym o ∙ t))) (whole-after (While c n) u)
+          (ap (λ (g : FactSet). stateOf g (F .rows .each)) (k ∙ ap₂ conditionFacts y j)) (u .so-far .forced)
+
+  module _ {n : ℕ} (u : Turn T h E end allowed b w₀ at left f F (Bundle n))
+      {r : Walked} (w : WalksBundle E at (simples n T h (at + 1)) (stateOf f (F .rows .each)) (declaredIn E (stateOf f (F .rows .each))) r) where
+    bundle-here : blockFaults T h E b w₀ ≡ also (lineFaults E at (at + 1) (simples n T h (at + 1)) (stateOf f (F .rows .each)) (declaredIn E (stateOf f (F .rows .each)))) (blockFaults T h E (rest T h left (at + 1 + n) end) (bundleAfter (simples n T h (at + 1)) (stateOf f (F .rows .each))))
     bundle-here = here (Bundle n) u ∙ sym (also-assoc _ _ _)
 
-    pub bundle-refused : {v : Refusal} → r .verdict ≡ Refused v → Walks T h E b f₀ r
+    pub bundle-refused : {v : Refusal} → r .verdict ≡ Refused v → Walks T h E b w₀ r
     bundle-refused x = stops _ _ bundle-here (w .said) x
 
-    pub turn-bundle : r .verdict ≡ Accepted → Kept T h E end allowed b f₀ (at + 1 + n) (left - 1) (r .facts)
-    turn-bundle x = let clear = none-refused _ (w .said) x in next u (bundle-here ∙ pass _ _ clear) (whole-facts (Bundle n) u) (w .kept clear)
+    pub turn-bundle : {G : Force} → r .verdict ≡ Accepted → Forced E (r .rows .each) G → Kept T h E end allowed b w₀ (at + 1 + n) (left - 1) (r .facts) G
+    turn-bundle x a =
+        let clear = none-refused _ (w .said) x in
+        next u (bundle-here ∙ pass _ _ clear) (whole-after (Bundle n) u) (ap (stateOf (r .facts)) (a .rows) ∙ w .kept clear) (forced-own a)

@@ -4,19 +4,20 @@ mod walk; // walk.rt: the walk over the statements
 use blocks::Layout;
 use blocks::read_layout;
 use facts::FactSet;
+use force::frame_of;
+use force::own_force;
 use rules::Verdict;
 use rules::read_environment;
 use sections::Sections;
 use table::Form;
 use table::read_form;
-use touched::named_in;
 ghost use mathlib.Core.Path.{_≡_};
 ghost use Rattle.table.specs.FormLaws.{Formed};
 ghost use Rattle.rules.specs.Verdict.{verdictOf};
 ghost use Rattle.rules.specs.ByChains.{Judged};
 ghost use Rattle.rules.specs.Stored.{sectionFaults};
 
-// Cause 6, then the walk over the statements, begun with what is always known.
+// Cause 6, then the walk over the statements, begun with what is always known and each pointer's own bound.
 fn check_sections(table: &[i32], sections: Sections) -> Verdict
     requires { ⌜ Formed (now table) sections ⌝ }
     ensures { λ r. ⌜ r ≡ verdictOf (sectionFaults (now (table .entry)) sections) ⌝ }
@@ -30,8 +31,8 @@ fn check_sections(table: &[i32], sections: Sections) -> Verdict
             let walked = walk::walk(
                 table,
                 sections,
-                environment,
-                named_in(environment),
+                frame_of(environment),
+                own_force(environment),
                 0,
                 statements,
                 statements,

@@ -12,7 +12,8 @@ use Rattle.stops.specs.Checks.{checkOf}
 use Rattle.checks.specs.declared.Step.{Step}
 use Rattle.checks.specs.declared.Step.the-variants.{Go, Stop}
 
--- ---- declared bounds in a slice of 96 numbers, six a pointer: pointer, integer and constant of the lower end, then of the upper end
+-- ---- bounds in a slice of 480 numbers: those in force, six a pointer (pointer, integer and constant of the lower end, then of the upper end), then those of
+-- the table's 64 rows
 
 abbrev pub endIn : List ℕ → ℕ → End
 endIn W i = record { pointer = getD W i 0; integer = getD W (i + 1) 0; constant = getD W (i + 2) 0 }
@@ -22,7 +23,7 @@ boundsIn W p = record { lower = Known (endIn W (6 * p)); upper = Known (endIn W 
 
 -- What such a slice declares.
 unfoldable pub declaredIn : List ℕ → Environment
-declaredIn W = record { pointers = []; declared = tabulate 16 (boundsIn W); lengths = [] }
+declaredIn W = record { pointers = []; declared = tabulate 16 (boundsIn W); lengths = []; rows = [] }
 
 -- ---- steps
 

@@ -76,7 +76,7 @@ pub fn check_access(
     pointer: usize,
     address: u64,
 ) -> Step
-    requires { ⌜ (pointer < 16) × (length (now ends) ≡ 96) × ((i : ℕ) → getD (now ends) i 0 < 2 ^ 34) ⌝ }
+    requires { ⌜ (pointer < 16) × (length (now ends) ≡ 480) × ((i : ℕ) → getD (now ends) i 0 < 2 ^ 34) ⌝ }
     ensures { λ r. ⌜ r ≡ stepUnless (accessFailing (declaredIn (now (ends .entry))) (now (values .entry)) pointer address) at next ⌝ }
 {
     let null = value_at(values, pointer) == 0;

@@ -1,13 +1,15 @@
 -- What the functions of this crate give back, in terms of the rules: bounds that are the same, and the access that a statement makes.
 use mathlib.Core.Bool.{Bool, false, _&&_}
 use Rattle.statements.specs.declared.Simple.{Simple}
-use Rattle.statements.specs.declared.Simple.the-variants.{Literal, AddConstant, Arithmetic, Null, Address, PointerOffset, PointerIndex, Load, Store, Check}
+use Rattle.statements.specs.declared.Simple.the-variants.{Literal, AddConstant, Arithmetic, Null, Address, PointerOffset, PointerIndex, Load, Store, Check, Declare}
 use Rattle.rules.specs.Stored.{sameEnd}
 use Rattle.rules.specs.declared.KnownEnd.{KnownEnd}
 use Rattle.rules.specs.declared.KnownEnd.the-variants.{Known, Unknown}
 use Rattle.rules.specs.declared.Bounds.{Bounds}
 use Rattle.declared.specs.declared.Access.{Access}
 use Rattle.declared.specs.declared.Access.the-variants.{Through, Nothing}
+use Rattle.declared.specs.declared.Declares.{Declares}
+use Rattle.declared.specs.declared.Declares.the-variants.{Row, NoRow}
 
 -- Both ends are known and the same.
 unfoldable pub sameKnown : KnownEnd → KnownEnd → Bool
@@ -31,3 +33,18 @@ accessOf (PointerIndex p q i) = Nothing
 accessOf (Load x p i k) = Through p
 accessOf (Store p i k x) = Through p
 accessOf (Check c) = Nothing
+accessOf (Declare p r) = Nothing
+
+-- Kind 14 names a row.
+abbrev pub declaresOf : Simple → Declares
+declaresOf (Literal x k) = NoRow
+declaresOf (AddConstant x y k) = NoRow
+declaresOf (Arithmetic x y z op) = NoRow
+declaresOf (Null p) = NoRow
+declaresOf (Address p o) = NoRow
+declaresOf (PointerOffset p q k) = NoRow
+declaresOf (PointerIndex p q i) = NoRow
+declaresOf (Load x p i k) = NoRow
+declaresOf (Store p i k x) = NoRow
+declaresOf (Check c) = NoRow
+declaresOf (Declare p r) = Row p r

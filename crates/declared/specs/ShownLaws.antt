@@ -2,7 +2,7 @@
 use Prim.Native.Nat.{ℕ, zero, suc, _+_, _-_, _≤_, _<_}
 use mathlib.Core.Path.{_≡_, refl, sym, ap, _∙_}
 use mathlib.Core.Bool.{Bool, true, false, not, _&&_, _||_, false≢true}
-use mathlib.Core.List.{List}
+use mathlib.Core.List.{List, []}
 use mathlib.Core.Logic.{_⊎_, inl, inr}
 use native.Mathlib.Omega.{arith}
 use native.Mathlib.Numerals.{sub-one}
@@ -13,9 +13,9 @@ use Rattle.facts.specs.declared.FactSet.{FactSet}
 use Rattle.refusals.specs.declared.Refusal.the-variants.{BoundsNotShown}
 use Rattle.sections.specs.SectionsLaws.{both}
 use Rattle.statements.specs.declared.Simple.{Simple}
-use Rattle.statements.specs.declared.Simple.the-variants.{Literal, AddConstant, Arithmetic, Null, Address, PointerOffset, PointerIndex, Load, Store, Check}
-use Rattle.rules.specs.BoundsRules.{isPointer, declared, known, consIf}
-use Rattle.rules.specs.Stored.{endAtMost, knownAtMost, boundsShown, unshownFrom, unshown, accessShown}
+use Rattle.statements.specs.declared.Simple.the-variants.{Literal, AddConstant, Arithmetic, Null, Address, PointerOffset, PointerIndex, Load, Store, Check, Declare}
+use Rattle.rules.specs.BoundsRules.{isPointer, declared, known, consIf, rowBound, rowsAfter}
+use Rattle.rules.specs.Stored.{endAtMost, knownAtMost, boundsShown, unshownFrom, unshown, accessShown, rowUnshown}
 use Rattle.rules.specs.Rules.{boundsAt}
 use Rattle.rules.specs.Verdict.{verdictOf}
 use Rattle.rules.specs.declared.KnownEnd.{KnownEnd}
@@ -24,9 +24,11 @@ use Rattle.rules.specs.declared.Bounds.{Bounds}
 use Rattle.rules.specs.declared.Environment.{Environment}
 use Rattle.rules.specs.declared.Verdict.the-variants.{Accepted, Refused}
 use Rattle.stays.specs.StaysLaws.{stored, stored-known}
-use Rattle.declared.specs.Shown.{sameKnown, sameBounds, accessOf}
+use Rattle.touched.specs.Touched.{seenAs, seenOf}
+use Rattle.declared.specs.Shown.{sameKnown, sameBounds, accessOf, declaresOf}
 use Rattle.declared.specs.declared.Access.{Access}
 use Rattle.declared.specs.declared.Access.the-variants.{Through, Nothing}
+use Rattle.declared.specs.declared.Declares.the-variants.{Row, NoRow}
 use Rattle.rules.specs.BoundsRules as boundsRules
 
 -- ---- when declared bounds are shown
@@ -156,6 +158,7 @@ access-needs E f K (PointerIndex p q i) = refl
 access-needs E f K (Load x p i k) = refl
 access-needs E f K (Store p i k x) = refl
 access-needs E f K (Check c) = refl
+access-needs E f K (Declare p r) = refl
 
 module _ (E : Environment) (f : FactSet) (K : List Bounds) (s : Simple) {a : Access} (e : a ≡ accessOf s) where
   pub nothing-needed : a ≡ Nothing → true ≡ accessShown E f K s
@@ -163,3 +166,85 @@ module _ (E : Environment) (f : FactSet) (K : List Bounds) (s : Simple) {a : Acc
 
   pub pointer-needed : {p : ℕ} {n d : Bounds} {b : Bool} → a ≡ Through p → n ≡ known K p → d ≡ declared E p → b ≡ boundsShown f p n d → b ≡ accessShown E f K s
   pointer-needed t n d b = rw (n, d) at b ∙ (sym (ap (needed E f K) (sym e ∙ t)) ∙ access-needs E f K s)
+
+-- ---- rows
+
+-- A kind 14 is the one statement that names a row.
+pub row-named : (s : Simple) (p r : ℕ) → declaresOf s ≡ Row p r → s ≡ Declare p r
+row-named (Literal x k) p′ r e = let o : _≡_ {A = ℕ} 0 1 = cc in absurd (omega arith)
+row-named (AddConstant x y k) p′ r e = let o : _≡_ {A = ℕ} 0 1 = cc in absurd (omega arith)
+row-named (Arithmetic x y z op) p′ r e = let o : _≡_ {A = ℕ} 0 1 = cc in absurd (omega arith)
+row-named (Null p) p′ r e = let o : _≡_ {A = ℕ} 0 1 = cc in absurd (omega arith)
+row-named (Address p o) p′ r e = let o : _≡_ {A = ℕ} 0 1 = cc in absurd (omega arith)
+row-named (PointerOffset p q k) p′ r e = let o : _≡_ {A = ℕ} 0 1 = cc in absurd (omega arith)
+row-named (PointerIndex p q i) p′ r e = let o : _≡_ {A = ℕ} 0 1 = cc in absurd (omega arith)
+row-named (Load x p i k) p′ r e = let o : _≡_ {A = ℕ} 0 1 = cc in absurd (omega arith)
+row-named (Store p i k x) p′ r e = let o : _≡_ {A = ℕ} 0 1 = cc in absurd (omega arith)
+row-named (Check c) p′ r e = let o : _≡_ {A = ℕ} 0 1 = cc in absurd (omega arith)
+row-named (Declare q n) p r e = cc
+
+-- Any other leaves the rows in force and asks for none.
+pub rows-stay : (s : Simple) (R : List ℕ) → declaresOf s ≡ NoRow → rowsAfter s R ≡ R
+unfolding rowsAfter
+rows-stay (Literal x k) R e = refl
+rows-stay (AddConstant x y k) R e = refl
+rows-stay (Arithmetic x y z op) R e = refl
+rows-stay (Null p) R e = refl
+rows-stay (Address p o) R e = refl
+rows-stay (PointerOffset p q k) R e = refl
+rows-stay (PointerIndex p q i) R e = refl
+rows-stay (Load x p i k) R e = refl
+rows-stay (Store p i k x) R e = refl
+rows-stay (Check c) R e = refl
+rows-stay (Declare p r) R e = let o : _≡_ {A = ℕ} 0 1 = cc in absurd (omega arith)
+
+pub no-row-asked : (E : Environment) (f : FactSet) (K : List Bounds) (s : Simple) → declaresOf s ≡ NoRow → rowUnshown E f K s ≡ []
+unfolding boundsRules.rowUnshown
+no-row-asked E f K (Literal x k) e = refl
+no-row-asked E f K (AddConstant x y k) e = refl
+no-row-asked E f K (Arithmetic x y z op) e = refl
+no-row-asked E f K (Null p) e = refl
+no-row-asked E f K (Address p o) e = refl
+no-row-asked E f K (PointerOffset p q k) e = refl
+no-row-asked E f K (PointerIndex p q i) e = refl
+no-row-asked E f K (Load x p i k) e = refl
+no-row-asked E f K (Store p i k x) e = refl
+no-row-asked E f K (Check c) e = refl
+no-row-asked E f K (Declare p r) e = let o : _≡_ {A = ℕ} 0 1 = cc in absurd (omega arith)
+
+module _ (E : Environment) (f : FactSet) (K : List Bounds) (p r a : ℕ) {n d : Bounds} {b : Bool} (i : n ≡ known K p) (j : d ≡ rowBound E (r + 1) p) (e : b ≡ boundsShown f p n d) where
+  row-asked : b ≡ boundsShown f p (known K p) (rowBound E (r + 1) p)
+  row-asked = rw (i, j) at e
+
+  pub row-shown : b ≡ true → Accepted ≡ verdictOf (boundsAt a (rowUnshown E f K (Declare p r)))
+  unfolding boundsRules.rowUnshown boundsAt verdictOf
+  row-shown t = sym (ap (λ (x : Bool). verdictOf (boundsAt a (consIf (not x) p []))) (sym row-asked ∙ t))
+
+  pub row-missed : b ≡ false → Refused (BoundsNotShown a p) ≡ verdictOf (boundsAt a (rowUnshown E f K (Declare p r)))
+  unfolding boundsRules.rowUnshown boundsAt verdictOf
+  row-missed t = sym (ap (λ (x : Bool). verdictOf (boundsAt a (consIf (not x) p []))) (sym row-asked ∙ t))
+
+-- ---- what is asked needs no more of an environment than what is seen of it
+
+seen-from : (E : Environment) (f : FactSet) (K : List Bounds) (n p : ℕ) → unshownFrom (seenAs (seenOf E)) f K n p ≡ unshownFrom E f K n p
+unfolding boundsRules.unshownFrom
+seen-from E f K zero p = refl
+seen-from E f K (suc n) p = ap (consIf (isPointer E p && not (boundsShown f p (known K p) (declared E p))) p) (seen-from E f K n (p + 1))
+
+pub seen-unshown : (E : Environment) (f : FactSet) (K : List Bounds) → unshown (seenAs (seenOf E)) f K ≡ unshown E f K
+unfolding boundsRules.unshown
+seen-unshown E f K = seen-from E f K 16 0
+
+pub seen-access : (E : Environment) (f : FactSet) (K : List Bounds) (s : Simple) → accessShown (seenAs (seenOf E)) f K s ≡ accessShown E f K s
+unfolding boundsRules.accessShown
+seen-access E f K (Literal x k) = refl
+seen-access E f K (AddConstant x y k) = refl
+seen-access E f K (Arithmetic x y z op) = refl
+seen-access E f K (Null p) = refl
+seen-access E f K (Address p o) = refl
+seen-access E f K (PointerOffset p q k) = refl
+seen-access E f K (PointerIndex p q i) = refl
+seen-access E f K (Load x p i k) = refl
+seen-access E f K (Store p i k x) = refl
+seen-access E f K (Check c) = refl
+seen-access E f K (Declare p r) = refl

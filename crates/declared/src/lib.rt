@@ -6,21 +6,26 @@ use ends::bounds_shown;
 use ends::same_bounds;
 use facts::FactSet;
 use lookups::bounds_at;
+use lookups::row_bound;
 use refusals::Refusal;
 use rules::Effect;
 use rules::Environment;
 use rules::Verdict;
 use statements::Simple;
+use touched::Seen;
 use transfer::effect_on;
 use transfer::source_of;
+ghost use Prim.Native.Nat.{_^_, _<_};
 ghost use mathlib.Core.Path.{_≡_};
-ghost use Rattle.rules.specs.Stored.{unshown, accessShown, boundsAfter};
+ghost use Rattle.statements.specs.declared.Simple.the-variants.{Declare};
+ghost use Rattle.rules.specs.Stored.{unshown, rowUnshown, accessShown, boundsAfter};
 ghost use Rattle.refusals.specs.declared.Refusal.the-variants.{BoundsNotShown};
 ghost use Rattle.rules.specs.declared.Verdict.the-variants.{Refused};
 ghost use Rattle.rules.specs.Rules.{boundsAt};
 ghost use Rattle.rules.specs.Verdict.{verdictOf};
 ghost use Rattle.rules.specs.Ranges.{Short};
-ghost use Rattle.declared.specs.Shown.{accessOf};
+ghost use Rattle.touched.specs.Touched.{seenAs};
+ghost use Rattle.declared.specs.Shown.{accessOf, declaresOf};
 
 // Refusal 8.
 fn not_shown(statement: usize, pointer: usize) -> Verdict
@@ -30,9 +35,9 @@ fn not_shown(statement: usize, pointer: usize) -> Verdict
 }
 
 // The lowest pointer whose declared bounds are not shown after the effect, where the declared bounds were the known ones.
-pub fn check_effect(environment: Environment, facts: FactSet, effect: Effect, at: usize) -> Verdict
+pub fn check_effect(environment: Seen, facts: FactSet, effect: Effect, at: usize) -> Verdict
     requires { ⌜ Short effect ⌝ }
-    ensures { λ r. ⌜ r ≡ verdictOf (boundsAt at (unshown environment facts (boundsAfter effect (environment .declared)))) ⌝ }
+    ensures { λ r. ⌜ r ≡ verdictOf (boundsAt at (unshown (seenAs environment) facts (boundsAfter effect (environment .declared)))) ⌝ }
 {
     let from = source_of(effect);
     let source = environment.declared[from];
@@ -51,13 +56,8 @@ pub fn check_effect(environment: Environment, facts: FactSet, effect: Effect, at
 }
 
 // The lowest pointer whose declared bounds are not shown by the known ones.
-pub fn check_known(
-    environment: Environment,
-    facts: FactSet,
-    known: KnownBounds,
-    at: usize,
-) -> Verdict
-    ensures { λ r. ⌜ r ≡ verdictOf (boundsAt at (unshown environment facts (known .each))) ⌝ }
+pub fn check_known(environment: Seen, facts: FactSet, known: KnownBounds, at: usize) -> Verdict
+    ensures { λ r. ⌜ r ≡ verdictOf (boundsAt at (unshown (seenAs environment) facts (known .each))) ⌝ }
 {
     let mut p = 0;
     while p < 16 {
@@ -100,13 +100,8 @@ fn access_of(simple: Simple) -> Access
 }
 
 // An access needs the declared bounds of its pointer shown.
-pub fn access_shown(
-    environment: Environment,
-    facts: FactSet,
-    known: KnownBounds,
-    simple: Simple,
-) -> bool
-    ensures { λ r. ⌜ r ≡ accessShown environment facts (known .each) simple ⌝ }
+pub fn access_shown(environment: Seen, facts: FactSet, known: KnownBounds, simple: Simple) -> bool
+    ensures { λ r. ⌜ r ≡ accessShown (seenAs environment) facts (known .each) simple ⌝ }
 {
     let access = access_of(simple);
     let Access::Through(p) = access else {
@@ -115,4 +110,40 @@ pub fn access_shown(
     let each = known.each;
     let declared = environment.declared;
     bounds_shown(facts, p, bounds_at(each, p), bounds_at(declared, p))
+}
+
+// The pointer and the row that a kind 14 names.
+pub enum Declares {
+    Row { pointer: usize, row: usize },
+    NoRow,
+}
+
+pub fn declares_of(simple: Simple) -> Declares
+    ensures { λ r. ⌜ r ≡ declaresOf simple ⌝ }
+{
+    match simple {
+        Simple::Declare { pointer, row } => Declares::Row { pointer, row },
+        _ => Declares::NoRow,
+    }
+}
+
+// The row of a kind 14 must be shown by what is known before it.
+pub fn check_row(
+    environment: Environment,
+    facts: FactSet,
+    known: KnownBounds,
+    pointer: usize,
+    row: usize,
+    at: usize,
+) -> Verdict
+    requires { ⌜ row < 2 ^ 40 ⌝ }
+    ensures { λ r. ⌜ r ≡ verdictOf (boundsAt at (rowUnshown environment facts (known .each) (Declare pointer row))) ⌝ }
+{
+    let each = known.each;
+    let own = bounds_at(each, pointer);
+    let bound = row_bound(environment, row + 1, pointer);
+    if bounds_shown(facts, pointer, own, bound) {
+        return Verdict::Accepted;
+    }
+    not_shown(at, pointer)
 }

@@ -10,7 +10,7 @@ use Rattle.words.specs.declared.Fields.{Fields}
 use Rattle.fields.specs.Fields.{plain, literalValue, isZero}
 use Rattle.sections.specs.declared.Sections.{Sections}
 use Rattle.conditions.specs.declared.Condition.{Condition}
-use Rattle.statements.specs.declared.Simple.the-variants.{Literal, AddConstant, Arithmetic, Null, Address, PointerOffset, PointerIndex, Load, Store, Check}
+use Rattle.statements.specs.declared.Simple.the-variants.{Literal, AddConstant, Arithmetic, Null, Address, PointerOffset, PointerIndex, Load, Store, Check, Declare}
 use Rattle.statements.specs.declared.Statement.{Statement}
 use Rattle.statements.specs.declared.Statement.the-variants.{Plain, If, While, Bundle}
 
@@ -33,7 +33,7 @@ unfoldable pub decodedCondition : Fields → Condition
 decodedCondition f =
     record { left = unsigned (f .first); relation = unsigned (f .second); right = decodedRight (f .third) (f .fourth); offset = decodedOffset (f .third) (f .fourth) }
 
--- The kinds by their number, fields in the order that the paper names. A kind that is none of 1 to 12 is taken for a bundle. Counts, which
+-- The kinds by their number, fields in the order that the paper names. A kind that is none of 1 to 13 is taken for 14. Counts, which
 -- a run does not look at, are as they are read.
 unfoldable pub decodedAs : ℕ → Fields → Statement
 decodedAs kind f =
@@ -49,14 +49,15 @@ decodedAs kind f =
     (cond (eqb kind 10) (Plain (Check (decodedCondition f)))
     (cond (eqb kind 11) (If (decodedCondition f) (plain (f .fifth)) (plain (f .sixth)))
     (cond (eqb kind 12) (While (decodedCondition f) (plain (f .fifth)))
-    (Bundle (plain (f .first))))))))))))))
+    (cond (eqb kind 13) (Bundle (plain (f .first)))
+    (Plain (Declare (unsigned (f .first)) (unsigned (f .second))))))))))))))))
 
 abbrev pub decoded : Fields → Statement
 decoded f = decodedAs (unsigned (f .kind)) f
 
 -- Where a record starts; numbers of items that no table has are taken modulo 4,096.
 abbrev pub decodeStart : Sections → ℕ → ℕ
-decodeStart h a = 6 + h .objects % 4096 + 8 * (h .variables % 4096) + 7 * (a % 4096)
+decodeStart h a = h .start % 16 + h .objects % 4096 + 8 * (h .variables % 4096) + 7 * (a % 4096)
 
 -- The statement of a number, for a record that is known to read.
 unfoldable pub decodedAt : List ℤ → Sections → ℕ → Statement

@@ -18,7 +18,7 @@ use Rattle.sections.specs.NameLaws.{either, integer-limits, pointer-limits}
 use Rattle.sections.specs.declared.Sections.{Sections}
 use Rattle.conditions.specs.Conditions.{sameKind, besideLiteral, conditionRight, rightOf, offsetOf, conditionOf}
 use Rattle.conditions.specs.declared.Condition.{Condition}
-use Rattle.statements.specs.Statements.{readIf, unusedFrom, literalRead, addConstantRead, arithmeticRead, nullRead, addressRead, pointerOffsetRead, pointerIndexRead, loadRead, storeRead, checkRead, ifRead, whileRead, bundleRead, kindRead, statementAt}
+use Rattle.statements.specs.Statements.{readIf, unusedFrom, literalRead, addConstantRead, arithmeticRead, nullRead, addressRead, pointerOffsetRead, pointerIndexRead, loadRead, storeRead, checkRead, ifRead, whileRead, bundleRead, kindRead, statementAt, declareRead}
 use Rattle.statements.specs.StatementLaws.{read-limits}
 use Rattle.statements.specs.declared.Statement.{Statement}
 use Rattle.statements.specs.declared.StatementRead.{StatementRead}
@@ -62,6 +62,12 @@ module _ (table : List ℤ) (h : Sections) where
   object-unsigned v w e i =
       let l = pointer-limits table h (plain v) (both (leb bias v) (pointerAt table h (plain v)) e .1) in
       below-unsigned (h .objects) w (omega (arith, l .0 .objects)) i
+
+  row-unsigned : (v w : ℕ) → namesPointer table h v ≡ true → isBelow (h .rows) w ≡ true → unsigned w ≡ plain w
+  unfolding namesPointer
+  row-unsigned v w e i =
+      let l = pointer-limits table h (plain v) (both (leb bias v) (pointerAt table h (plain v)) e .1) in
+      below-unsigned (h .rows) w (omega (arith, l .0 .rows)) i
 
   index-unsigned : (w : ℕ) → namesIndex table h w ≡ true → decodedIndex w ≡ indexOf w
   unfolding namesIndex indexOf decodedIndex
@@ -164,7 +170,7 @@ module _ (table : List ℤ) (h : Sections) (f : Fields) (t : Statement) where
   abbrev pointer : ℕ → Bool
   pointer w = namesPointer table h w
 
-  kind-is : (n : ℕ) → 1 ≤ n → n ≤ 13 → eqb kind n ≡ true → unsigned (f .kind) ≡ kind
+  kind-is : (n : ℕ) → 1 ≤ n → n ≤ 14 → eqb kind n ≡ true → unsigned (f .kind) ≡ kind
   kind-is n l u e = let a : kind ≡ n = eqb-true kind n e in omega arith
 
   kind-unsigned : kindRead table h f ≡ Read t → unsigned (f .kind) ≡ kind
@@ -183,10 +189,11 @@ module _ (table : List ℤ) (h : Sections) (f : Fields) (t : Statement) where
       (known (eqb kind 11) _ _ t _ (kind-is 11 (omega arith) (omega arith))
       (known (eqb kind 12) _ _ t _ (kind-is 12 (omega arith) (omega arith))
       (known (eqb kind 13) _ _ t _ (kind-is 13 (omega arith) (omega arith))
-      (λ e. let z : _≡_ {A = ℕ} 0 1 = cc in absurd (omega arith))))))))))))))
+      (known (eqb kind 14) _ _ t _ (kind-is 14 (omega arith) (omega arith))
+      (λ e. let z : _≡_ {A = ℕ} 0 1 = cc in absurd (omega arith)))))))))))))))
 
   kind-decoded : kindRead table h f ≡ Read t → decodedAs kind f ≡ t
-  unfolding kindRead decodedAs literalRead addConstantRead arithmeticRead nullRead addressRead pointerOffsetRead pointerIndexRead loadRead storeRead checkRead ifRead whileRead bundleRead
+  unfolding kindRead decodedAs literalRead addConstantRead arithmeticRead nullRead addressRead pointerOffsetRead pointerIndexRead loadRead storeRead checkRead ifRead whileRead bundleRead declareRead
   kind-decoded =
       either-record (eqb kind 1) _ _ _ _ t (read-as (integer (f .first) && unusedFrom 3 f) _ _ t (λ e. let p = both (integer (f .first)) (unusedFrom 3 f) e in rw (integer-unsigned table h (f .first) (p .0))))
       (either-record (eqb kind 2) _ _ _ _ t (read-as (integer (f .first) && integer (f .second) && isConstant (f .third) && unusedFrom 4 f) _ _ t (λ e. let p = both₄ (integer (f .first)) (integer (f .second)) (isConstant (f .third)) (unusedFrom 4 f) e in rw (integer-unsigned table h (f .first) (p .0), integer-unsigned table h (f .second) (p .1))))
@@ -200,13 +207,14 @@ module _ (table : List ℤ) (h : Sections) (f : Fields) (t : Statement) where
       (either-record (eqb kind 10) _ _ _ _ t (read-as (conditionRight table h f && unusedFrom 5 f) _ _ t (λ e. let p = both (conditionRight table h f) (unusedFrom 5 f) e in rw (condition-unsigned table h f (p .0))))
       (either-record (eqb kind 11) _ _ _ _ t (read-as (conditionRight table h f && isCount (f .fifth) && isCount (f .sixth)) _ _ t (λ e. let p = both₃ (conditionRight table h f) (isCount (f .fifth)) (isCount (f .sixth)) e in rw (condition-unsigned table h f (p .0))))
       (either-record (eqb kind 12) _ _ _ _ t (read-as (conditionRight table h f && isCount (f .fifth) && unusedFrom 6 f) _ _ t (λ e. let p = both₃ (conditionRight table h f) (isCount (f .fifth)) (unusedFrom 6 f) e in rw (condition-unsigned table h f (p .0))))
-      (last (eqb kind 13) _ _ t (read-if (ltb (plain (f .first)) (2 ^ 31) && unusedFrom 2 f) _ t)))))))))))))
+      (either-record (eqb kind 13) _ _ _ _ t (read-if (ltb (plain (f .first)) (2 ^ 31) && unusedFrom 2 f) _ t)
+      (last (eqb kind 14) _ _ t (read-as (pointer (f .first) && isBelow (h .rows) (f .second) && unusedFrom 3 f) _ _ t (λ e. let p = both₃ (pointer (f .first)) (isBelow (h .rows) (f .second)) (unusedFrom 3 f) e in rw (pointer-unsigned table h (f .first) (p .0), row-unsigned table h (f .first) (f .second) (p .0) (p .1)))))))))))))))))
 
 pub read-decoded : (table : List ℤ) (h : Sections) (a : ℕ) (s : Statement) → statementAt table h a ≡ Read s → decodedAt table h a ≡ s
 unfolding statementAt decodedAt
 read-decoded table h a s e =
     let l = read-limits table h a s e in
-    let g : decodeStart h a ≡ statementStart h a = omega (arith, l .0 .objects, l .0 .variables, l .0 .statements, l .1) in
+    let g : decodeStart h a ≡ statementStart h a = omega (arith, l .0 .start, l .0 .objects, l .0 .variables, l .0 .statements, l .1) in
     let f = fieldsAt table (statementStart h a) in
     let r = within (inLimits h && ltb a (h .statements)) _ s e in
     ap (λ (i : ℕ). decoded (fieldsAt table i)) g ∙ ap (λ (k : ℕ). decodedAs k f) (kind-unsigned table h f s r) ∙ kind-decoded table h f s r

@@ -61,7 +61,7 @@ fn decode_condition(f: Fields) -> Condition
     }
 }
 
-// The statement of a record. A kind that is none of 1 to 12 is taken for a bundle.
+// The statement of a record. A kind that is none of 1 to 13 is taken for 14.
 fn decode_kind(f: Fields) -> Statement
     ensures { λ r. ⌜ r ≡ decoded f ⌝ }
 {
@@ -123,9 +123,13 @@ fn decode_kind(f: Fields) -> Statement
             condition: decode_condition(f),
             count: plain(f.fifth),
         },
-        _ => Statement::Bundle {
+        13 => Statement::Bundle {
             count: plain(f.first),
         },
+        _ => Statement::Plain(Simple::Declare {
+            pointer: unsigned(f.first),
+            row: unsigned(f.second),
+        }),
     }
 }
 
@@ -134,6 +138,9 @@ pub fn decode_statement(table: &[i32], sections: Sections, at: usize) -> Stateme
     requires { ⌜ decodeStart sections at + 7 ≤ length (now table) ⌝ }
     ensures { λ r. ⌜ r ≡ decodedAt (now (table .entry)) sections at ⌝ }
 {
-    let start = 6 + sections.objects % 4096 + 8 * (sections.variables % 4096) + 7 * (at % 4096);
+    let start = sections.start % 16
+        + sections.objects % 4096
+        + 8 * (sections.variables % 4096)
+        + 7 * (at % 4096);
     decode_kind(fields_within(table, start))
 }

@@ -11,7 +11,7 @@ use Rattle.changes.specs.declared.Change.{Change}
 use Rattle.changes.specs.declared.Fact.{Fact}
 use Rattle.facts.specs.declared.FactSet.{FactSet}
 use Rattle.statements.specs.declared.Simple.{Simple}
-use Rattle.statements.specs.declared.Simple.the-variants.{Literal, AddConstant, Arithmetic, Null, Address, PointerOffset, PointerIndex, Load, Store, Check}
+use Rattle.statements.specs.declared.Simple.the-variants.{Literal, AddConstant, Arithmetic, Null, Address, PointerOffset, PointerIndex, Load, Store, Check, Declare}
 use Rattle.conditions.specs.declared.Condition.{Condition}
 use Rattle.rules.specs.Stored.{differs, sumFacts, factsAfter, conditionFacts, effect}
 use Rattle.rules.specs.declared.Environment.{Environment}
@@ -21,7 +21,7 @@ use Rattle.effects.specs.declared.Plan.{Plan}
 
 -- An environment of which only the lengths of objects matter, as to an effect.
 abbrev pub withLengths : List ℕ → Environment
-withLengths lengths = record { pointers = []; declared = []; lengths = lengths }
+withLengths lengths = record { pointers = []; declared = []; lengths = lengths; rows = [] }
 
 -- The facts after a statement, and what it does to known bounds.
 pub record Applied : Type 0 where
@@ -51,6 +51,7 @@ planned a lengths f (PointerIndex p q i) = applied lengths f (PointerIndex p q i
 planned a lengths f (Load x p i k) = applied lengths f (Load x p i k)
 planned a lengths f (Store p i k x) = applied lengths f (Store p i k x)
 planned a lengths f (Check c) = record { facts = conditionGiven a f c; effect = Keep }
+planned a lengths f (Declare p r) = applied lengths f (Declare p r)
 
 -- ---- changes and plans
 

@@ -22,7 +22,7 @@ use Rattle.conditions.specs.Negation.{negation, negatedOf}
 use Rattle.conditions.specs.declared.Condition.{Condition}
 use Rattle.changes.specs.declared.Change.{Change}
 use Rattle.statements.specs.declared.Simple.{Simple}
-use Rattle.statements.specs.declared.Simple.the-variants.{Literal, AddConstant, Arithmetic, Null, Address, PointerOffset, PointerIndex, Load, Store, Check}
+use Rattle.statements.specs.declared.Simple.the-variants.{Literal, AddConstant, Arithmetic, Null, Address, PointerOffset, PointerIndex, Load, Store, Check, Declare}
 use Rattle.statements.specs.declared.Statement.the-variants.{Plain}
 use Rattle.statements.specs.declared.StatementRead.the-variants.{Read}
 use Rattle.statements.specs.Statements.{statementAt}
@@ -179,6 +179,7 @@ planned-applied lengths f (PointerIndex p q i) e = refl
 planned-applied lengths f (Load x p i k) e = refl
 planned-applied lengths f (Store p i k x) e = refl
 planned-applied lengths f (Check c) e = ap (λ (g : FactSet). appliedOf g Keep) (given-facts f c e)
+planned-applied lengths f (Declare p r) e = refl
 
 -- Where the questions were asked, the plan made for the answers, and the change made, the facts and the effect are the statement's.
 pub carried-out : (lengths : List ℕ) (f : FactSet) (s : Simple) (r : Plan) {g : FactSet} {q : Questions} {a : Answers} → q ≡ statementAsked s
@@ -218,6 +219,7 @@ simple-ranged T h l (PointerIndex p q i) t = omega (arith, t .source .below, l .
 simple-ranged T h l (Load x p i k) t = tt
 simple-ranged T h l (Store p i k x) t = tt
 simple-ranged T h l (Check c) t = offset-small t
+simple-ranged T h l (Declare p r) t = tt
 
 module _ (T : List ℤ) (h : Sections) (a : ℕ) where
   pub read-ranged : (s : Simple) → statementAt T h a ≡ Read (Plain s) → InRange s
@@ -236,3 +238,4 @@ effect-lengths E f (PointerIndex p q i) = refl
 effect-lengths E f (Load x p i k) = refl
 effect-lengths E f (Store p i k x) = refl
 effect-lengths E f (Check c) = refl
+effect-lengths E f (Declare p r) = refl

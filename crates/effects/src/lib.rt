@@ -1,4 +1,4 @@
-// What a condition and a statement of kinds 1 to 10 do to the facts, planned as a change of the fact set, and what the statement does to known bounds.
+// What a condition and a statement of kinds 1 to 10 and 14 do to the facts, planned as a change of the fact set, and what the statement does to known bounds.
 // No function here takes a fact set: the caller asks the questions of a plan (crate asked), hands over the answers, and makes the change.
 use changes::Answers;
 use changes::Change;
@@ -182,7 +182,7 @@ fn index_effect(p: usize, q: usize) -> Effect
     }
 }
 
-// A statement of kinds 1 to 10, with the answers to what it asks.
+// A statement of kinds 1 to 10 and 14, with the answers to what it asks.
 pub fn plan_statement(lengths: [u64; 16], simple: Simple, answers: Answers) -> Plan
     requires { ⌜ InRange simple ⌝ }
     ensures { λ r. ⌜ Plans lengths simple answers r ⌝ }
@@ -250,6 +250,10 @@ pub fn plan_statement(lengths: [u64; 16], simple: Simple, answers: Answers) -> P
         },
         Simple::Check { condition } => Plan {
             change: assume(condition, answers),
+            effect: Effect::Keep,
+        },
+        Simple::Declare { pointer: _, row: _ } => Plan {
+            change: keep(),
             effect: Effect::Keep,
         },
     }

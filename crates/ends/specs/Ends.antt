@@ -1,11 +1,12 @@
--- The ends of declared bounds as the run's loop has them: six numbers a pointer (`boundsIn` of checks/specs/Checked reads them).
+-- The ends of bounds as the run's loop has them: six numbers a pointer, then six a row (`boundsIn` of checks/specs/Checked reads them).
 use mathlib.Core.Bool.{cond}
 use Prim.Native.Nat.{ℕ, zero, suc, _-_, _/_, _%_}
 use mathlib.Core.List.{List}
 use lib.Dec.{ltb}
+use lib.ListN.{getD}
 use Rattle.arrays.specs.Tabulate.{tabulate}
 use Rattle.variables.specs.declared.End.{End}
-use Rattle.rules.specs.BoundsRules.{declared}
+use Rattle.rules.specs.BoundsRules.{declared, nothingKnown, inForce}
 use Rattle.rules.specs.declared.Bounds.{Bounds}
 use Rattle.rules.specs.declared.Environment.{Environment}
 use Rattle.machine.specs.Machine.{endOf}
@@ -20,5 +21,13 @@ endNumber e (suc (suc n)) = e .constant
 unfoldable pub boundsNumber : Bounds → ℕ → ℕ
 boundsNumber b j = cond (ltb j 3) (endNumber (endOf (b .lower)) j) (endNumber (endOf (b .upper)) (j - 3))
 
-unfoldable pub endsOf : Environment → List ℕ
-endsOf E = tabulate 96 (λ i. boundsNumber (declared E (i / 6)) (i % 6))
+-- The first n numbers of a list of bounds, six each.
+unfoldable pub numbersOf : ℕ → List Bounds → List ℕ
+numbersOf n bs = tabulate n (λ i. boundsNumber (getD bs (i / 6) nothingKnown) (i % 6))
+
+-- Point 2: the bounds in force of the 16 pointers, then the bounds of the 64 rows.
+unfoldable pub placeBounds : Environment → List ℕ → ℕ → Bounds
+placeBounds E R j = cond (ltb j 16) (declared (inForce E R) j) (getD (E .rows) (j - 16) nothingKnown)
+
+unfoldable pub endsOf : Environment → List ℕ → List ℕ
+endsOf E R = tabulate 480 (λ i. boundsNumber (placeBounds E R (i / 6)) (i % 6))

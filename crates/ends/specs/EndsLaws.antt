@@ -1,8 +1,19 @@
 -- A law of the ends, in the words of the code.
-use Prim.Native.Nat.{ℕ, zero, suc}
+use Prim.Native.Nat.{ℕ, zero, suc, _+_, _-_, _/_, _%_, _<_, _≤_}
 use mathlib.Core.Path.{_≡_, refl}
+use mathlib.Core.Bool.{Bool, true, false, cond}
+use mathlib.Core.List.{List}
+use native.Mathlib.Omega.{arith}
+use borrow.Author.Tests.{ltb-true, ltb-false, lt-ltb, le-ltb}
+use lib.Dec.{ltb}
+use lib.ListN.{getD}
+use Rattle.arrays.specs.Tabulate.{tabulate}
+use Rattle.arrays.specs.TabulateLaws.{getD-tabulate, tabulate-alike}
+use Rattle.rules.specs.BoundsRules.{nothingKnown, ownRows, inForce, declared}
+use Rattle.rules.specs.BoundsTrue.{own-declared}
+use Rattle.rules.specs.declared.Environment.{Environment}
 use Rattle.variables.specs.declared.End.{End}
-use Rattle.ends.specs.Ends.{endNumber}
+use Rattle.ends.specs.Ends.{endNumber, boundsNumber, numbersOf, placeBounds, endsOf}
 
 -- A number of an end that is neither the first nor the second is its constant.
 pub number-else : (e : End) (j : ℕ) → (j ≡ 0 → ⊥) → (j ≡ 1 → ⊥) → e .constant ≡ endNumber e j
@@ -10,3 +21,33 @@ unfolding endNumber
 number-else e zero p q = absurd (p refl)
 number-else e (suc zero) p q = absurd (q refl)
 number-else e (suc (suc n)) p q = refl
+
+-- The numbers of own bounds and those of the rows, one after the other.
+abbrev pub joined : List ℕ → List ℕ → ℕ → ℕ
+joined own laid i = cond (ltb i 96) (getD own (i % 96) 0) (getD laid ((i + 288) % 384) 0)
+
+module _ (E : Environment) where
+  number-laid : (i : ℕ) → i < 480 → joined (numbersOf 96 (E .declared)) (numbersOf 384 (E .rows)) i ≡ boundsNumber (placeBounds E ownRows (i / 6)) (i % 6)
+  unfolding numbersOf placeBounds
+  number-laid i l = go (ltb i 96) refl
+    where
+      go : (b : Bool) → ltb i 96 ≡ b
+          → cond b (getD (tabulate 96 (λ n. boundsNumber (getD (E .declared) (n / 6) nothingKnown) (n % 6))) (i % 96) 0)
+          (getD (tabulate 384 (λ n. boundsNumber (getD (E .rows) (n / 6) nothingKnown) (n % 6))) ((i + 288) % 384) 0)
+          ≡ boundsNumber (cond (ltb (i / 6) 16) (declared (inForce E ownRows) (i / 6)) (getD (E .rows) (i / 6 - 16) nothingKnown)) (i % 6)
+      go true q =
+          let s : i < 96 = ltb-true i 96 q in
+          let m : i % 96 ≡ i = omega arith in
+          let d : i / 6 < 16 = omega arith in
+          rw (m, getD-tabulate 96 (λ (n : ℕ). boundsNumber (getD (E .declared) (n / 6) nothingKnown) (n % 6)) i 0 s, lt-ltb (i / 6) 16 d, own-declared E (i / 6) d)
+      go false q =
+          let s : 96 ≤ i = ltb-false i 96 q in
+          let m : (i + 288) % 384 ≡ i - 96 = omega arith in
+          let d : 16 ≤ i / 6 = omega arith in
+          let u : (i - 96) / 6 ≡ i / 6 - 16 = omega arith in
+          let v : (i - 96) % 6 ≡ i % 6 = omega arith in
+          rw (m, getD-tabulate 384 (λ (n : ℕ). boundsNumber (getD (E .rows) (n / 6) nothingKnown) (n % 6)) (i - 96) 0 (omega arith), le-ltb (i / 6) 16 d, u, v)
+
+  pub ends-laid : tabulate 480 (joined (numbersOf 96 (E .declared)) (numbersOf 384 (E .rows))) ≡ endsOf E ownRows
+  unfolding endsOf
+  ends-laid = tabulate-alike 480 number-laid

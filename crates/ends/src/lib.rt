@@ -3,9 +3,11 @@ use rules::Bounds;
 use rules::Environment;
 use rules::KnownEnd;
 use variables::End;
+ghost use mathlib.Core.Bool.{cond};
 ghost use mathlib.Core.Path.{_≡_};
+ghost use Rattle.rules.specs.BoundsRules.{ownRows};
 ghost use Rattle.machine.specs.Machine.{endOf};
-ghost use Rattle.ends.specs.Ends.{endNumber, boundsNumber, endsOf};
+ghost use Rattle.ends.specs.Ends.{endNumber, boundsNumber, numbersOf, endsOf};
 
 // The end of a declared bound; an integer has none.
 pub fn end_of(e: KnownEnd) -> End
@@ -44,14 +46,49 @@ fn bounds_number(b: Bounds, j: usize) -> u64
     end_number(end_of(upper), j - 3)
 }
 
-// Six numbers a pointer.
-pub fn lay_ends(environment: Environment) -> [u64; 96]
-    ensures { λ r. ⌜ r ≡ endsOf environment ⌝ }
+// Six numbers a pointer, those of its own bounds.
+fn lay_own(environment: Environment) -> [u64; 96]
+    ensures { λ r. ⌜ r ≡ numbersOf 96 (environment .declared) ⌝ }
 {
     let declared = environment.declared;
     let mut ends = [0u64; 96];
     for i in 0..96 {
         ends[i] = bounds_number(declared[i / 6], i % 6);
+    }
+    ends
+}
+
+// Six numbers a row.
+fn lay_rows(environment: Environment) -> [u64; 384]
+    ensures { λ r. ⌜ r ≡ numbersOf 384 (environment .rows) ⌝ }
+{
+    let rows = environment.rows;
+    let mut ends = [0u64; 384];
+    for i in 0..384 {
+        ends[i] = bounds_number(rows[i / 6], i % 6);
+    }
+    ends
+}
+
+// Of two numbers the first, or the second.
+fn one_of(first: bool, x: u64, y: u64) -> u64
+    ensures { λ r. ⌜ r ≡ cond first x y ⌝ }
+{
+    if first {
+        return x;
+    }
+    y
+}
+
+// The numbers of each pointer's own bounds, then those of the rows.
+pub fn lay_ends(environment: Environment) -> [u64; 480]
+    ensures { λ r. ⌜ r ≡ endsOf environment ownRows ⌝ }
+{
+    let own = lay_own(environment);
+    let laid = lay_rows(environment);
+    let mut ends = [0u64; 480];
+    for i in 0..480 {
+        ends[i] = one_of(i < 96, own[i % 96], laid[(i + 288) % 384]);
     }
     ends
 }

@@ -2,7 +2,7 @@
 use Prim.Native.Nat.{ℕ, _*_, _/_, _%_, _≤_, _<_}
 use mathlib.Core.Path.{_≡_, refl, ap, _∙_}
 use native.Mathlib.Omega.{arith}
-use mathlib.Core.Bool.{Bool, true, false, _&&_}
+use mathlib.Core.Bool.{Bool, true, false, _&&_, cond}
 use mathlib.Core.List.{List, [], _∷_}
 use borrow.Author.Tests.{eq-eqb, ne-eqb, lt-leb}
 use lib.Dec.{leb}
@@ -11,7 +11,7 @@ use lib.ListN.{length, take}
 use Rattle.arrays.specs.Tabulate.{tabulate}
 use Rattle.arrays.specs.TabulateLaws.{length-tabulate}
 use Rattle.refusals.specs.declared.Refusal.the-variants.{Length}
-use Rattle.table.specs.Form.{lengthRight, formOf}
+use Rattle.table.specs.Form.{lengthRight, formOf, fourPairs}
 use Rattle.rules.specs.FactSets.{FactSets}
 use Rattle.rules.specs.Verdict.{faults, verdictOf}
 use Rattle.rules.specs.ByChains.{byChains, Judged}
@@ -26,16 +26,20 @@ and-false : (a : Bool) → (a && false) ≡ false
 and-false true = refl
 and-false false = refl
 
--- "above 7,318 words"
-pub faults-long : (S : FactSets) (T : List ℤ) → 7318 < length T → faults S T ≡ Length ∷ []
+-- "above 7,318 words", or, with a fourth section, "7,704".
+above-both : (b : Bool) (n : ℕ) → 7704 < n → leb n (cond b 7704 7318) ≡ false
+above-both true n h = lt-leb n 7704 h
+above-both false n h = lt-leb n 7318 (omega arith)
+
+pub faults-long : (S : FactSets) (T : List ℤ) → 7704 < length T → faults S T ≡ Length ∷ []
 unfolding faults formOf lengthRight
-faults-long S T h = rw (lt-leb (length T) 7318 h, and-false (leb 6 (length T)))
+faults-long S T h = rw (above-both (fourPairs T) (length T) h, and-false (leb 6 (length T)))
 
 pub odd-refused : (bytes : List ℕ) → (length bytes % 4 ≡ 0 → ⊥) → FileJudged bytes (Refused Length)
 unfolding FileJudged fileFaults verdictOf
 odd-refused bytes n = decided _ _ (λ d r. rw (ne-eqb (length bytes % 4) 0 n) refl)
 
-pub long-refused : (bytes : List ℕ) → length bytes % 4 ≡ 0 → 7318 < length bytes / 4 → FileJudged bytes (Refused Length)
+pub long-refused : (bytes : List ℕ) → length bytes % 4 ≡ 0 → 7704 < length bytes / 4 → FileJudged bytes (Refused Length)
 unfolding FileJudged fileFaults verdictOf wordsOf
 long-refused bytes e h =
     decided _ _ (λ d r. rw (

@@ -4,7 +4,7 @@ use rules::Verdict;
 ghost use Rattle.files.specs.Files.{FileJudged};
 
 // The largest table, in words.
-const MAX_WORDS: usize = 7318;
+const MAX_WORDS: usize = 7704;
 
 // The verdict on a file.
 pub fn check_file(bytes: &[u8]) -> Verdict
@@ -17,7 +17,7 @@ pub fn check_file(bytes: &[u8]) -> Verdict
     if size / 4 > MAX_WORDS {
         return Verdict::Refused(Refusal::Length);
     }
-    let mut table = [0i32; 7318];
+    let mut table = [0i32; 7704];
     let count = encoding::read_words(bytes, &mut table);
     checker::check(&table[..count])
 }

@@ -26,7 +26,7 @@ fn first_simple(first: usize, count: usize, after: usize) -> usize
     if count > 0 { first } else { after }
 }
 
-// How many of the `count` statements from `first` on are of kinds 1 to 10, before one that is not.
+// How many of the `count` statements from `first` on are of kinds 1 to 10 and 14, before one that is not.
 fn count_simple(table: &[i32], sections: Sections, first: usize, count: usize) -> usize
     ensures { λ r. ⌜ r ≡ length (simples count (now (table .entry)) sections first) ⌝ }
 {

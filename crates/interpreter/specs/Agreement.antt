@@ -25,21 +25,24 @@ stepShown going a = Go a
 stepShown (stopped n) a = Stop (checkOf n a)
 stepShown stuck a = Go a
 
-abbrev pub moveShown : Point → Move
-moveShown Q = move (stepShown (Q .status) (Q .due)) (Q .values) (Q .cells)
+-- The run has the rows in force as the ends that are laid out.
+abbrev pub moveShown : Environment → Point → Move
+moveShown E Q = move (stepShown (Q .status) (Q .due)) (endsOf E (Q .rows)) (Q .values) (Q .cells)
 
-abbrev pub resultShown : Sections → Point → Result
-resultShown h Q = result (outcomeShown h (Q .status) (Q .steps) (Q .due)) (Q .values) (Q .cells)
+abbrev pub resultShown : Environment → Sections → Point → Result
+resultShown E h Q = result (outcomeShown h (Q .status) (Q .steps) (Q .due)) (endsOf E (Q .rows)) (Q .values) (Q .cells)
 
 -- What the run without origins needs of the plain machine's run from the point P.
 pub record Runnable (T : List ℤ) (h : Sections) (E : Environment) (D W S : List ℕ) (P : Point) : Type 0 where
   -- the slices that are laid out
-  pub ends : W ≡ endsOf E
+  pub ends : W ≡ endsOf E (P .rows)
   pub successors : (a : ℕ) → a < h .statements → entriesAt S a ≡ successorsOf T h E D a
   -- every statement reads
   pub reads : (a : ℕ) → a < h .statements → (s : Statement) × (statementAt T h a ≡ Read s)
   -- the objects lie in the memory, and origins are objects
   pub objects : (o : ℕ) → o < h .objects → high D o ≤ length (P .cells)
   pub origins : (p : ℕ) → getD (P .origins) p 0 ≤ h .objects
+  -- a row for each of 16 numbers
+  pub rows-long : (t : ℕ) → length (pointAfter T h E D t P .rows) ≡ 16
   -- no point is stuck
   pub unstuck : (t : ℕ) → pointAfter T h E D t P .status ≡ stuck → ⊥

@@ -16,7 +16,7 @@ use Rattle.statements.specs.Statements.{statementAt}
 use Rattle.statements.specs.Typed.{SimpleTyped, WellTyped}
 use Rattle.statements.specs.StatementLaws.{read-typed, read-limits}
 use Rattle.statements.specs.declared.Simple.{Simple}
-use Rattle.statements.specs.declared.Simple.the-variants.{Literal, AddConstant, Arithmetic, Null, Address, PointerOffset, PointerIndex, Load, Store, Check as Test}
+use Rattle.statements.specs.declared.Simple.the-variants.{Literal, AddConstant, Arithmetic, Null, Address, PointerOffset, PointerIndex, Load, Store, Check as Test, Declare}
 use Rattle.statements.specs.declared.Statement.{Statement}
 use Rattle.statements.specs.declared.Statement.the-variants.{Plain, If, While, Bundle}
 use Rattle.statements.specs.declared.StatementRead.{StatementRead}
@@ -25,6 +25,7 @@ use Rattle.decode.specs.Decode.{decodedAt}
 use Rattle.decode.specs.DecodeLaws.{read-decoded}
 use Rattle.flow.specs.Flow.{Successors}
 use Rattle.flow.specs.Shape.{entriesAt}
+use Rattle.rules.specs.BoundsRules.{inForce, rowsAfter}
 use Rattle.rules.specs.declared.Environment.{Environment}
 use Rattle.machine.specs.Machine.{low, high, address, inOrigin, conditionHolds, Failing, none, fails, failing, Status, going, stopped, stuck, Point, Memory, Performed, done, no-step, stepIf, performed, memoryOf, afterChecks, branched, statementStep, stepIfDue, nextPoint, pointAfter}
 use Rattle.checks.specs.Checked.{stepUnless}
@@ -34,21 +35,21 @@ use Rattle.stops.specs.Checks.{checkOf}
 use Rattle.interpreter.specs.Agreement.{stepShown, moveShown, resultShown, Runnable}
 use Rattle.interpreter.specs.Outcomes.{outcomeShown}
 use Rattle.ends.specs.Ends.{endsOf}
-use Rattle.interpreter.specs.EndsLaws.{failing-same}
+use Rattle.interpreter.specs.EndsLaws.{failing-same, ends-after}
 use Rattle.checks.specs.declared.Step.{Step}
 use Rattle.checks.specs.declared.Step.the-variants.{Go}
 use Rattle.stops.specs.declared.Outcome.the-variants.{Done, Spent, Stopped}
 
--- ---- what a statement of kinds 1 to 10 leaves
+-- ---- what a statement of kinds 1 to 10 and 14 leaves
 
--- What is left in values, cells and origins.
-abbrev Leaves : List ℕ → List ℕ → ℕ → Performed → Type 0
-Leaves vs cs k (done m) = (m .values ≡ vs) × (m .cells ≡ cs) × ((p : ℕ) → getD (m .origins) p 0 ≤ k)
-Leaves vs cs k no-step = Unit {0}
+-- What is left in rows, values, cells and origins.
+abbrev Leaves : List ℕ → List ℕ → List ℕ → ℕ → Performed → Type 0
+Leaves rs vs cs k (done m) = (m .values ≡ vs) × (m .cells ≡ cs) × ((p : ℕ) → getD (m .origins) p 0 ≤ k) × (m .rows ≡ rs)
+Leaves rs vs cs k no-step = Unit {0}
 
-leaves-if : (b : Bool) (vs cs : List ℕ) (k : ℕ) (p : Performed) → Leaves vs cs k p → Leaves vs cs k (stepIf b p)
-leaves-if true vs cs k p l = l
-leaves-if false vs cs k p l = tt
+leaves-if : (b : Bool) (rs vs cs : List ℕ) (k : ℕ) (p : Performed) → Leaves rs vs cs k p → Leaves rs vs cs k (stepIf b p)
+leaves-if true rs vs cs k p l = l
+leaves-if false rs vs cs k p l = tt
 
 -- A list of numbers up to k, with one of them set.
 set-at-most : (l : List ℕ) (x v k : ℕ) → v ≤ k → ((p : ℕ) → getD l p 0 ≤ k) → (p : ℕ) → getD (set l x v) p 0 ≤ k
@@ -59,18 +60,19 @@ set-at-most (y ∷ l) (suc x) v k h f zero = f zero
 set-at-most (y ∷ l) (suc x) v k h f (suc p) = set-at-most l x v k h (λ q. f (suc q)) p
 
 leaves : (T : List ℤ) (h : Sections) (D : List ℕ) (s : Simple) (m : Memory) → SimpleTyped T h s → ((p : ℕ) → getD (m .origins) p 0 ≤ h .objects) →
-    Leaves (valuesAfter D s (m .values) (m .cells)) (cellsAfter s (m .values) (m .cells)) (h .objects) (performed D s m)
-unfolding performed valuesAfter cellsAfter
-leaves T h D (Literal x k) m t o = (refl, refl, o)
-leaves T h D (AddConstant x y k) m t o = (refl, refl, o)
-leaves T h D (Arithmetic x y z op) m t o = (refl, refl, o)
-leaves T h D (Null p) m t o = (refl, refl, set-at-most (m .origins) p 0 (h .objects) (omega arith) o)
-leaves T h D (Address p q) m t o = (refl, refl, set-at-most (m .origins) p (q + 1) (h .objects) (omega (arith, t .object)) o)
-leaves T h D (PointerOffset p q k) m t o = (refl, refl, set-at-most (m .origins) p (getD (m .origins) q 0) (h .objects) (o q) o)
-leaves T h D (PointerIndex p q i) m t o = (refl, refl, set-at-most (m .origins) p (getD (m .origins) q 0) (h .objects) (o q) o)
-leaves T h D (Load x p i k) m t o = leaves-if (inOrigin D (getD (m .origins) p 0) (address (m .values) p i k)) _ _ _ _ (refl, refl, o)
-leaves T h D (Store p i k x) m t o = leaves-if (inOrigin D (getD (m .origins) p 0) (address (m .values) p i k)) _ _ _ _ (refl, refl, o)
-leaves T h D (Test c) m t o = (refl, refl, o)
+    Leaves (rowsAfter s (m .rows)) (valuesAfter D s (m .values) (m .cells)) (cellsAfter s (m .values) (m .cells)) (h .objects) (performed D s m)
+unfolding performed valuesAfter cellsAfter rowsAfter
+leaves T h D (Literal x k) m t o = (refl, refl, o, refl)
+leaves T h D (AddConstant x y k) m t o = (refl, refl, o, refl)
+leaves T h D (Arithmetic x y z op) m t o = (refl, refl, o, refl)
+leaves T h D (Null p) m t o = (refl, refl, set-at-most (m .origins) p 0 (h .objects) (omega arith) o, refl)
+leaves T h D (Address p q) m t o = (refl, refl, set-at-most (m .origins) p (q + 1) (h .objects) (omega (arith, t .object)) o, refl)
+leaves T h D (PointerOffset p q k) m t o = (refl, refl, set-at-most (m .origins) p (getD (m .origins) q 0) (h .objects) (o q) o, refl)
+leaves T h D (PointerIndex p q i) m t o = (refl, refl, set-at-most (m .origins) p (getD (m .origins) q 0) (h .objects) (o q) o, refl)
+leaves T h D (Load x p i k) m t o = leaves-if (inOrigin D (getD (m .origins) p 0) (address (m .values) p i k)) _ _ _ _ _ (refl, refl, o, refl)
+leaves T h D (Store p i k x) m t o = leaves-if (inOrigin D (getD (m .origins) p 0) (address (m .values) p i k)) _ _ _ _ _ (refl, refl, o, refl)
+leaves T h D (Test c) m t o = (refl, refl, o, refl)
+leaves T h D (Declare p r) m t o = (refl, refl, o, refl)
 
 cells-kept : (s : Simple) (vs cs : List ℕ) → length (cellsAfter s vs cs) ≡ length cs
 unfolding cellsAfter
@@ -84,29 +86,30 @@ cells-kept (PointerIndex p q i) vs cs = refl
 cells-kept (Load x p i k) vs cs = refl
 cells-kept (Store p i k x) vs cs = simp length-set
 cells-kept (Test c) vs cs = refl
+cells-kept (Declare p r) vs cs = refl
 
 -- ---- one step
 
 -- What holds of the point Q after a step from P whose move is m.
-pub record Stepped (P Q : Point) (k : ℕ) (m : Move) : Type 0 where
-  pub same : m ≡ moveShown Q
+pub record Stepped (E : Environment) (P Q : Point) (k : ℕ) (m : Move) : Type 0 where
+  pub same : m ≡ moveShown E Q
   pub counted : Q .steps ≡ P .steps + 1
   pub long : length (Q .cells) ≡ length (P .cells)
   pub origins : (p : ℕ) → getD (Q .origins) p 0 ≤ k
 
-move-same : (s : Step) (vs ws cs ds : List ℕ) → vs ≡ ws → cs ≡ ds → move s vs cs ≡ move s ws ds
-move-same s vs ws cs ds p q = rw (p, q)
+move-same : (s : Step) (W W′ vs ws cs ds : List ℕ) → W ≡ W′ → vs ≡ ws → cs ≡ ds → move s W vs cs ≡ move s W′ ws ds
+move-same s W W′ vs ws cs ds o p q = rw (o, p, q)
 
-module _ (P : Point) (next k : ℕ) (o : (p : ℕ) → getD (P .origins) p 0 ≤ k) where
-  simple-stepped : (f : Failing) (p : Performed) (vs cs : List ℕ) → Leaves vs cs k p → length cs ≡ length (P .cells) → (afterChecks f P next p .status ≡ stuck → ⊥) →
-      Stepped P (afterChecks f P next p) k (move (stepUnless f (P .due) next) (changedUnless f (P .values) vs) (changedUnless f (P .cells) cs))
+module _ (E : Environment) (P : Point) (next k : ℕ) (o : (p : ℕ) → getD (P .origins) p 0 ≤ k) where
+  simple-stepped : (f : Failing) (p : Performed) (W rs vs cs : List ℕ) → W ≡ endsOf E rs → Leaves rs vs cs k p → length cs ≡ length (P .cells) → (afterChecks f P next p .status ≡ stuck → ⊥) →
+      Stepped E P (afterChecks f P next p) k (move (stepUnless f (P .due) next) (changedUnless f (endsOf E (P .rows)) W) (changedUnless f (P .values) vs) (changedUnless f (P .cells) cs))
   unfolding stepUnless changedUnless
-  simple-stepped (fails n) p vs cs l e u = record { same = refl; counted = refl; long = refl; origins = o }
-  simple-stepped none (done m) vs cs l e u =
-      record { same = move-same (Go next) vs (m .values) cs (m .cells) (sym (l .0)) (sym (l .1)); counted = refl; long = ap length (l .1) ∙ e; origins = l .2 }
-  simple-stepped none no-step vs cs l e u = absurd (u refl)
+  simple-stepped (fails n) p W rs vs cs w l e u = record { same = refl; counted = refl; long = refl; origins = o }
+  simple-stepped none (done m) W rs vs cs w l e u =
+      record { same = move-same (Go next) W (endsOf E (m .rows)) vs (m .values) cs (m .cells) (w ∙ ap (endsOf E) (sym (l .3))) (sym (l .0)) (sym (l .1)); counted = refl; long = ap length (l .1) ∙ e; origins = l .2 }
+  simple-stepped none no-step W rs vs cs w l e u = absurd (u refl)
 
-  branch-stepped : (b : Bool) (n : Successors) → Stepped P (branched b P n) k (move (Go (cond b (n .next) (n .other))) (P .values) (P .cells))
+  branch-stepped : (b : Bool) (n : Successors) → Stepped E P (branched b P n) k (move (Go (cond b (n .next) (n .other))) (endsOf E (P .rows)) (P .values) (P .cells))
   branch-stepped true n = record { same = refl; counted = refl; long = refl; origins = o }
   branch-stepped false n = record { same = refl; counted = refl; long = refl; origins = o }
 
@@ -115,15 +118,15 @@ module _ (T : List ℤ) (h : Sections) (E : Environment) (D W S : List ℕ) wher
   after P = nextPoint T h E D (P .status) P
 
   -- A step from P whose statement is s, where the plain machine is not stuck after it.
-  pub stepped : (P : Point) (s : Statement) (n : Successors) → W ≡ endsOf E → Limits h → WellTyped T h s → ((p : ℕ) → getD (P .origins) p 0 ≤ h .objects) →
-      (statementStep E D (Read s) n P .status ≡ stuck → ⊥) → Stepped P (statementStep E D (Read s) n P) (h .objects) (statementMove W D s (P .due) n (P .values) (P .cells))
+  pub stepped : (P : Point) (s : Statement) (n : Successors) → W ≡ endsOf E (P .rows) → length (P .rows) ≡ 16 → Limits h → WellTyped T h s → ((p : ℕ) → getD (P .origins) p 0 ≤ h .objects) →
+      (statementStep E D (Read s) n P .status ≡ stuck → ⊥) → Stepped E P (statementStep E D (Read s) n P) (h .objects) (statementMove W D s (P .due) n (P .values) (P .cells))
   unfolding statementStep statementMove simpleMove
-  stepped P (Plain s) n w l t o u =
-      rw (w, failing-same T h E (P .values) s l t)
-      (simple-stepped P (n .next) (h .objects) o (failing E (P .values) s) (performed D s (memoryOf P)) _ _ (leaves T h D s (memoryOf P) t o) (cells-kept s (P .values) (P .cells)) u)
-  stepped P (If c x y) n w l t o u = branch-stepped P 0 (h .objects) o (conditionHolds (P .values) c) n
-  stepped P (While c x) n w l t o u = branch-stepped P 0 (h .objects) o (conditionHolds (P .values) c) n
-  stepped P (Bundle x) n w l t o u = record { same = refl; counted = refl; long = refl; origins = o }
+  stepped P (Plain s) n w k l t o u =
+      rw (w, failing-same T h E (P .rows) (P .values) s l t)
+      (simple-stepped E P (n .next) (h .objects) o (failing (inForce E (P .rows)) (P .values) s) (performed D s (memoryOf P)) _ _ _ _ (ends-after T h E (P .rows) s l t k) (leaves T h D s (memoryOf P) t o) (cells-kept s (P .values) (P .cells)) u)
+  stepped P (If c x y) n w k l t o u = rw w (branch-stepped E P 0 (h .objects) o (conditionHolds (P .values) c) n)
+  stepped P (While c x) n w k l t o u = rw w (branch-stepped E P 0 (h .objects) o (conditionHolds (P .values) c) n)
+  stepped P (Bundle x) n w k l t o u = rw w (record { same = refl; counted = refl; long = refl; origins = o })
 
   -- ---- an access is inside where the plain machine is not stuck
 
@@ -143,8 +146,8 @@ module _ (T : List ℤ) (h : Sections) (E : Environment) (D W S : List ℕ) wher
       (omega arith, omega arith)
 
   module _ (P : Point) (o : (p : ℕ) → getD (P .origins) p 0 ≤ h .objects) (f : (i : ℕ) → i < h .objects → high D i ≤ length (P .cells)) where
-    inside-simple : (s : Simple) (n : ℕ) → W ≡ endsOf E → Limits h → SimpleTyped T h s →
-        (afterChecks (failing E (P .values) s) P n (performed D s (memoryOf P)) .status ≡ stuck → ⊥) → InsideSimple W s (P .values) (P .cells)
+    inside-simple : (s : Simple) (n : ℕ) → W ≡ endsOf E (P .rows) → Limits h → SimpleTyped T h s →
+        (afterChecks (failing (inForce E (P .rows)) (P .values) s) P n (performed D s (memoryOf P)) .status ≡ stuck → ⊥) → InsideSimple W s (P .values) (P .cells)
     unfolding performed
     inside-simple (Literal x k) n w l t u = tt
     inside-simple (AddConstant x y k) n w l t u = tt
@@ -155,13 +158,14 @@ module _ (T : List ℤ) (h : Sections) (E : Environment) (D W S : List ℕ) wher
     inside-simple (PointerIndex p q i) n w l t u = tt
     inside-simple (Load x p i k) n w l t u =
         λ e. in-object (getD (P .origins) p 0) (address (P .values) p i k) (P .cells)
-        (not-lost P (failing E (P .values) (Load x p i k)) _ n _ (sym (failing-same T h E (P .values) (Load x p i k) l t) ∙ (rw w at e)) u) (o p) f
+        (not-lost P (failing (inForce E (P .rows)) (P .values) (Load x p i k)) _ n _ (sym (failing-same T h E (P .rows) (P .values) (Load x p i k) l t) ∙ (rw w at e)) u) (o p) f
     inside-simple (Store p i k x) n w l t u =
         λ e. in-object (getD (P .origins) p 0) (address (P .values) p i k) (P .cells)
-        (not-lost P (failing E (P .values) (Store p i k x)) _ n _ (sym (failing-same T h E (P .values) (Store p i k x) l t) ∙ (rw w at e)) u) (o p) f
+        (not-lost P (failing (inForce E (P .rows)) (P .values) (Store p i k x)) _ n _ (sym (failing-same T h E (P .rows) (P .values) (Store p i k x) l t) ∙ (rw w at e)) u) (o p) f
     inside-simple (Test c) n w l t u = tt
+    inside-simple (Declare p r) n w l t u = tt
 
-    inside : (s : Statement) (n : Successors) → W ≡ endsOf E → Limits h → WellTyped T h s → (statementStep E D (Read s) n P .status ≡ stuck → ⊥) → Inside W s (P .values) (P .cells)
+    inside : (s : Statement) (n : Successors) → W ≡ endsOf E (P .rows) → Limits h → WellTyped T h s → (statementStep E D (Read s) n P .status ≡ stuck → ⊥) → Inside W s (P .values) (P .cells)
     unfolding statementStep
     inside (Plain s) n w l t u = inside-simple s (n .next) w l t u
     inside (If c x y) n w l t u = tt
@@ -189,6 +193,10 @@ module _ (T : List ℤ) (h : Sections) (E : Environment) (D W S : List ℕ) wher
   unfolding nextPoint
   after-stopped P k g = ap (λ (s : Status). nextPoint T h E D s P) g
 
+  rows-now : (P : Point) → Runnable T h E D W S P → length (P .rows) ≡ 16
+  unfolding pointAfter
+  rows-now P R = R .rows-long 0
+
   module _ (P : Point) (g : P .status ≡ going) (R : Runnable T h E D W S P) (due : P .due < h .statements) where
     abbrev here : Statement
     here = R .reads (P .due) due .0
@@ -210,15 +218,15 @@ module _ (T : List ℤ) (h : Sections) (E : Environment) (D W S : List ℕ) wher
     free-here : statementStep E D (Read here) (entriesAt S (P .due)) P .status ≡ stuck → ⊥
     free-here e = free (ap (λ (Q : Point). Q .status) after-is ∙ e)
 
-    point-stepped : Stepped P (after P) (h .objects) (bareMove T h W D S (P .due) (P .values) (P .cells))
+    point-stepped : Stepped E P (after P) (h .objects) (bareMove T h W D S (P .due) (P .values) (P .cells))
     unfolding bareMove
     point-stepped =
-        subst (λ (Q : Point). Stepped P Q (h .objects) (statementMove W D (decodedAt T h (P .due)) (P .due) (entriesAt S (P .due)) (P .values) (P .cells))) (sym after-is)
+        subst (λ (Q : Point). Stepped E P Q (h .objects) (statementMove W D (decodedAt T h (P .due)) (P .due) (entriesAt S (P .due)) (P .values) (P .cells))) (sym after-is)
         (rw (read-decoded T h (P .due) here reads)
-        (stepped P here (entriesAt S (P .due)) (R .ends) (read-limits T h (P .due) here reads .0) (read-typed T h (P .due) here reads) (R .origins) free-here))
+        (stepped P here (entriesAt S (P .due)) (R .ends) (rows-now P R) (read-limits T h (P .due) here reads .0) (read-typed T h (P .due) here reads) (R .origins) free-here))
 
     -- The step without origins says and leaves what the plain machine's next point shows.
-    pub step-agrees : bareMove T h W D S (P .due) (P .values) (P .cells) ≡ moveShown (after P)
+    pub step-agrees : bareMove T h W D S (P .due) (P .values) (P .cells) ≡ moveShown E (after P)
     step-agrees = point-stepped .same
 
     pub step-ready : Ready T h W (P .due) (P .values) (P .cells)
@@ -230,20 +238,25 @@ module _ (T : List ℤ) (h : Sections) (E : Environment) (D W S : List ℕ) wher
               inside P (R .origins) (R .objects) here (entriesAt S (P .due)) (R .ends) (read-limits T h (P .due) here reads .0) (read-typed T h (P .due) here reads) free-here;
         }
 
-    -- What the run needs holds of the next point too.
-    pub runnable-next : Runnable T h E D W S (after P)
+    -- What the run needs holds of the next point too, with the ends in force there.
+    pub runnable-next : Runnable T h E D (endsOf E (after P .rows)) S (after P)
     unfolding pointAfter
     runnable-next =
         record {
-          ends = R .ends;
+          ends = refl;
           successors = R .successors;
           reads = R .reads;
           objects = λ i l. omega (arith, R .objects i l, point-stepped .long);
           origins = point-stepped .origins;
+          rows-long = λ t. ap (λ (Q : Point). length (Q .rows)) (later t P) ∙ R .rows-long (suc t);
           unstuck = λ t e. R .unstuck (suc t) (ap (λ (Q : Point). Q .status) (sym (later t P)) ∙ e);
         }
 
-  -- ---- the whole run
+-- ---- the whole run
+
+module _ (T : List ℤ) (h : Sections) (E : Environment) (D S : List ℕ) where
+  abbrev next : Point → Point
+  next P = nextPoint T h E D (P .status) P
 
   onward : (s : Status) (a : ℕ) (A : ℕ → Type 0) → (s ≡ going → A a) → (s ≡ stuck → ⊥) → Onward (stepShown s a) A
   onward going a A f u = f refl
@@ -255,57 +268,60 @@ module _ (T : List ℤ) (h : Sections) (E : Environment) (D W S : List ℕ) wher
   if-true false A f = tt
 
   -- Where no point of the plain machine is stuck, every access of the code is inside.
-  pub safe-run : (l : ℕ) (P : Point) → P .status ≡ going → Runnable T h E D W S P → SafeRun T h W D S l (P .due) (P .values) (P .cells)
+  pub safe-run : (W : List ℕ) (l : ℕ) (P : Point) → P .status ≡ going → Runnable T h E D W S P → SafeRun T h W D S l (P .due) (P .values) (P .cells)
   unfolding SafeRun
-  safe-run zero P g R = tt
-  safe-run (suc l) P g R =
+  safe-run W zero P g R = tt
+  safe-run W (suc l) P g R =
       if-true (ltb (P .due) (h .statements)) _
       (λ e.
       let due = ltb-true (P .due) (h .statements) e in (
-        step-ready P g R due,
-        subst (λ (m : Move). Onward (m .said) (λ b. SafeRun T h W D S l b (m .values) (m .cells))) (sym (step-agrees P g R due))
-            (onward (after P .status) (after P .due) (λ b. SafeRun T h W D S l b (after P .values) (after P .cells)) (λ i. safe-run l (after P) i (runnable-next P g R due)) (free P g R due)),
+        step-ready T h E D W S P g R due,
+        subst (λ (m : Move). Onward (m .said) (λ b. SafeRun T h (m .ends) D S l b (m .values) (m .cells))) (sym (step-agrees T h E D W S P g R due))
+            (onward (next P .status) (next P .due) (λ b. SafeRun T h (endsOf E (next P .rows)) D S l b (next P .values) (next P .cells))
+            (λ i. safe-run (endsOf E (next P .rows)) l (next P) i (runnable-next T h E D W S P g R due)) (free T h E D W S P g R due)),
       ))
 
-  spent-or-done : (b : Bool) (n a : ℕ) (vs cs : List ℕ) → cond b (result (Spent n a) vs cs) (result (Done n) vs cs) ≡ result (cond b (Spent n a) (Done n)) vs cs
-  spent-or-done true n a vs cs = refl
-  spent-or-done false n a vs cs = refl
+  spent-or-done : (b : Bool) (n a : ℕ) (W vs cs : List ℕ) → cond b (result (Spent n a) W vs cs) (result (Done n) W vs cs) ≡ result (cond b (Spent n a) (Done n)) W vs cs
+  spent-or-done true n a W vs cs = refl
+  spent-or-done false n a W vs cs = refl
 
   -- The result shown at a point that is going.
-  shown-going : (P : Point) (b : Bool) → P .status ≡ going → ltb (P .due) (h .statements) ≡ b → result (cond b (Spent (P .steps) (P .due)) (Done (P .steps))) (P .values) (P .cells) ≡ resultShown h P
+  shown-going : (P : Point) (b : Bool) → P .status ≡ going → ltb (P .due) (h .statements) ≡ b → result (cond b (Spent (P .steps) (P .due)) (Done (P .steps))) (endsOf E (P .rows)) (P .values) (P .cells) ≡ resultShown E h P
   shown-going P b g e =
-      ap (λ (x : Bool). result (cond x (Spent (P .steps) (P .due)) (Done (P .steps))) (P .values) (P .cells)) (sym e)
-      ∙ ap (λ (s : Status). result (outcomeShown h s (P .steps) (P .due)) (P .values) (P .cells)) (sym g)
+      ap (λ (x : Bool). result (cond x (Spent (P .steps) (P .due)) (Done (P .steps))) (endsOf E (P .rows)) (P .values) (P .cells)) (sym e)
+      ∙ ap (λ (s : Status). result (outcomeShown h s (P .steps) (P .due)) (endsOf E (P .rows)) (P .values) (P .cells)) (sym g)
 
-  shown-stopped : (P : Point) (k n : ℕ) → P .status ≡ stopped k → n ≡ P .steps → result (Stopped n (checkOf k (P .due))) (P .values) (P .cells) ≡ resultShown h P
+  shown-stopped : (P : Point) (k n : ℕ) → P .status ≡ stopped k → n ≡ P .steps → result (Stopped n (checkOf k (P .due))) (endsOf E (P .rows)) (P .values) (P .cells) ≡ resultShown E h P
   shown-stopped P k n g e =
-      ap (λ (i : ℕ). result (Stopped i (checkOf k (P .due))) (P .values) (P .cells)) e
-      ∙ ap (λ (s : Status). result (outcomeShown h s (P .steps) (P .due)) (P .values) (P .cells)) (sym g)
+      ap (λ (i : ℕ). result (Stopped i (checkOf k (P .due))) (endsOf E (P .rows)) (P .values) (P .cells)) e
+      ∙ ap (λ (s : Status). result (outcomeShown h s (P .steps) (P .due)) (endsOf E (P .rows)) (P .values) (P .cells)) (sym g)
 
-  followed : (s : Status) (a n : ℕ) (F : ℕ → Result) (vs cs : List ℕ) (X : Result) → (s ≡ going → F a ≡ X) → ((k : ℕ) → s ≡ stopped k → result (Stopped n (checkOf k a)) vs cs ≡ X) →
-      (s ≡ stuck → ⊥) → follow (stepShown s a) F n vs cs ≡ X
-  followed going a n F vs cs X f c u = f refl
-  followed (stopped k) a n F vs cs X f c u = c k refl
-  followed stuck a n F vs cs X f c u = absurd (u refl)
+  followed : (s : Status) (a n : ℕ) (F : ℕ → Result) (W vs cs : List ℕ) (X : Result) → (s ≡ going → F a ≡ X) → ((k : ℕ) → s ≡ stopped k → result (Stopped n (checkOf k a)) W vs cs ≡ X) →
+      (s ≡ stuck → ⊥) → follow (stepShown s a) F n W vs cs ≡ X
+  followed going a n F W vs cs X f c u = f refl
+  followed (stopped k) a n F W vs cs X f c u = c k refl
+  followed stuck a n F W vs cs X f c u = absurd (u refl)
 
   by-test : (b : Bool) (x y X : Result) → (b ≡ true → x ≡ X) → (b ≡ false → y ≡ X) → cond b x y ≡ X
   by-test true x y X f c = f refl
   by-test false x y X f c = c refl
 
   -- The run without origins ends as the plain machine's point at that limit shows.
-  pub run-agrees : (l : ℕ) (P : Point) → P .status ≡ going → Runnable T h E D W S P → bareRun T h W D S l (P .steps) (P .due) (P .values) (P .cells) ≡ resultShown h (pointAfter T h E D l P)
+  pub run-agrees : (W : List ℕ) (l : ℕ) (P : Point) → P .status ≡ going → Runnable T h E D W S P → bareRun T h W D S l (P .steps) (P .due) (P .values) (P .cells) ≡ resultShown E h (pointAfter T h E D l P)
   unfolding bareRun pointAfter
-  run-agrees zero P g R = spent-or-done (ltb (P .due) (h .statements)) _ _ _ _ ∙ shown-going P _ g refl
-  run-agrees (suc l) P g R =
+  run-agrees W zero P g R = rw (R .ends) (spent-or-done (ltb (P .due) (h .statements)) _ _ _ _ _ ∙ shown-going P _ g refl)
+  run-agrees W (suc l) P g R =
       by-test (ltb (P .due) (h .statements)) _ _ _
       (λ e.
       let due = ltb-true (P .due) (h .statements) e in
-      let Q = after P in
+      let Q = next P in
       let n = P .steps + 1 in
-      let counted = point-stepped P g R due .counted in
-      ap (λ (m : Move). follow (m .said) (λ b. bareRun T h W D S l n b (m .values) (m .cells)) n (m .values) (m .cells)) (step-agrees P g R due)
-      ∙ followed (Q .status) (Q .due) n (λ b. bareRun T h W D S l n b (Q .values) (Q .cells)) (Q .values) (Q .cells) _
-      (λ i. ap (λ (j : ℕ). bareRun T h W D S l j (Q .due) (Q .values) (Q .cells)) (sym counted) ∙ (run-agrees l Q i (runnable-next P g R due) ∙ ap (resultShown h) (later l P)))
-      (λ k i. shown-stopped Q k n i (sym counted) ∙ ap (resultShown h) (sym (stays Q (after-stopped Q k i) l) ∙ later l P))
-      (free P g R due))
-      (λ e. shown-going P false g e ∙ ap (resultShown h) (sym (stays P (after-ended P g e) (suc l))))
+      let X = endsOf E (Q .rows) in
+      let counted = point-stepped T h E D W S P g R due .counted in
+      ap (λ (m : Move). follow (m .said) (λ b. bareRun T h (m .ends) D S l n b (m .values) (m .cells)) n (m .ends) (m .values) (m .cells)) (step-agrees T h E D W S P g R due)
+      ∙ followed (Q .status) (Q .due) n (λ b. bareRun T h X D S l n b (Q .values) (Q .cells)) X (Q .values) (Q .cells) _
+      (λ i. ap (λ (j : ℕ). bareRun T h X D S l j (Q .due) (Q .values) (Q .cells)) (sym counted)
+      ∙ (run-agrees X l Q i (runnable-next T h E D W S P g R due) ∙ ap (resultShown E h) (later T h E D W S l P)))
+      (λ k i. shown-stopped Q k n i (sym counted) ∙ ap (resultShown E h) (sym (stays T h E D W S Q (after-stopped T h E D W S Q k i) l) ∙ later T h E D W S l P))
+      (free T h E D W S P g R due))
+      (λ e. rw (R .ends) (shown-going P false g e ∙ ap (resultShown E h) (sym (stays T h E D W S P (after-ended T h E D W S P g e) (suc l)))))

@@ -18,7 +18,7 @@ use Rattle.table.specs.declared.Form.{Form}
 use Rattle.table.specs.declared.Form.the-variants.{WellFormed, Refused}
 use Rattle.blocks.specs.Tree.{tree}
 use Rattle.blocks.specs.Layout.{also}
-use Rattle.rules.specs.BoundsRules.{isPointer}
+use Rattle.rules.specs.BoundsRules.{isPointer, inForce}
 use Rattle.rules.specs.Verdict.{environmentOf, faults}
 use Rattle.rules.specs.FactSets.{FactSets}
 use Rattle.rules.specs.ByChains.{byChains, Decided}
@@ -67,8 +67,8 @@ answerAt h P = outcomeShown h (P .status) (P .steps) (P .due)
 
 -- DEMAND 3 at the point after t steps of a run with the allowance `limit`, which answers r.
 pub record AtPoint (T : List ℤ) (h : Sections) (E : Environment) (D : List ℕ) (point : ℕ → Point) (limit : ℕ) (r : Outcome) (t : ℕ) : Type 0 where
-  -- "Outside a bundle every declared bound is true."
-  pub bounds : inBundle (tree T h) (point t .due) ≡ false → (p : ℕ) → isPointer E p ≡ true → boundsTrue E D (point t .values) (point t .origins) p ≡ true
+  -- "Outside a bundle every declared bound is true." Declared is what is in force: the pointer's row, or its own.
+  pub bounds : inBundle (tree T h) (point t .due) ≡ false → (p : ℕ) → isPointer E p ≡ true → boundsTrue (inForce E (point t .rows)) D (point t .values) (point t .origins) p ≡ true
   -- "Each cell read or written so far lay in the object that the pointer was derived from."
   pub accesses : (s : ℕ) → s < t → AccessInside D (accessFrom T h E (point s .status) (point s))
   -- No cell outside the objects has changed.
@@ -83,15 +83,15 @@ pub record AtPoint (T : List ℤ) (h : Sections) (E : Environment) (D : List ℕ
   pub spent : point t .status ≡ going → point t .due < h .statements → (r ≡ outcome.Spent (point t .steps) (point t .due)) ↔ (t ≡ limit)
   -- "else its next step stops it exactly when a named check fails at the statement due,
   pub stops : point t .status ≡ going → point t .due < h .statements → (n : ℕ)
-      → (point (t + 1) .status ≡ stopped n) ↔ (failingAt E (statementAt T h (point t .due)) (point t .values) ≡ fails n)
+      → (point (t + 1) .status ≡ stopped n) ↔ (failingAt (inForce E (point t .rows)) (statementAt T h (point t .due)) (point t .values) ≡ fails n)
   -- and it answers that statement and the first such check"
   pub answers-check : point t .status ≡ going → point t .due < h .statements → t < limit → (c : Check)
-      → (r ≡ outcome.Stopped (point t .steps + 1) c) ↔ ((failingAt E (statementAt T h (point t .due)) (point t .values) ≡ fails (checkNumber c)) × (checkStatement c ≡ point t .due))
+      → (r ≡ outcome.Stopped (point t .steps + 1) c) ↔ ((failingAt (inForce E (point t .rows)) (statementAt T h (point t .due)) (point t .values) ≡ fails (checkNumber c)) × (checkStatement c ≡ point t .due))
   -- "The stopping statement is counted and changes nothing", and stays due.
   pub stop-changes-nothing : point t .status ≡ going → (n : ℕ) → point (t + 1) .status ≡ stopped n
-      → (point (t + 1) .due ≡ point t .due) × (point (t + 1) .steps ≡ point t .steps + 1) × (point (t + 1) .values ≡ point t .values) × (point (t + 1) .cells ≡ point t .cells) × (point (t + 1) .origins ≡ point t .origins)
+      → (point (t + 1) .due ≡ point t .due) × (point (t + 1) .steps ≡ point t .steps + 1) × (point (t + 1) .values ≡ point t .values) × (point (t + 1) .cells ≡ point t .cells) × (point (t + 1) .origins ≡ point t .origins) × (point (t + 1) .rows ≡ point t .rows)
   -- "and else it takes that step"
-  pub goes-on : point t .status ≡ going → point t .due < h .statements → failingAt E (statementAt T h (point t .due)) (point t .values) ≡ none
+  pub goes-on : point t .status ≡ going → point t .due < h .statements → failingAt (inForce E (point t .rows)) (statementAt T h (point t .due)) (point t .values) ≡ none
       → (point (t + 1) .status ≡ going) × (point (t + 1) .steps ≡ point t .steps + 1)
 
 -- A begun run of a table with the sections h: it answers the plain machine's outcome, values and cells at its limit, and demand 3 holds at every point up to there.

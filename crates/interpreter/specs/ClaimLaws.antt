@@ -14,16 +14,17 @@ use Rattle.sums.specs.Numbers.{maxValue}
 use Rattle.refusals.specs.declared.Refusal.{Refusal}
 use Rattle.refusals.specs.declared.Refusal.the-variants.{Length, Directory, ObjectLength, VariableRecord, StatementRecord}
 use Rattle.sections.specs.declared.Sections.{Sections}
-use Rattle.table.specs.Form.{lengthRight, directoryRight, sectionsOf, lowestObject, lowestVariable, lowestStatement, itemsForm, formOf}
+use Rattle.table.specs.Form.{lengthRight, directoryRight, sectionsOf, lowestObject, lowestVariable, lowestStatement, itemsForm, formOf, lowestRow}
 use Rattle.table.specs.FormLaws.{well-formed}
 use Rattle.table.specs.declared.Form.{Form}
 use Rattle.table.specs.declared.Form.the-variants.{WellFormed, Refused}
 use Rattle.flow.specs.Flow.{tableFlow, written, Written}
+use Rattle.rules.specs.BoundsRules.{ownRows, inForce}
 use Rattle.rules.specs.EnvironmentLaws.{environment-declares}
 use Rattle.rules.specs.AcceptedLaws.{clear, faults-clear}
 use Rattle.blocks.specs.Layout.{also}
 use Rattle.rules.specs.Verdict.{environmentOf, verdictOf}
-use Rattle.rules.specs.Stored.{faults}
+use Rattle.rules.specs.Stored.{faults, store}
 use Rattle.rules.specs.declared.Verdict.the-variants as verdict
 use Rattle.rules.specs.declared.Environment.{Environment}
 use Rattle.statements.specs.Statements.{statementAt}
@@ -45,7 +46,6 @@ use Rattle.runs.specs.BareRun.{Result, Ends, SafeRun, bareRun}
 use Rattle.interpreter.specs.StartLaws.{admitted, start-prepared, start-safe, start-agrees}
 use Rattle.interpreter.specs.Agreement.{resultShown}
 use Rattle.interpreter.specs.Outcomes.{outcomeShown}
-use Rattle.rules.specs.Stored.{store}
 use Rattle.rules.specs.Verdict as verdictRules
 use Rattle.rules.specs.ByChains.{byChains}
 use Rattle.rules.specs.Decidable.{decided}
@@ -128,6 +128,9 @@ module _ (T : List ℤ) (h : Sections) (formed : formOf T ≡ WellFormed h) (acc
   unstuck : (t : ℕ) → point t .status ≢ stuck
   unstuck t = right t .has-step
 
+  rows-long : (t : ℕ) → length (point t .rows) ≡ 16
+  rows-long t = right t .rows-long
+
   first-going : first .status ≡ going
   unfolding start
   first-going = refl
@@ -179,13 +182,13 @@ module _ (T : List ℤ) (h : Sections) (formed : formOf T ≡ WellFormed h) (acc
   )
 
   abbrev FailingHere : ℕ → ℕ → Type 0
-  FailingHere t n = failingAt E (statementAt T h (point t .due)) (point t .values) ≡ fails n
+  FailingHere t n = failingAt (inForce E (point t .rows)) (statementAt T h (point t .due)) (point t .values) ≡ fails n
 
   answers-check : (limit t : ℕ) → point t .status ≡ going → point t .due < h .statements → t < limit → (c : Check)
       → (answerAt h (point limit) ≡ Stopped (point t .steps + 1) c) ↔ (FailingHere t (checkNumber c) × (checkStatement c ≡ point t .due))
   answers-check limit t g d l c = ((λ e. by-status e (point (t + 1) .status) refl), (λ w. answered (w .0) (w .1)))
     where
-      facts : StepFacts (failingAt E (statementAt T h (point t .due)) (point t .values)) (point t) (point (t + 1))
+      facts : StepFacts (failingAt (inForce E (point t .rows)) (statementAt T h (point t .due)) (point t .values)) (point t) (point (t + 1))
       facts = point-step T h E D first t g d (unstuck (t + 1))
 
       -- The run has stopped with this step.
@@ -258,7 +261,8 @@ formed-sections T h e =
     let a = kept-first (directoryRight T g) Directory (itemsForm T g) h (kept-first (lengthRight T) Length _ h e) in
     let o = kept-second (ltb (lowestObject T g) (g .objects)) (ObjectLength (lowestObject T g)) _ h a in
     let v = kept-second (ltb (lowestVariable T g) (g .variables)) (VariableRecord (lowestVariable T g)) _ h o in
-    let b : WellFormed g ≡ WellFormed h = kept-second (ltb (lowestStatement T g) (g .statements)) (StatementRecord (lowestStatement T g)) (WellFormed g) h v in
+    let w = kept-second (ltb (lowestRow T g) (g .rows)) (VariableRecord (g .variables + lowestRow T g)) _ h v in
+    let b : WellFormed g ≡ WellFormed h = kept-second (ltb (lowestStatement T g) (g .statements)) (StatementRecord (lowestStatement T g)) (WellFormed g) h w in
     cc
 
 -- The words that are lent are of 32 bits.
@@ -272,21 +276,21 @@ module _ (T : List ℤ) (h : Sections) (formed : formOf T ≡ WellFormed h) (acc
   begun = entry-begun h (environmentOf T h) D cs vs os (admitted h (environmentOf T h) D cs vs os none) (lent .values-small) (lent .cells-small) (environment-declares T h (well-formed T h formed) .below)
 
   -- What the loop asks.
-  pub run-prepared : (w : List ℕ) → 2 * h .statements ≤ length w → Prepared T h (endsOf (environmentOf T h)) D (written (tableFlow T h) w) vs
+  pub run-prepared : (w : List ℕ) → 2 * h .statements ≤ length w → Prepared T h (endsOf (environmentOf T h) ownRows) D (written (tableFlow T h) w) vs
   run-prepared w room = start-prepared T h D cs vs os w (well-formed T h formed) (clear T h formed accepts .laid) room (admitted h (environmentOf T h) D cs vs os none)
 
-  pub run-safe : (w : List ℕ) → 2 * h .statements ≤ length w → (limit : ℕ) → SafeRun T h (endsOf (environmentOf T h)) D (written (tableFlow T h) w) limit 0 vs cs
+  pub run-safe : (w : List ℕ) → 2 * h .statements ≤ length w → (limit : ℕ) → SafeRun T h (endsOf (environmentOf T h) ownRows) D (written (tableFlow T h) w) limit 0 vs cs
   run-safe w room limit =
       start-safe T h D cs vs os w (well-formed T h formed) (clear T h formed accepts .laid) room (admitted h (environmentOf T h) D cs vs os none)
-      (unstuck T h formed accepts D cs vs os begun) limit
+      (unstuck T h formed accepts D cs vs os begun) (rows-long T h formed accepts D cs vs os begun) limit
 
   -- What the loop leaves is the claim.
-  pub run-claim : (w : List ℕ) → 2 * h .statements ≤ length w → (limit : ℕ) (r : Outcome) (vs′ cs′ : List ℕ)
-      → Ends (bareRun T h (endsOf (environmentOf T h)) D (written (tableFlow T h) w) limit 0 0 vs cs) r vs′ cs′ → Ran T (sectionsOf T) D cs vs os limit r vs′ cs′
-  run-claim w room limit r vs′ cs′ e =
-      let agrees : bareRun T h (endsOf (environmentOf T h)) D (written (tableFlow T h) w) limit 0 0 vs cs ≡ resultShown h (point T h formed accepts D cs vs os begun limit)
+  pub run-claim : (w : List ℕ) → 2 * h .statements ≤ length w → (limit : ℕ) (r : Outcome) (W′ vs′ cs′ : List ℕ)
+      → Ends (bareRun T h (endsOf (environmentOf T h) ownRows) D (written (tableFlow T h) w) limit 0 0 vs cs) r W′ vs′ cs′ → Ran T (sectionsOf T) D cs vs os limit r vs′ cs′
+  run-claim w room limit r W′ vs′ cs′ e =
+      let agrees : bareRun T h (endsOf (environmentOf T h) ownRows) D (written (tableFlow T h) w) limit 0 0 vs cs ≡ resultShown (environmentOf T h) h (point T h formed accepts D cs vs os begun limit)
       = start-agrees T h D cs vs os w (well-formed T h formed) (clear T h formed accepts .laid) room (admitted h (environmentOf T h) D cs vs os none)
-      (unstuck T h formed accepts D cs vs os begun) limit in
+      (unstuck T h formed accepts D cs vs os begun) (rows-long T h formed accepts D cs vs os begun) limit in
       subst (λ (g : Sections). Ran T g D cs vs os limit r vs′ cs′) (formed-sections T h formed) (record {
         answer = e .outcome ∙ ap (λ (o : Result). o .outcome) agrees;
         values = e .values ∙ ap (λ (o : Result). o .values) agrees;
@@ -341,13 +345,13 @@ pub record Launched (T : List ℤ) (h : Sections) (D cs vs os W S : List ℕ) : 
   pub accepts : faults T ≡ []
   pub lent : Lent cs vs
   pub none : entryRefusals h (environmentOf T h) D cs vs os ≡ []
-  pub ends : W ≡ endsOf (environmentOf T h)
+  pub ends : W ≡ endsOf (environmentOf T h) ownRows
   pub slice : List ℕ
   pub room : 2 * h .statements ≤ length slice
   pub successors : S ≡ written (tableFlow T h) slice
 
 pub launched : {T : List ℤ} {h : Sections} {D cs vs os W S : List ℕ} {E′ : Environment} {v : EntryVerdict} {b : Bool} (w : List ℕ)
-    → formOf T ≡ WellFormed h → faults T ≡ [] → Lent cs vs → E′ ≡ environmentOf T h → v ≡ entered (entryRefusals h E′ D cs vs os) → v ≡ entry.Begun → W ≡ endsOf E′
+    → formOf T ≡ WellFormed h → faults T ≡ [] → Lent cs vs → E′ ≡ environmentOf T h → v ≡ entered (entryRefusals h E′ D cs vs os) → v ≡ entry.Begun → W ≡ endsOf E′ ownRows
     → Written T h w b S → length w ≡ 2048 → Launched T h D cs vs os W S
 launched {T} {h} {D} {cs} {vs} {os} {W} {S} {E′} {v} w f a l e q g k s n =
     let room : 2 * h .statements ≤ length w = omega (arith, well-formed T h f .limits .statements) in
@@ -356,7 +360,7 @@ launched {T} {h} {D} {cs} {vs} {os} {W} {S} {E′} {v} w f a l e q g k s n =
       accepts = a;
       lent = l;
       none = rw e at (entered-none (entryRefusals h E′ D cs vs os) (sym q ∙ g));
-      ends = k ∙ ap endsOf e;
+      ends = k ∙ ap (λ (X : Environment). endsOf X ownRows) e;
       slice = w;
       room = room;
       successors = rw (le-leb (2 * h .statements) (length w) room) at (s .entries);
@@ -369,10 +373,10 @@ module _ {T : List ℤ} {h : Sections} {D cs vs os W S : List ℕ} (L : Launched
     run-safe T h (L .formed) (L .accepts) D cs vs os (L .lent) (L .none) (L .slice) (L .room) limit,
   )
 
-  pub launched-ran : {r : Outcome} {vs′ cs′ : List ℕ} → Ends (bareRun T h W D S limit 0 0 vs cs) r vs′ cs′ → RunAnswer (runFaults store T D cs vs os) T D cs vs os limit r vs′ cs′
-  launched-ran {r} {vs′} {cs′} e =
+  pub launched-ran : {r : Outcome} {W′ vs′ cs′ : List ℕ} → Ends (bareRun T h W D S limit 0 0 vs cs) r W′ vs′ cs′ → RunAnswer (runFaults store T D cs vs os) T D cs vs os limit r vs′ cs′
+  launched-ran {r} {W′} {vs′} {cs′} e =
       begun-ran T h D cs vs os limit r vs′ cs′ (L .formed) (L .accepts) (L .none)
-      (run-claim T h (L .formed) (L .accepts) D cs vs os (L .lent) (L .none) (L .slice) (L .room) limit r vs′ cs′ (rw (L .ends, L .successors) at e))
+      (run-claim T h (L .formed) (L .accepts) D cs vs os (L .lent) (L .none) (L .slice) (L .room) limit r W′ vs′ cs′ (rw (L .ends, L .successors) at e))
 
 -- ---- the paper's facts
 

@@ -1,82 +1,169 @@
 -- Laws of the ends laid out for the loop: the checks by them are the checks by what is declared.
 use Prim.Native.Nat.{ℕ, zero, suc, _+_, _-_, _*_, _/_, _%_, _^_, _<_, _≤_}
-use mathlib.Core.Path.{_≡_, refl, ap, ap₂, _∙_}
+use mathlib.Core.Path.{_≡_, refl, ap, ap₂, _∙_, sym}
+use mathlib.Core.Logic.{_≢_}
+use native.Mathlib.Decide.{ℕ-discrete}
+use native.Mathlib.Numerals.{add-one}
 use mathlib.Core.Bool.{Bool, true, false, _||_, cond}
-use mathlib.Core.List.{List}
+use mathlib.Core.List.{List, [], _∷_}
 use native.Mathlib.Omega.{arith}
-use borrow.Author.Tests.{ltb-true, ltb-false}
+use borrow.Author.Tests.{lt-ltb, le-ltb, ltb-true, ltb-false}
 use lib.Dec.{leb, ltb, eqb}
 use lib.IntN.{ℤ}
-use lib.ListN.{length, getD, List·getD-eq-default}
+use lib.ListN.{length, getD, List·getD-eq-default, set}
+use lib.Seq.{getD-set-same, getD-set-other}
+use Rattle.arrays.specs.Tabulate.{tabulate}
 use Rattle.arrays.specs.TabulateLaws.{length-tabulate, getD-tabulate}
 use Rattle.sections.specs.Typed.{IsIndex, missing, given}
 use Rattle.sections.specs.Sections.{Limits}
 use Rattle.sections.specs.declared.Sections.{Sections}
 use Rattle.statements.specs.Typed.{SimpleTyped}
 use Rattle.statements.specs.declared.Simple.{Simple}
-use Rattle.statements.specs.declared.Simple.the-variants.{Literal, AddConstant, Arithmetic, Null, Address, PointerOffset, PointerIndex, Load, Store, Check as Test}
+use Rattle.statements.specs.declared.Simple.the-variants.{Literal, AddConstant, Arithmetic, Null, Address, PointerOffset, PointerIndex, Load, Store, Check as Test, Declare}
 use Rattle.variables.specs.Typed.{EndTyped}
-use Rattle.variables.specs.Variables.{variableAt}
-use Rattle.variables.specs.VariableLaws.{variable-read-typed, variable-read-limits}
+use Rattle.variables.specs.Variables.{variableAt, rowAt}
+use Rattle.variables.specs.VariableLaws.{variable-read-typed, variable-read-limits, row-read-typed}
 use Rattle.variables.specs.declared.End.{End}
 use Rattle.variables.specs.declared.Variable.the-variants.{Integer, Pointer}
+use Rattle.variables.specs.declared.RowRead.{RowRead}
 use Rattle.variables.specs.declared.VariableRead.{VariableRead}
 use Rattle.variables.specs.declared.VariableRead.the-variants.{Read, Unread}
-use Rattle.rules.specs.BoundsRules.{nothingKnown, declared}
-use Rattle.rules.specs.Verdict.{boundsOf, environmentOf}
+use Rattle.rules.specs.BoundsRules.{nothingKnown, declared, rowBound, inForce, rowsAfter}
+use Rattle.rules.specs.BoundsTrue.{declared-in-force}
+use Rattle.rules.specs.Verdict.{boundsOf, environmentOf, rowBounds}
 use Rattle.rules.specs.declared.KnownEnd.the-variants.{Unknown}
 use Rattle.rules.specs.declared.Bounds.{Bounds}
 use Rattle.rules.specs.declared.Environment.{Environment}
 use Rattle.machine.specs.Machine.{value, endValue, endOf, lowerEnd, upperEnd, address, none, firstOf, accessFailing, failing}
-use Rattle.ends.specs.Ends.{endNumber, boundsNumber, endsOf}
+use Rattle.ends.specs.Ends.{endNumber, boundsNumber, endsOf, placeBounds}
 use Rattle.checks.specs.Checked.{boundsIn, declaredIn}
+use Rattle.steps.specs.Bare.{copied, endsAfter}
+use Rattle.steps.specs.CopiedLaws.{copied-long, copied-inside, copied-outside}
+use Rattle.variables.specs.declared.RowRead.the-variants as row
 
-pub ends-long : (E : Environment) → length (endsOf E) ≡ 96
+pub ends-long : (E : Environment) (R : List ℕ) → length (endsOf E R) ≡ 480
 unfolding endsOf
-ends-long E = length-tabulate 96 (λ (i : ℕ). boundsNumber (declared E (i / 6)) (i % 6))
+ends-long E R = length-tabulate 480 (λ (i : ℕ). boundsNumber (placeBounds E R (i / 6)) (i % 6))
+
+-- The number at a place.
+number-at : (E : Environment) (R : List ℕ) (i q j : ℕ) → i ≡ 6 * q + j → j < 6 → q < 80 → getD (endsOf E R) i 0 ≡ boundsNumber (placeBounds E R q) j
+unfolding endsOf
+number-at E R i q j e l b =
+    let d : i / 6 ≡ q = omega arith in
+    let m : i % 6 ≡ j = omega arith in
+    getD-tabulate 480 (λ (n : ℕ). boundsNumber (placeBounds E R (n / 6)) (n % 6)) i 0 (omega arith) ∙ ap₂ (λ (x k : ℕ). boundsNumber (placeBounds E R x) k) d m
+
+place-pointer : (E : Environment) (R : List ℕ) (p : ℕ) → p < 16 → placeBounds E R p ≡ declared (inForce E R) p
+unfolding placeBounds
+place-pointer E R p l = rw (lt-ltb p 16 l)
+
+place-row : (E : Environment) (R : List ℕ) (r p : ℕ) → placeBounds E R (16 + r) ≡ rowBound E (suc r) p
+unfolding placeBounds rowBound
+place-row E R r p = let e : 16 + r - 16 ≡ r = omega arith in rw (le-ltb (16 + r) 16 (omega arith), e)
 
 -- ---- the ends of a pointer
 
-module _ (E : Environment) (vs : List ℕ) (p : ℕ) (few : p < 16) where
-  number : (i j : ℕ) → i ≡ 6 * p + j → j < 6 → getD (endsOf E) i 0 ≡ boundsNumber (declared E p) j
-  unfolding endsOf
-  number i j e l =
-      let d : i / 6 ≡ p = omega arith in
-      let m : i % 6 ≡ j = omega arith in
-      getD-tabulate 96 (λ (n : ℕ). boundsNumber (declared E (n / 6)) (n % 6)) i 0 (omega arith) ∙ ap₂ (λ (q k : ℕ). boundsNumber (declared E q) k) d m
+module _ (E : Environment) (R vs : List ℕ) (p : ℕ) (few : p < 16) where
+  number : (i j : ℕ) → i ≡ 6 * p + j → j < 6 → getD (endsOf E R) i 0 ≡ boundsNumber (declared (inForce E R) p) j
+  number i j e l = number-at E R i p j e l (omega arith) ∙ ap (λ (b : Bounds). boundsNumber b j) (place-pointer E R p few)
 
   sum-same : (a b x y k l : ℕ) → a ≡ x → b ≡ y → k ≡ l → value vs a + value vs b + k ≡ value vs x + value vs y + l
   sum-same a b x y k l p q r = rw (p, q, r)
 
-  lower-same : lowerEnd (declaredIn (endsOf E)) vs p ≡ lowerEnd E vs p
+  lower-same : lowerEnd (declaredIn (endsOf E R)) vs p ≡ lowerEnd (inForce E R) vs p
   unfolding declaredIn boundsNumber endNumber
   lower-same =
-      ap (λ (b : Bounds). endValue vs (endOf (b .lower))) (getD-tabulate 16 (boundsIn (endsOf E)) p nothingKnown few)
+      ap (λ (b : Bounds). endValue vs (endOf (b .lower))) (getD-tabulate 16 (boundsIn (endsOf E R)) p nothingKnown few)
       ∙ sum-same _ _ _ _ _ _ (number (6 * p) 0 (omega arith) (omega arith)) (number (6 * p + 1) 1 refl (omega arith)) (number (6 * p + 2) 2 refl (omega arith))
 
-  upper-same : upperEnd (declaredIn (endsOf E)) vs p ≡ upperEnd E vs p
+  upper-same : upperEnd (declaredIn (endsOf E R)) vs p ≡ upperEnd (inForce E R) vs p
   unfolding declaredIn boundsNumber endNumber
   upper-same =
-      ap (λ (b : Bounds). endValue vs (endOf (b .upper))) (getD-tabulate 16 (boundsIn (endsOf E)) p nothingKnown few)
+      ap (λ (b : Bounds). endValue vs (endOf (b .upper))) (getD-tabulate 16 (boundsIn (endsOf E R)) p nothingKnown few)
       ∙ sum-same _ _ _ _ _ _ (number (6 * p + 3) 3 refl (omega arith)) (number (6 * p + 3 + 1) 4 (omega arith) (omega arith)) (number (6 * p + 3 + 2) 5 (omega arith) (omega arith))
 
-  access-same : (a : ℕ) → accessFailing (declaredIn (endsOf E)) vs p a ≡ accessFailing E vs p a
+  access-same : (a : ℕ) → accessFailing (declaredIn (endsOf E R)) vs p a ≡ accessFailing (inForce E R) vs p a
   unfolding accessFailing
   access-same a = ap₂ (λ (l u : ℕ). firstOf (eqb (value vs p) 0) 2 (firstOf (ltb a l || leb u a) 3 none)) lower-same upper-same
 
 -- The first check that fails is the same.
-pub failing-same : (T : List ℤ) (h : Sections) (E : Environment) (vs : List ℕ) (s : Simple) → Limits h → SimpleTyped T h s → failing (declaredIn (endsOf E)) vs s ≡ failing E vs s
+pub failing-same : (T : List ℤ) (h : Sections) (E : Environment) (R vs : List ℕ) (s : Simple) → Limits h → SimpleTyped T h s → failing (declaredIn (endsOf E R)) vs s ≡ failing (inForce E R) vs s
 unfolding failing
-failing-same T h E vs (Literal x k) l t = refl
-failing-same T h E vs (AddConstant x y k) l t = refl
-failing-same T h E vs (Arithmetic x y z op) l t = refl
-failing-same T h E vs (Null p) l t = refl
-failing-same T h E vs (Address p o) l t = refl
-failing-same T h E vs (PointerOffset p q k) l t = refl
-failing-same T h E vs (PointerIndex p q i) l t = refl
-failing-same T h E vs (Load x p i k) l t = access-same E vs p (omega (arith, t .pointer .below, l .variables)) (address vs p i k)
-failing-same T h E vs (Store p i k x) l t = access-same E vs p (omega (arith, t .pointer .below, l .variables)) (address vs p i k)
-failing-same T h E vs (Test c) l t = refl
+failing-same T h E R vs (Literal x k) l t = refl
+failing-same T h E R vs (AddConstant x y k) l t = refl
+failing-same T h E R vs (Arithmetic x y z op) l t = refl
+failing-same T h E R vs (Null p) l t = refl
+failing-same T h E R vs (Address p o) l t = refl
+failing-same T h E R vs (PointerOffset p q k) l t = refl
+failing-same T h E R vs (PointerIndex p q i) l t = refl
+failing-same T h E R vs (Load x p i k) l t = access-same E R vs p (omega (arith, t .pointer .below, l .variables)) (address vs p i k)
+failing-same T h E R vs (Store p i k x) l t = access-same E R vs p (omega (arith, t .pointer .below, l .variables)) (address vs p i k)
+failing-same T h E R vs (Test c) l t = refl
+failing-same T h E R vs (Declare p r) l t = refl
+
+-- ---- point 2: the copied ends are those of the row in force
+
+same-list : (l m : List ℕ) → length l ≡ length m → ((i : ℕ) → i < length l → getD l i 0 ≡ getD m i 0) → l ≡ m
+same-list [] [] e f = refl
+same-list [] (y ∷ ys) e f = absurd (omega arith)
+same-list (x ∷ xs) [] e f = absurd (omega arith)
+same-list (x ∷ xs) (y ∷ ys) e f = ap₂ (λ (n : ℕ) (l : List ℕ). n ∷ l) (f 0 (omega arith)) (same-list xs ys (omega arith) (λ i l. f (suc i) (omega arith)))
+
+-- Another place keeps its bounds.
+place-other : (E : Environment) (R : List ℕ) (p v q : ℕ) → q ≢ p → placeBounds E (set R p v) q ≡ placeBounds E R q
+unfolding placeBounds
+place-other E R p v q n = go (ltb q 16) refl
+  where
+    go : (b : Bool) → ltb q 16 ≡ b
+        → cond b (declared (inForce E (set R p v)) q) (getD (E .rows) (q - 16) nothingKnown) ≡ cond b (declared (inForce E R) q) (getD (E .rows) (q - 16) nothingKnown)
+    go true l =
+        declared-in-force E (set R p v) q (ltb-true q 16 l) ∙ ap (λ (k : ℕ). rowBound E k q) (getD-set-other R p q v 0 n) ∙ sym (declared-in-force E R q (ltb-true q 16 l))
+    go false l = refl
+
+place-own : (E : Environment) (R : List ℕ) (p r : ℕ) → p < 16 → length R ≡ 16 → placeBounds E (set R p (r + 1)) p ≡ rowBound E (suc r) p
+place-own E R p r l e =
+    let s : getD (set R p (r + 1)) p 0 ≡ suc r = getD-set-same R p (r + 1) 0 (omega arith) ∙ add-one r in
+    place-pointer E (set R p (r + 1)) p l ∙ declared-in-force E (set R p (r + 1)) p l ∙ ap (λ (k : ℕ). rowBound E k p) s
+
+-- The ends after a kind 14 are those of the rows after it.
+ends-declared : (E : Environment) (R : List ℕ) (p r : ℕ) → p < 16 → r < 64 → length R ≡ 16 → copied 6 p r (endsOf E R) ≡ endsOf E (set R p (r + 1))
+ends-declared E R p r l b e =
+    same-list (copied 6 p r (endsOf E R)) (endsOf E (set R p (r + 1))) (copied-long p r (endsOf E R) 6 ∙ ends-long E R ∙ sym (ends-long E (set R p (r + 1))))
+    (λ i m. by-place i (omega (arith, m, copied-long p r (endsOf E R) 6, ends-long E R)) (ℕ-discrete (i / 6) p))
+  where
+    by-place : (i : ℕ) → i < 480 → Dec (i / 6 ≡ p) → getD (copied 6 p r (endsOf E R)) i 0 ≡ getD (endsOf E (set R p (r + 1))) i 0
+    by-place i m (yes s) =
+        let j : ℕ = i % 6 in
+        let k : i % 6 < 6 = omega arith in
+        let g : i ≡ 6 * p + i % 6 = omega arith in
+        ap (λ (n : ℕ). getD (copied 6 p r (endsOf E R)) n 0) g
+        ∙ copied-inside p r (endsOf E R) 6 (i % 6) k (omega (arith, ends-long E R))
+        ∙ number-at E R (96 + 6 * r + i % 6) (16 + r) (i % 6) (omega arith) k (omega arith)
+        ∙ ap (λ (x : Bounds). boundsNumber x (i % 6)) (place-row E R r p ∙ sym (place-own E R p r l e))
+        ∙ sym (number-at E (set R p (r + 1)) i p (i % 6) g k (omega arith))
+    by-place i m (no n) =
+        let q : i / 6 < 80 = omega arith in
+        let k : i % 6 < 6 = omega arith in
+        let g : i ≡ 6 * (i / 6) + i % 6 = omega arith in
+        copied-outside p r (endsOf E R) 6 i (λ j c s. n (omega arith))
+        ∙ number-at E R i (i / 6) (i % 6) g k q
+        ∙ ap (λ (x : Bounds). boundsNumber x (i % 6)) (sym (place-other E R p (r + 1) (i / 6) n))
+        ∙ sym (number-at E (set R p (r + 1)) i (i / 6) (i % 6) g k q)
+
+pub ends-after : (T : List ℤ) (h : Sections) (E : Environment) (R : List ℕ) (s : Simple) → Limits h → SimpleTyped T h s → length R ≡ 16
+    → endsAfter s (endsOf E R) ≡ endsOf E (rowsAfter s R)
+unfolding endsAfter rowsAfter
+ends-after T h E R (Literal x k) l t e = refl
+ends-after T h E R (AddConstant x y k) l t e = refl
+ends-after T h E R (Arithmetic x y z op) l t e = refl
+ends-after T h E R (Null p) l t e = refl
+ends-after T h E R (Address p o) l t e = refl
+ends-after T h E R (PointerOffset p q k) l t e = refl
+ends-after T h E R (PointerIndex p q i) l t e = refl
+ends-after T h E R (Load x p i k) l t e = refl
+ends-after T h E R (Store p i k x) l t e = refl
+ends-after T h E R (Test c) l t e = refl
+ends-after T h E R (Declare p r) l t e = ends-declared E R p r (omega (arith, t .pointer .below, l .variables)) (omega (arith, t .row, l .rows)) e
 
 -- ---- the ends of a table are small, so that no sum of an end wraps
 
@@ -113,21 +200,43 @@ module _ (T : List ℤ) (h : Sections) where
       let l = variable-read-limits T h v (Pointer low high) e .0 in
       bounds-small (boundsOf (Read (Pointer low high))) (end-small low l (t .lower)) (end-small high l (t .upper)) j
 
-  entry-small : (i : ℕ) → i < 96 → getD (endsOf (environmentOf T h)) i 0 < 2 ^ 34
-  unfolding endsOf environmentOf
-  entry-small i l =
-      let q : i / 6 < 16 = omega arith in
-      let e : getD (endsOf (environmentOf T h)) i 0 ≡ boundsNumber (boundsOf (variableAt T h (i / 6))) (i % 6) =
-      getD-tabulate 96 (λ (n : ℕ). boundsNumber (declared (environmentOf T h) (n / 6)) (n % 6)) i 0 l
-      ∙ ap (λ (b : Bounds). boundsNumber b (i % 6)) (getD-tabulate 16 (λ (v : ℕ). boundsOf (variableAt T h v)) (i / 6) nothingKnown q) in
-      rw e (variable-small (i / 6) (variableAt T h (i / 6)) refl (i % 6))
+  row-small : (r : ℕ) (x : RowRead) → rowAt T h r ≡ x → Limits h → (j : ℕ) → boundsNumber (rowBounds x) j < 2 ^ 34
+  row-small r row.Unread e l j = bounds-small nothingKnown none-small none-small j
+  row-small r (row.Read low high) e l j =
+      let t = row-read-typed T h r low high e in
+      bounds-small (rowBounds (row.Read low high)) (end-small low l (t .lower)) (end-small high l (t .upper)) j
 
-  pub ends-small : (i : ℕ) → getD (endsOf (environmentOf T h)) i 0 < 2 ^ 34
-  ends-small i = go (ltb i 96) (ltb-true i 96) (ltb-false i 96)
+  -- The bounds of a list that is tabulated, or none.
+  list-small : (n : ℕ) (f : ℕ → Bounds) → ((i j : ℕ) → boundsNumber (f i) j < 2 ^ 34) → (i j : ℕ) → boundsNumber (getD (tabulate n f) i nothingKnown) j < 2 ^ 34
+  list-small n f g i j = go (ltb i n) refl
     where
-      go : (b : Bool) → (b ≡ true → i < 96) → (b ≡ false → 96 ≤ i) → getD (endsOf (environmentOf T h)) i 0 < 2 ^ 34
-      go true p q = entry-small i (p refl)
+      go : (b : Bool) → ltb i n ≡ b → boundsNumber (getD (tabulate n f) i nothingKnown) j < 2 ^ 34
+      go true q = rw (getD-tabulate n f i nothingKnown (ltb-true i n q)) (g i j)
+      go false q =
+          let k : length (tabulate n f) ≤ i = omega (arith, length-tabulate n f, ltb-false i n q) in
+          rw (List·getD-eq-default (tabulate n f) nothingKnown {n = i} k) (bounds-small nothingKnown none-small none-small j)
+
+  number-small : Limits h → (n p j : ℕ) → boundsNumber (rowBound (environmentOf T h) n p) j < 2 ^ 34
+  unfolding rowBound environmentOf
+  number-small l zero p j = list-small 16 (λ v. boundsOf (variableAt T h v)) (λ v k. variable-small v (variableAt T h v) refl k) p j
+  number-small l (suc r) p j = list-small 64 (λ v. rowBounds (rowAt T h v)) (λ v k. row-small v (rowAt T h v) refl l k) r j
+
+  place-small : Limits h → (R : List ℕ) (q j : ℕ) → boundsNumber (placeBounds (environmentOf T h) R q) j < 2 ^ 34
+  unfolding placeBounds rowBound
+  place-small l R q j = go (ltb q 16) refl
+    where
+      go : (b : Bool) → ltb q 16 ≡ b → boundsNumber (cond b (declared (inForce (environmentOf T h) R) q) (getD (environmentOf T h .rows) (q - 16) nothingKnown)) j < 2 ^ 34
+      go true e = rw (declared-in-force (environmentOf T h) R q (ltb-true q 16 e)) (number-small l (getD R q 0) q j)
+      go false e = number-small l (suc (q - 16)) q j
+
+  pub ends-small : Limits h → (R : List ℕ) (i : ℕ) → getD (endsOf (environmentOf T h) R) i 0 < 2 ^ 34
+  unfolding endsOf
+  ends-small l R i = go (ltb i 480) (ltb-true i 480) (ltb-false i 480)
+    where
+      go : (b : Bool) → (b ≡ true → i < 480) → (b ≡ false → 480 ≤ i) → getD (endsOf (environmentOf T h) R) i 0 < 2 ^ 34
+      go true p q =
+          rw (getD-tabulate 480 (λ (n : ℕ). boundsNumber (placeBounds (environmentOf T h) R (n / 6)) (n % 6)) i 0 (p refl)) (place-small l R (i / 6) (i % 6))
       go false p q =
-          let l = q refl in
-          let g : length (endsOf (environmentOf T h)) ≤ i = omega (arith, ends-long (environmentOf T h)) in
-          omega (arith, List·getD-eq-default (endsOf (environmentOf T h)) 0 g)
+          let m = q refl in
+          let g : length (endsOf (environmentOf T h) R) ≤ i = omega (arith, ends-long (environmentOf T h) R) in
+          omega (arith, List·getD-eq-default (endsOf (environmentOf T h) R) 0 g)

@@ -16,6 +16,7 @@ use Rattle.statements.specs.declared.Statement.the-variants.{Plain, If, While, 
 use Rattle.statements.specs.declared.StatementRead.{StatementRead}
 use Rattle.statements.specs.declared.StatementRead.the-variants.{Read, Unread}
 use Rattle.flow.specs.Flow.{Successors}
+use Rattle.rules.specs.BoundsRules.{inForce}
 use Rattle.rules.specs.declared.Environment.{Environment}
 use Rattle.machine.specs.Machine.{value, address, lowerEnd, upperEnd, conditionHolds, Failing, none, fails, firstOf, firstUnless, accessFailing, arithmeticFailing, failing, Status, going, stopped, stuck, Point, Performed, done, no-step, performed, memoryOf, afterPerformed, afterChecks, branched, statementStep, successorsOf, stepIfDue, nextPoint, pointAfter}
 use Rattle.stops.specs.Checks.{checkNumber, checkStatement, checkOf}
@@ -83,6 +84,7 @@ failing-numbered E vs (PointerIndex p q i) = arithmetic-numbered _ _
 failing-numbered E vs (Load x p i k) = access-numbered E vs p (address vs p i k)
 failing-numbered E vs (Store p i k x) = access-numbered E vs p (address vs p i k)
 failing-numbered E vs (simple.Check c) = first-numbered (not (conditionHolds vs c)) 1 none (omega arith) (omega arith) tt
+failing-numbered E vs (simple.Declare p r) = tt
 
 abbrev Held : Status → Type 0
 Held going = Unit {0}
@@ -103,7 +105,7 @@ branched-held false P n = tt
 
 statement-held : (E : Environment) (D : List ℕ) (s : StatementRead) (n : Successors) (P : Point) → Held (statementStep E D s n P .status)
 unfolding statementStep
-statement-held E D (Read (Plain s)) n P = checks-held (failing E (P .values) s) P (n .next) (performed D s (memoryOf P)) (failing-numbered E (P .values) s)
+statement-held E D (Read (Plain s)) n P = checks-held (failing (inForce E (P .rows)) (P .values) s) P (n .next) (performed D s (memoryOf P)) (failing-numbered (inForce E (P .rows)) (P .values) s)
 statement-held E D (Read (If c x y)) n P = branched-held (conditionHolds (P .values) c) P n
 statement-held E D (Read (While c x)) n P = branched-held (conditionHolds (P .values) c) P n
 statement-held E D (Read (Bundle x)) n P = tt

@@ -21,7 +21,7 @@ use Rattle.blocks.specs.Layout.{layout}
 use Rattle.flow.specs.Flow.{successors, tableFlow, tableEntry, written}
 use Rattle.flow.specs.FlowLaws.{begins, length-written}
 use Rattle.flow.specs.SuccessorLaws.{written-at}
-use Rattle.rules.specs.BoundsRules.{isPointer, objectLength}
+use Rattle.rules.specs.BoundsRules.{isPointer, objectLength, ownRows}
 use Rattle.rules.specs.Verdict.{environmentOf}
 use Rattle.rules.specs.declared.Environment.{Environment}
 use Rattle.machine.specs.Machine.{value, lowerEnd, upperEnd, low, high, isObject, originHolds, boundsTrue, stuck, start, pointAfter}
@@ -127,7 +127,7 @@ module _ (T : List ℤ) (h : Sections) (D cs vs os w : List ℕ)
   E = environmentOf T h
 
   abbrev W : List ℕ
-  W = endsOf E
+  W = endsOf E ownRows
 
   abbrev S : List ℕ
   S = written (tableFlow T h) w
@@ -137,14 +137,14 @@ module _ (T : List ℤ) (h : Sections) (D cs vs os w : List ℕ)
   start-prepared =
       record {
         table = omega (arith, formed .long);
-        ends = ends-long E;
-        small = ends-small T h;
+        ends = ends-long E ownRows;
+        small = ends-small T h (formed .limits) ownRows;
         directory = omega (arith, A .pairs);
         successors = omega (arith, length-written (tableFlow T h) w);
         values = omega (arith, A .values);
       }
 
-  module _ (unstuck : (t : ℕ) → pointAfter T h E D t (start T h E D cs vs os) .status ≡ stuck → ⊥) where
+  module _ (unstuck : (t : ℕ) → pointAfter T h E D t (start T h E D cs vs os) .status ≡ stuck → ⊥) (rows-long : (t : ℕ) → length (pointAfter T h E D t (start T h E D cs vs os) .rows) ≡ 16) where
     pub start-runnable : Runnable T h E D W S (start T h E D cs vs os)
     unfolding start
     start-runnable =
@@ -154,14 +154,15 @@ module _ (T : List ℤ) (h : Sections) (D cs vs os w : List ℕ)
           reads = formed .statements;
           objects = object-inside h E D cs vs os A;
           origins = origin-inside h E D cs vs os A;
+          rows-long = rows-long;
           unstuck = unstuck;
         }
 
     -- Where the plain machine is never stuck, the code's run is safe, and ends as the plain machine's point at the limit shows.
     pub start-safe : (l : ℕ) → SafeRun T h W D S l 0 vs cs
     unfolding start
-    start-safe l = subst (λ (a : ℕ). SafeRun T h W D S l a vs cs) (sym (first-due T h)) (safe-run T h E D W S l (start T h E D cs vs os) refl start-runnable)
+    start-safe l = subst (λ (a : ℕ). SafeRun T h W D S l a vs cs) (sym (first-due T h)) (safe-run T h E D S W l (start T h E D cs vs os) refl start-runnable)
 
-    pub start-agrees : (l : ℕ) → bareRun T h W D S l 0 0 vs cs ≡ resultShown h (pointAfter T h E D l (start T h E D cs vs os))
+    pub start-agrees : (l : ℕ) → bareRun T h W D S l 0 0 vs cs ≡ resultShown E h (pointAfter T h E D l (start T h E D cs vs os))
     unfolding start
-    start-agrees l = ap (λ (a : ℕ). bareRun T h W D S l 0 a vs cs) (first-due T h) ∙ run-agrees T h E D W S l (start T h E D cs vs os) refl start-runnable
+    start-agrees l = ap (λ (a : ℕ). bareRun T h W D S l 0 a vs cs) (first-due T h) ∙ run-agrees T h E D S W l (start T h E D cs vs os) refl start-runnable

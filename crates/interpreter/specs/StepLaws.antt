@@ -15,6 +15,7 @@ use Rattle.statements.specs.declared.Statement.the-variants.{Plain, If, While, 
 use Rattle.statements.specs.declared.StatementRead.{StatementRead}
 use Rattle.statements.specs.declared.StatementRead.the-variants.{Read, Unread}
 use Rattle.flow.specs.Flow.{Successors}
+use Rattle.rules.specs.BoundsRules.{inForce}
 use Rattle.rules.specs.declared.Environment.{Environment}
 use Rattle.machine.specs.Machine.{Failing, none, fails, failing, conditionHolds, Status, going, stopped, stuck, Point, Performed, done, no-step, performed, memoryOf, moved, halted, afterChecks, branched, statementStep, successorsOf, nextPoint, pointAfter}
 use Rattle.interpreter.specs.Claim.{failingAt}
@@ -22,7 +23,7 @@ use Rattle.interpreter.specs.Claim.{failingAt}
 -- The step from P to Q, where f is the first check that fails.
 pub record StepFacts (f : Failing) (P Q : Point) : Type 0 where
   pub stops : (n : ℕ) → (Q .status ≡ stopped n) ↔ (f ≡ fails n)
-  pub same : (n : ℕ) → Q .status ≡ stopped n → (Q .due ≡ P .due) × (Q .steps ≡ P .steps + 1) × (Q .values ≡ P .values) × (Q .cells ≡ P .cells) × (Q .origins ≡ P .origins)
+  pub same : (n : ℕ) → Q .status ≡ stopped n → (Q .due ≡ P .due) × (Q .steps ≡ P .steps + 1) × (Q .values ≡ P .values) × (Q .cells ≡ P .cells) × (Q .origins ≡ P .origins) × (Q .rows ≡ P .rows)
   pub goes : f ≡ none → Q .status ≡ going
   pub counts : Q .status ≡ going → Q .steps ≡ P .steps + 1
 
@@ -41,7 +42,7 @@ moves P Q g c = record {
 halts : (P : Point) (k : ℕ) → StepFacts (fails k) P (halted P k)
 halts P k = record {
   stops = λ n. ((λ e. cc), (λ e. cc));
-  same = λ n e. (refl, refl, refl, refl, refl);
+  same = λ n e. (refl, refl, refl, refl, refl, refl);
   goes = λ e. let z : _≡_ {A = ℕ} 0 1 = cc in never z;
   counts = λ e. let z : _≡_ {A = ℕ} 0 1 = cc in never z;
 }
@@ -55,9 +56,9 @@ branch-facts : (b : Bool) (P : Point) (n : Successors) → StepFacts none P (bra
 branch-facts true P n = moves P (branched true P n) refl refl
 branch-facts false P n = moves P (branched false P n) refl refl
 
-step-facts : (E : Environment) (D : List ℕ) (s : StatementRead) (n : Successors) (P : Point) → statementStep E D s n P .status ≢ stuck → StepFacts (failingAt E s (P .values)) P (statementStep E D s n P)
+step-facts : (E : Environment) (D : List ℕ) (s : StatementRead) (n : Successors) (P : Point) → statementStep E D s n P .status ≢ stuck → StepFacts (failingAt (inForce E (P .rows)) s (P .values)) P (statementStep E D s n P)
 unfolding statementStep
-step-facts E D (Read (Plain s)) n P u = simple-facts (failing E (P .values) s) (performed D s (memoryOf P)) P (n .next) u
+step-facts E D (Read (Plain s)) n P u = simple-facts (failing (inForce E (P .rows)) (P .values) s) (performed D s (memoryOf P)) P (n .next) u
 step-facts E D (Read (If c x y)) n P u = branch-facts (conditionHolds (P .values) c) P n
 step-facts E D (Read (While c x)) n P u = branch-facts (conditionHolds (P .values) c) P n
 step-facts E D (Read (Bundle x)) n P u = moves P (moved P (memoryOf P) (n .next)) refl refl
@@ -82,11 +83,11 @@ module _ (T : List ℤ) (h : Sections) (E : Environment) (D : List ℕ) where
     after t = rw (add-one t)
 
     pub point-step : (t : ℕ) → point t .status ≡ going → point t .due < h .statements → point (t + 1) .status ≢ stuck
-        → StepFacts (failingAt E (statementAt T h (point t .due)) (point t .values)) (point t) (point (t + 1))
+        → StepFacts (failingAt (inForce E (point t .rows)) (statementAt T h (point t .due)) (point t .values)) (point t) (point (t + 1))
     point-step t g l u =
         let e : point (t + 1) ≡ statementStep E D (statementAt T h (point t .due)) (successorsOf T h E D (point t .due)) (point t)
         = after t ∙ ap (λ (s : Status). nextPoint T h E D s (point t)) g ∙ next-going (point t) l in
-        subst (λ (Q : Point). StepFacts (failingAt E (statementAt T h (point t .due)) (point t .values)) (point t) Q) (sym e)
+        subst (λ (Q : Point). StepFacts (failingAt (inForce E (point t .rows)) (statementAt T h (point t .due)) (point t .values)) (point t) Q) (sym e)
         (step-facts E D (statementAt T h (point t .due)) (successorsOf T h E D (point t .due)) (point t) (λ z. u (ap (λ (Q : Point). Q .status) e ∙ z)))
 
     start-steps : P₀ .steps ≡ 0 → point 0 .steps ≡ 0
@@ -118,11 +119,11 @@ module _ (T : List ℤ) (h : Sections) (E : Environment) (D : List ℕ) where
     module _ (unstuck : (t : ℕ) → point t .status ≢ stuck) where
       -- A stop is a step from a statement that is due.
       pub stop-same : (t : ℕ) → point t .status ≡ going → (n : ℕ) → point (t + 1) .status ≡ stopped n
-          → (point (t + 1) .due ≡ point t .due) × (point (t + 1) .steps ≡ point t .steps + 1) × (point (t + 1) .values ≡ point t .values) × (point (t + 1) .cells ≡ point t .cells) × (point (t + 1) .origins ≡ point t .origins)
+          → (point (t + 1) .due ≡ point t .due) × (point (t + 1) .steps ≡ point t .steps + 1) × (point (t + 1) .values ≡ point t .values) × (point (t + 1) .cells ≡ point t .cells) × (point (t + 1) .origins ≡ point t .origins) × (point (t + 1) .rows ≡ point t .rows)
       stop-same t g n e = go (ltb (point t .due) (h .statements)) refl
         where
           go : (b : Bool) → ltb (point t .due) (h .statements) ≡ b
-              → (point (t + 1) .due ≡ point t .due) × (point (t + 1) .steps ≡ point t .steps + 1) × (point (t + 1) .values ≡ point t .values) × (point (t + 1) .cells ≡ point t .cells) × (point (t + 1) .origins ≡ point t .origins)
+              → (point (t + 1) .due ≡ point t .due) × (point (t + 1) .steps ≡ point t .steps + 1) × (point (t + 1) .values ≡ point t .values) × (point (t + 1) .cells ≡ point t .cells) × (point (t + 1) .origins ≡ point t .origins) × (point (t + 1) .rows ≡ point t .rows)
           go true q = point-step t g (ltb-true _ _ q) (unstuck (t + 1)) .same n e
           go false q =
               let s : going ≡ stopped n = sym (ap (λ (Q : Point). Q .status) (stays-done t g (ltb-false _ _ q)) ∙ g) ∙ e in

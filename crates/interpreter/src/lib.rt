@@ -36,13 +36,13 @@ fn run_sections(
     match entry {
         EntryVerdict::Refused(refusal) => Outcome::Refused(refusal),
         EntryVerdict::Begun => {
-            let ends = lay_ends(environment);
+            let mut ends = lay_ends(environment);
             let mut successors = [0u32; 2048];
             write_successors(table, sections, &mut successors);
             resume(
                 table,
                 sections,
-                &ends,
+                &mut ends,
                 directory,
                 &successors,
                 0,

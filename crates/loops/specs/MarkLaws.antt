@@ -14,7 +14,7 @@ use Rattle.facts.specs.Store.{dropped}
 use Rattle.facts.specs.declared.FactSet.{FactSet}
 use Rattle.sections.specs.declared.Sections.{Sections}
 use Rattle.statements.specs.declared.Simple.{Simple}
-use Rattle.statements.specs.declared.Simple.the-variants.{Literal, AddConstant, Arithmetic, Null, Address, PointerOffset, PointerIndex, Load, Store, Check}
+use Rattle.statements.specs.declared.Simple.the-variants.{Literal, AddConstant, Arithmetic, Null, Address, PointerOffset, PointerIndex, Load, Store, Check, Declare}
 use Rattle.statements.specs.declared.Statement.{Statement}
 use Rattle.statements.specs.declared.Statement.the-variants.{Plain, If, While, Bundle}
 use Rattle.statements.specs.declared.StatementRead.{StatementRead}
@@ -66,6 +66,7 @@ mark-one m (PointerIndex q r i) p = refl
 mark-one m (Load x q i k) p = refl
 mark-one m (Store q i k x) p = absurd (omega arith)
 mark-one m (Check c) p = absurd (omega arith)
+mark-one m (Declare q r) p = absurd (omega arith)
 
 set-past : (m : List Bool) (x : ℕ) → length m ≤ x → set m x true ≡ m
 set-past [] zero p = refl
@@ -85,6 +86,7 @@ mark-past m (PointerIndex q r i) l p = sym (set-past m q (omega arith))
 mark-past m (Load x q i k) l p = sym (set-past m x (omega arith))
 mark-past m (Store q i k x) l p = refl
 mark-past m (Check c) l p = refl
+mark-past m (Declare q r) l p = refl
 
 -- A statement that assigns nothing itself.
 mark-other : (m : List Bool) (s : Statement) → ((p : Simple) → s ≡ Plain p → ⊥) → m ≡ marked m (targetOf (Read s))

@@ -5,7 +5,7 @@ use mathlib.Core.List.{List, [], _∷_}
 use lib.ListN.{set, replicate}
 use Rattle.sums.specs.Numbers.{zeroVar}
 use Rattle.statements.specs.declared.Simple.{Simple}
-use Rattle.statements.specs.declared.Simple.the-variants.{Literal, AddConstant, Arithmetic, Null, Address, PointerOffset, PointerIndex, Load, Store, Check}
+use Rattle.statements.specs.declared.Simple.the-variants.{Literal, AddConstant, Arithmetic, Null, Address, PointerOffset, PointerIndex, Load, Store, Check, Declare}
 
 -- The variable that a statement assigns, or the number of none.
 abbrev pub targetNumber : Simple → ℕ
@@ -19,6 +19,7 @@ targetNumber (PointerIndex p q i) = p
 targetNumber (Load x p i k) = x
 targetNumber (Store p i k x) = zeroVar
 targetNumber (Check c) = zeroVar
+targetNumber (Declare p r) = zeroVar
 
 abbrev pub noMarks : List Bool
 noMarks = replicate 16 false

@@ -55,6 +55,7 @@ fn target_of(simple: Simple) -> usize
             source: _,
         } => 16,
         Simple::Check { condition: _ } => 16,
+        Simple::Declare { pointer: _, row: _ } => 16,
     }
 }
 

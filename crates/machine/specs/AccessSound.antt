@@ -10,7 +10,7 @@ use lib.Dec.{leb, ltb, eqb}
 use lib.ListN.{getD}
 use Rattle.sums.specs.Numbers.{bias}
 use Rattle.statements.specs.declared.Simple.{Simple}
-use Rattle.statements.specs.declared.Simple.the-variants.{Literal, AddConstant, Arithmetic, Null, Address, PointerOffset, PointerIndex, Load, Store, Check}
+use Rattle.statements.specs.declared.Simple.the-variants.{Literal, AddConstant, Arithmetic, Null, Address, PointerOffset, PointerIndex, Load, Store, Check, Declare}
 use Rattle.rules.specs.FactsTrue.{neither}
 use Rattle.rules.specs.BoundsRules.{declared}
 use Rattle.rules.specs.BoundsTrue.{endAt, BoundsHold}
@@ -48,6 +48,7 @@ Ready E D objects (PointerIndex p q i) m = Unit {0}
 Ready E D objects (Load x p i k) m = TrueOf D objects m p (declared E p)
 Ready E D objects (Store p i k x) m = TrueOf D objects m p (declared E p)
 Ready E D objects (Check c) m = Unit {0}
+Ready E D objects (Declare p r) m = Unit {0}
 
 module _ (E : Environment) (D : List ℕ) (objects : ℕ) (m : Memory) (p : ℕ) (ends : DeclaredEnds E p) where
   -- The declared ends by their values.

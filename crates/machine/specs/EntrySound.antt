@@ -10,13 +10,14 @@ use lib.Dec.{leb, eqb}
 use lib.IntN.{ℤ}
 use lib.ListN.{length, getD, List·getD-eq-default}
 use Rattle.sums.specs.Numbers.{bias, zeroVar}
-use Rattle.facts.specs.Store.{newSet}
+use Rattle.arrays.specs.TabulateLaws.{length-tabulate}
 use Rattle.chains.specs.Sound.{InRange, new-holds}
 use Rattle.sections.specs.SectionsLaws.{both}
 use Rattle.sections.specs.declared.Sections.{Sections}
-use Rattle.rules.specs.BoundsRules.{declared}
-use Rattle.rules.specs.BoundsTrue.{BoundsHold}
-use Rattle.rules.specs.EnvironmentLaws.{Declares, DeclaredEnds}
+use Rattle.rules.specs.BoundsRules.{declared, isPointer, ownRows, inForce}
+use Rattle.rules.specs.Stored.{newState}
+use Rattle.rules.specs.BoundsTrue.{BoundsHold, own-row, own-declared}
+use Rattle.rules.specs.EnvironmentLaws.{Declares, DeclaredEnds, Named}
 use Rattle.rules.specs.declared.Environment.{Environment}
 use Rattle.machine.specs.Machine.{value, lowerEnd, upperEnd, low, high, isObject, originHolds, boundsTrue, Memory}
 use Rattle.machine.specs.Soundness.{Begun}
@@ -74,16 +75,29 @@ module _ (T : List ℤ) (h : Sections) (E : Environment) (D cs vs os : List ℕ)
       let short : length vs ≤ zeroVar = omega (arith, b .values-long, declares .few) in
       record { zero-is = List·getD-eq-default vs 0 short; below = b .values-small }
 
-  pub begun-good : Good h E D (length cs) newSet (E .declared) (record { cells = cs; values = vs; origins = os })
+  own-named : Named h ownRows
+  own-named p = omega (arith, own-row p)
+
+  -- At entry the environment itself is in force.
+  own-true : (p : ℕ) → isPointer E p ≡ true → boundsTrue (inForce E ownRows) D vs os p ≡ true
+  unfolding boundsTrue
+  own-true p t = rw (own-declared E p (omega (arith, declares .few, declares .below p t))) (b .bounds p t)
+
+  pub begun-good : Good h E D (length cs) newState (inForce E ownRows .declared) (record { cells = cs; values = vs; origins = os; rows = ownRows })
   begun-good =
       record {
         facts = new-holds (value vs) begun-range;
-        bounds = λ p t. test-true E D (h .objects) (b .pairs) (record { cells = cs; values = vs; origins = os }) p (declares .ends p t) (b .bounds p t);
+        rows = refl;
+        named = own-named;
+        bounds =
+            λ p t.
+            test-true (inForce E ownRows) D (h .objects) (b .pairs) (record { cells = cs; values = vs; origins = os; rows = ownRows }) p (declares .ends ownRows own-named p t) (own-true p t);
         steady =
             record {
               range = begun-range;
               values-long = b .values-long;
               origins-long = b .origins-long;
+              rows-long = length-tabulate {A = ℕ} 16 (λ x. 0);
               cells-long = refl;
               cells-small = b .cells-small;
             };

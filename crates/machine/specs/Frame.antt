@@ -31,7 +31,7 @@ pub record SameCells (D : List ℕ) (R : ℕ → Type 0) (cs ds : List ℕ) : Ty
 
 -- The point P with the cells ds.
 abbrev pub withCells : Point → List ℕ → Point
-withCells P ds = record { cells = ds; values = P .values; origins = P .origins; due = P .due; steps = P .steps; status = P .status }
+withCells P ds = record { cells = ds; values = P .values; origins = P .origins; rows = P .rows; due = P .due; steps = P .steps; status = P .status }
 
 -- Two points that differ only in cells elsewhere.
 pub record Alike (D : List ℕ) (R : ℕ → Type 0) (P Q : Point) : Type 0 where

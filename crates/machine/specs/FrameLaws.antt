@@ -16,11 +16,12 @@ use Rattle.sections.specs.declared.Sections.{Sections}
 use Rattle.statements.specs.Statements.{statementAt}
 use Rattle.statements.specs.StatementLaws.{read-typed}
 use Rattle.statements.specs.declared.Simple.{Simple}
-use Rattle.statements.specs.declared.Simple.the-variants.{Literal, AddConstant, Arithmetic, Null, Address, PointerOffset, PointerIndex, Load, Store, Check}
+use Rattle.statements.specs.declared.Simple.the-variants.{Literal, AddConstant, Arithmetic, Null, Address, PointerOffset, PointerIndex, Load, Store, Check, Declare}
 use Rattle.statements.specs.declared.Statement.the-variants.{Plain, If, While, Bundle}
 use Rattle.statements.specs.declared.StatementRead.{StatementRead}
 use Rattle.statements.specs.declared.StatementRead.the-variants.{Read, Unread}
 use Rattle.flow.specs.Flow.{Successors}
+use Rattle.rules.specs.BoundsRules.{inForce}
 use Rattle.rules.specs.declared.Environment.{Environment}
 use Rattle.machine.specs.Machine.{value, low, high, inOrigin, address, Failing, none, fails, failing, conditionHolds, Status, going, stopped, stuck, Point, done, setInteger, stepIf, performed, memoryOf, moved, afterPerformed, afterChecks, branched, statementStep, stepIfDue, nextPoint, start, pointAfter}
 use Rattle.machine.specs.Points.{Outside}
@@ -93,28 +94,28 @@ module _ (D : List ℕ) (R : ℕ → Type 0) where
     reached p a e = origin-cell D R (getD (P .origins) p 0) a (origins p) e
 
     -- A step touches no cell elsewhere, and its origins stay in R.
-    framed-values : (vs os : List ℕ) (n : ℕ) → Origins R os → Framed D R P (moved P (record { cells = P .cells; values = vs; origins = os }) n)
-    framed-values vs os n r = record { origins = r; long = refl; elsewhere = λ i e. refl }
+    framed-values : (vs os rs : List ℕ) (n : ℕ) → Origins R os → Framed D R P (moved P (record { cells = P .cells; values = vs; origins = os; rows = rs }) n)
+    framed-values vs os rs n r = record { origins = r; long = refl; elsewhere = λ i e. refl }
 
     simple-framed : (s : Simple) (n : ℕ) → ((p o : ℕ) → s ≡ Address p o → R o) → Framed D R P (afterPerformed P n (performed D s (memoryOf P)))
     unfolding performed
-    simple-framed (Literal x k) n named = framed-values _ _ n origins
-    simple-framed (AddConstant x y k) n named = framed-values _ _ n origins
-    simple-framed (Arithmetic x y z op) n named = framed-values _ _ n origins
-    simple-framed (Null p) n named = framed-values _ _ n (set-origins D R (P .origins) p 0 origins (λ o e. absurd (omega arith)))
+    simple-framed (Literal x k) n named = framed-values _ _ _ n origins
+    simple-framed (AddConstant x y k) n named = framed-values _ _ _ n origins
+    simple-framed (Arithmetic x y z op) n named = framed-values _ _ _ n origins
+    simple-framed (Null p) n named = framed-values _ _ _ n (set-origins D R (P .origins) p 0 origins (λ o e. absurd (omega arith)))
     simple-framed (Address p o) n named =
-        framed-values _ _ n (set-origins D R (P .origins) p (o + 1) origins (λ k e. let q : k ≡ o = omega arith in rw q (named p o refl)))
-    simple-framed (PointerOffset p q k) n named = framed-values _ _ n (set-origins D R (P .origins) p _ origins (origins q))
-    simple-framed (PointerIndex p q i) n named = framed-values _ _ n (set-origins D R (P .origins) p _ origins (origins q))
+        framed-values _ _ _ n (set-origins D R (P .origins) p (o + 1) origins (λ k e. let q : k ≡ o = omega arith in rw q (named p o refl)))
+    simple-framed (PointerOffset p q k) n named = framed-values _ _ _ n (set-origins D R (P .origins) p _ origins (origins q))
+    simple-framed (PointerIndex p q i) n named = framed-values _ _ _ n (set-origins D R (P .origins) p _ origins (origins q))
     simple-framed (Load x p i k) n named = go (inOrigin D (getD (P .origins) p 0) (address (P .values) p i k))
       where
         go : (b : Bool) → Framed D R P (afterPerformed P n (stepIf b (setInteger (memoryOf P) x (getD (P .cells) (address (P .values) p i k - bias) 0))))
-        go true = framed-values _ _ n origins
+        go true = framed-values _ _ _ n origins
         go false = framed-none P _ origins refl refl
     simple-framed (Store p i k x) n named = go (inOrigin D (getD (P .origins) p 0) (address (P .values) p i k)) refl
       where
         go : (b : Bool) → inOrigin D (getD (P .origins) p 0) (address (P .values) p i k) ≡ b
-            → Framed D R P (afterPerformed P n (stepIf b (done (record { cells = set (P .cells) (address (P .values) p i k - bias) (value (P .values) x); values = P .values; origins = P .origins }))))
+            → Framed D R P (afterPerformed P n (stepIf b (done (record { cells = set (P .cells) (address (P .values) p i k - bias) (value (P .values) x); values = P .values; origins = P .origins; rows = P .rows }))))
         go true e = record {
           origins = origins;
           long = length-set (P .cells) _ _;
@@ -122,6 +123,7 @@ module _ (D : List ℕ) (R : ℕ → Type 0) where
         }
         go false e = framed-none P _ origins refl refl
     simple-framed (Check c) n named = framed-none P _ origins refl refl
+    simple-framed (Declare p r) n named = framed-values _ _ _ n origins
 
     checked-framed : (f : Failing) (s : Simple) (n : ℕ) → ((p o : ℕ) → s ≡ Address p o → R o) → Framed D R P (afterChecks f P n (performed D s (memoryOf P)))
     checked-framed (fails k) s n named = framed-none P _ origins refl refl
@@ -133,7 +135,7 @@ module _ (D : List ℕ) (R : ℕ → Type 0) where
 
     step-framed : (r : StatementRead) (n : Successors) → ((p o : ℕ) → r ≡ Read (Plain (Address p o)) → R o) → Framed D R P (statementStep E D r n P)
     unfolding statementStep
-    step-framed (Read (Plain s)) n named = checked-framed (failing E (P .values) s) s (n .next) (λ p o e. named p o (ap (λ (q : Simple). Read (Plain q)) e))
+    step-framed (Read (Plain s)) n named = checked-framed (failing (inForce E (P .rows)) (P .values) s) s (n .next) (λ p o e. named p o (ap (λ (q : Simple). Read (Plain q)) e))
     step-framed (Read (If c x y)) n named = branched-framed (conditionHolds (P .values) c) n
     step-framed (Read (While c x)) n named = branched-framed (conditionHolds (P .values) c) n
     step-framed (Read (Bundle x)) n named = framed-none P _ origins refl refl
@@ -163,11 +165,12 @@ module _ (D : List ℕ) (R : ℕ → Type 0) where
       simple-alike (Store p i k x) n = go (inOrigin D (getD (P .origins) p 0) (address (P .values) p i k))
         where
           go : (b : Bool)
-              → Alike D R (afterPerformed P n (stepIf b (done (record { cells = set (P .cells) (address (P .values) p i k - bias) (value (P .values) x); values = P .values; origins = P .origins }))))
-              (afterPerformed other n (stepIf b (done (record { cells = set ds (address (P .values) p i k - bias) (value (P .values) x); values = P .values; origins = P .origins }))))
+              → Alike D R (afterPerformed P n (stepIf b (done (record { cells = set (P .cells) (address (P .values) p i k - bias) (value (P .values) x); values = P .values; origins = P .origins; rows = P .rows }))))
+              (afterPerformed other n (stepIf b (done (record { cells = set ds (address (P .values) p i k - bias) (value (P .values) x); values = P .values; origins = P .origins; rows = P .rows }))))
           go true = alike-with _ _ (set-same D R (P .cells) ds _ _ same)
           go false = alike-with _ ds same
       simple-alike (Check c) n = alike-with _ ds same
+      simple-alike (Declare p r) n = alike-with _ ds same
 
       checked-alike : (f : Failing) (s : Simple) (n : ℕ) → Alike D R (afterChecks f P n (performed D s (memoryOf P))) (afterChecks f other n (performed D s (memoryOf other)))
       checked-alike (fails k) s n = alike-with _ ds same
@@ -179,7 +182,7 @@ module _ (D : List ℕ) (R : ℕ → Type 0) where
 
       step-alike : (r : StatementRead) (n : Successors) → Alike D R (statementStep E D r n P) (statementStep E D r n other)
       unfolding statementStep
-      step-alike (Read (Plain s)) n = checked-alike (failing E (P .values) s) s (n .next)
+      step-alike (Read (Plain s)) n = checked-alike (failing (inForce E (P .rows)) (P .values) s) s (n .next)
       step-alike (Read (If c x y)) n = branched-alike (conditionHolds (P .values) c) n
       step-alike (Read (While c x)) n = branched-alike (conditionHolds (P .values) c) n
       step-alike (Read (Bundle x)) n = alike-with _ ds same

@@ -1,6 +1,6 @@
 -- What holds of the memory at a point of a run, by the facts and the known bounds there.
 use Prim.Native.Nat.{ℕ, suc, _+_, _*_, _^_, _≤_, _<_}
-use mathlib.Core.Path.{_≡_, refl, _∙_}
+use mathlib.Core.Path.{_≡_, refl, _∙_, sym}
 use mathlib.Core.Logic.{_≢_, _⊎_, inl, inr}
 use mathlib.Core.Bool.{Bool, true, false}
 use mathlib.Core.List.{List, []}
@@ -11,16 +11,16 @@ use lib.IntN.{ℤ}
 use lib.ListN.{length, getD, set, length-set}
 use lib.Seq.{getD-set-same, getD-set-other}
 use Rattle.sums.specs.Numbers.{bias, maxValue}
-use Rattle.facts.specs.Store.{newSet}
 use Rattle.chains.specs.Sound.{InRange, Holds, Except}
 use Rattle.facts.specs.declared.FactSet.{FactSet}
 use Rattle.sections.specs.declared.Sections.{Sections}
 use Rattle.blocks.specs.Tree.{tree}
 use Rattle.blocks.specs.Layout.{layout}
-use Rattle.rules.specs.BoundsRules.{isPointer, declared, known}
-use Rattle.rules.specs.Stored.{boundsShown, unshown, blockFaults, effectOn, boundsAfter}
+use Rattle.rules.specs.BoundsRules.{isPointer, declared, known, inForce}
+use Rattle.rules.specs.States.{State}
+use Rattle.rules.specs.Stored.{boundsShown, blockFaults, effectOn, boundsAfter, newState, unshownIn, declaredIn}
 use Rattle.rules.specs.BoundsTrue.{BoundsHold, known-after, all-shown, shown-holds, ProperEnd}
-use Rattle.rules.specs.EnvironmentLaws.{Declares, DeclaredEnds}
+use Rattle.rules.specs.EnvironmentLaws.{Declares, DeclaredEnds, Named}
 use Rattle.rules.specs.declared.Bounds.{Bounds}
 use Rattle.rules.specs.declared.Effect.{Effect}
 use Rattle.rules.specs.declared.Environment.{Environment}
@@ -31,7 +31,7 @@ use Rattle.machine.specs.Soundness.{Placed}
 -- is placed in a memory of `room` cells.
 pub record Setting (T : List ℤ) (h : Sections) (E : Environment) (D : List ℕ) (room : ℕ) : Type 0 where
   pub laid : layout T h ≡ []
-  pub walked : blockFaults T h E (tree T h) newSet ≡ []
+  pub walked : blockFaults T h E (tree T h) newState ≡ []
   pub declares : Declares T h E
   pub pairs : length D ≡ 2 * h .objects
   pub placed : (o : ℕ) → o < h .objects → Placed E D room o
@@ -53,18 +53,21 @@ pub record Steady (h : Sections) (room : ℕ) (m : Memory) : Type 0 where
   pub range : InRange (value (m .values))
   pub values-long : length (m .values) ≡ h .variables
   pub origins-long : length (m .origins) ≡ h .variables
+  pub rows-long : length (m .rows) ≡ 16
   pub cells-long : length (m .cells) ≡ room
   pub cells-small : (i : ℕ) → getD (m .cells) i 0 ≤ maxValue
 
 module _ (h : Sections) (E : Environment) (D : List ℕ) (room : ℕ) where
-  -- The facts F are true of the values, and the known bounds K of each pointer.
-  pub record Good (F : FactSet) (K : List Bounds) (m : Memory) : Type 0 where
-    pub facts : Holds F (value (m .values))
+  -- The facts of the walk are true of the values, its rows are those in force, and the known bounds K of each pointer are true.
+  pub record Good (W : State FactSet) (K : List Bounds) (m : Memory) : Type 0 where
+    pub facts : Holds (W .facts) (value (m .values))
+    pub rows : m .rows ≡ W .rows
+    pub named : Named h (W .rows)
     pub bounds : (p : ℕ) → isPointer E p ≡ true → TrueOf D (h .objects) m p (known K p)
     pub steady : Steady h room m
 
-  pub with-facts : (F G : FactSet) (K : List Bounds) (m : Memory) → Good F K m → Holds G (value (m .values)) → Good G K m
-  with-facts F G K m g f = record { facts = f; bounds = g .bounds; steady = g .steady }
+  pub with-facts : (W U : State FactSet) (K : List Bounds) (m : Memory) → Good W K m → U .rows ≡ W .rows → Holds (U .facts) (value (m .values)) → Good U K m
+  with-facts W U K m g e f = record { facts = f; rows = g .rows ∙ sym e; named = rw e (g .named); bounds = g .bounds; steady = g .steady }
 
 -- True bounds of q before a statement make true bounds of p after it.
 pub carry : (D : List ℕ) (objects : ℕ) (m n : Memory) (q p : ℕ) (b c : Bounds) → TrueOf D objects m q b
@@ -98,17 +101,18 @@ assigned vs x a g l few r =
 
 module _ (T : List ℤ) (h : Sections) (E : Environment) (D : List ℕ) (room : ℕ) (S : Setting T h E D room) where
   pub steady-values : (m : Memory) (x a : ℕ) (os : List ℕ) → Steady h room m → InRange (value (set (m .values) x a)) → length os ≡ h .variables
-      → Steady h room (record { cells = m .cells; values = set (m .values) x a; origins = os })
+      → Steady h room (record { cells = m .cells; values = set (m .values) x a; origins = os; rows = m .rows })
   steady-values m x a os s g l =
       record {
         range = g;
         values-long = length-set (m .values) x a ∙ s .values-long;
         origins-long = l;
+        rows-long = s .rows-long;
         cells-long = s .cells-long;
         cells-small = s .cells-small;
       }
 
-  module _ (F G : FactSet) (K : List Bounds) (e : Effect) (m : Memory) (x a : ℕ) (os : List ℕ) where
+  module _ (W : State FactSet) (G : FactSet) (K : List Bounds) (e : Effect) (m : Memory) (x a : ℕ) (os : List ℕ) where
     abbrev pub before : ℕ → ℕ
     before = value (m .values)
 
@@ -116,18 +120,20 @@ module _ (T : List ℤ) (h : Sections) (E : Environment) (D : List ℕ) (room : 
     after = value (set (m .values) x a)
 
     abbrev pub memoryAfter : Memory
-    memoryAfter = record { cells = m .cells; values = set (m .values) x a; origins = os }
+    memoryAfter = record { cells = m .cells; values = set (m .values) x a; origins = os; rows = m .rows }
 
     -- The variable x gets the value a, and the origins become os.
-    pub set-good : Good h E D room F K m → x < h .variables → a ≤ maxValue → length os ≡ h .variables
+    pub set-good : Good h E D room W K m → x < h .variables → a ≤ maxValue → length os ≡ h .variables
         → ((r : ℕ) → r ≢ x → getD os r 0 ≡ getD (m .origins) r 0)
         → (Assigned before after x a → Holds G after)
         → (Assigned before after x a → (r l u : ℕ) → r ≢ x → BoundsHold l u (known K r) before → BoundsHold l u (effectOn e K r) after)
         → (Assigned before after x a → isPointer E x ≡ true → TrueOf D (h .objects) memoryAfter x (effectOn e K x))
-        → Good h E D room G (boundsAfter e K) memoryAfter
+        → Good h E D room (record { facts = G; rows = W .rows }) (boundsAfter e K) memoryAfter
     set-good g l small long same facts others own =
         record {
           facts = facts is;
+          rows = g .rows;
+          named = g .named;
           bounds = λ r t. rw (known-after e K r (omega (arith, S .declares .few, S .declares .below r t))) (true-of r t (eqb r x) refl);
           steady = steady-values m x a os (g .steady) (is .range) long;
         }
@@ -144,31 +150,40 @@ module _ (T : List ℤ) (h : Sections) (E : Environment) (D : List ℕ) (room : 
 -- ---- all declared bounds are shown, and become the known ones
 
 module _ (T : List ℤ) (h : Sections) (E : Environment) (D : List ℕ) (room : ℕ) (S : Setting T h E D room) where
-  pub shown-true : (F : FactSet) (m : Memory) (p : ℕ) (b : Bounds) → isPointer E p ≡ true → Steady h room m → Holds F (value (m .values))
-      → boundsShown F p b (declared E p) ≡ true → TrueOf D (h .objects) m p b → TrueOf D (h .objects) m p (declared E p)
-  shown-true F m p b t s f q (inl z) = inl z
-  shown-true F m p b t s f q (inr i) = go (shown-holds F (value (m .values)) f (s .range) _ _ p b (declared E p) below lower upper q (i .bounds))
+  pub shown-true : (F : FactSet) (R : List ℕ) (m : Memory) (p : ℕ) (b : Bounds) → Named h R → isPointer E p ≡ true → Steady h room m → Holds F (value (m .values))
+      → boundsShown F p b (declared (inForce E R) p) ≡ true → TrueOf D (h .objects) m p b → TrueOf D (h .objects) m p (declared (inForce E R) p)
+  shown-true F R m p b n t s f q (inl z) = inl z
+  shown-true F R m p b n t s f q (inr i) = go (shown-holds F (value (m .values)) f (s .range) _ _ p b (declared (inForce E R) p) below lower upper q (i .bounds))
     where
-      ends : DeclaredEnds E p
-      ends = S .declares .ends p t
+      ends : DeclaredEnds (inForce E R) p
+      ends = S .declares .ends R n p t
 
       below : p < 17
       below = omega (arith, S .declares .few, S .declares .below p t)
 
-      lower : ProperEnd (declared E p .lower)
+      lower : ProperEnd (declared (inForce E R) p .lower)
       lower = rw (ends .bounds) (ends .low-proper)
 
-      upper : ProperEnd (declared E p .upper)
+      upper : ProperEnd (declared (inForce E R) p .upper)
       upper = rw (ends .bounds) (ends .high-proper)
 
-      go : (value (m .values) p ≡ 0) ⊎ BoundsHold (low D (i .object) + bias) (high D (i .object) + bias) (declared E p) (value (m .values)) → TrueOf D (h .objects) m p (declared E p)
+      go : (value (m .values) p ≡ 0) ⊎ BoundsHold (low D (i .object) + bias) (high D (i .object) + bias) (declared (inForce E R) p) (value (m .values)) → TrueOf D (h .objects) m p (declared (inForce E R) p)
       go (inl z) = inl z
       go (inr d) = inr (record { object = i .object; origin-is = i .origin-is; exists = i .exists; bounds = d })
 
-  pub redeclared : (F : FactSet) (K : List Bounds) (m : Memory) → unshown E F K ≡ [] → Good h E D room F K m → Good h E D room F (E .declared) m
-  redeclared F K m e g =
+  pub redeclared : (W : State FactSet) (K : List Bounds) (m : Memory) → unshownIn E W K ≡ [] → Good h E D room W K m → Good h E D room W (declaredIn E W) m
+  redeclared W K m e g =
       record {
         facts = g .facts;
-        bounds = λ p t. shown-true F m p (known K p) t (g .steady) (g .facts) (all-shown E F K e p (omega (arith, S .declares .few, S .declares .below p t)) t) (g .bounds p t);
+        rows = g .rows;
+        named = g .named;
+        bounds =
+            λ p t.
+            shown-true (W .facts) (W .rows) m p (known K p) (g .named) t (g .steady) (g .facts)
+            (all-shown (inForce E (W .rows)) (W .facts) K e p (omega (arith, S .declares .few, S .declares .below p t)) t) (g .bounds p t);
         steady = g .steady;
       }
+
+  -- Outside a bundle the known bounds are the declared ones.
+  pub declared-true : (W : State FactSet) (m : Memory) (p : ℕ) → isPointer E p ≡ true → Good h E D room W (declaredIn E W) m → TrueOf D (h .objects) m p (declared (inForce E (m .rows)) p)
+  declared-true W m p t g = rw (g .rows) (g .bounds p t)

@@ -11,13 +11,13 @@ use Rattle.conditions.specs.Relations.{relates}
 use Rattle.conditions.specs.declared.Condition.{Condition}
 use Rattle.statements.specs.Statements.{statementAt}
 use Rattle.statements.specs.declared.Simple.{Simple}
-use Rattle.statements.specs.declared.Simple.the-variants.{Literal, AddConstant, Arithmetic, Null, Address, PointerOffset, PointerIndex, Load, Store, Check}
+use Rattle.statements.specs.declared.Simple.the-variants.{Literal, AddConstant, Arithmetic, Null, Address, PointerOffset, PointerIndex, Load, Store, Check, Declare}
 use Rattle.statements.specs.declared.Statement.the-variants.{Plain, If, While, Bundle}
 use Rattle.statements.specs.declared.StatementRead.{StatementRead}
 use Rattle.statements.specs.declared.StatementRead.the-variants.{Read, Unread}
 use Rattle.variables.specs.declared.End.{End}
 use Rattle.flow.specs.Flow.{Successors, successors, tableFlow, tableEntry}
-use Rattle.rules.specs.BoundsRules.{declared}
+use Rattle.rules.specs.BoundsRules.{declared, ownRows, inForce, rowsAfter}
 use Rattle.rules.specs.declared.KnownEnd.{KnownEnd}
 use Rattle.rules.specs.declared.KnownEnd.the-variants.{Known, Unknown}
 use Rattle.rules.specs.declared.Environment.{Environment}
@@ -113,10 +113,11 @@ failing E vs (Load x p i k) = accessFailing E vs p (address vs p i k)
 failing E vs (Store p i k x) = accessFailing E vs p (address vs p i k)
 -- "1 dynamic check false"
 failing E vs (Check c) = firstOf (not (conditionHolds vs c)) 1 none
+failing E vs (Declare p r) = none
 
 -- ---- the state
 
--- "Its state: cells, values, origins, the statement due, the steps"; and whether a check stopped it, or it has no step.
+-- "Its state: cells, values, origins, the statement due, the steps"; point 2: the rows in force; and whether a check stopped it, or it has no step.
 pub data Status : Type 0 where
   going : Status
   stopped : ℕ → Status
@@ -126,6 +127,7 @@ pub record Point : Type 0 where
   pub cells : List ℕ
   pub values : List ℕ
   pub origins : List ℕ
+  pub rows : List ℕ
   pub due : ℕ
   pub steps : ℕ
   pub status : Status
@@ -135,16 +137,17 @@ pub record Memory : Type 0 where
   pub cells : List ℕ
   pub values : List ℕ
   pub origins : List ℕ
+  pub rows : List ℕ
 
 pub data Performed : Type 0 where
   done : Memory → Performed
   no-step : Performed
 
 abbrev pub setInteger : Memory → ℕ → ℕ → Performed
-setInteger m x a = done (record { cells = m .cells; values = set (m .values) x a; origins = m .origins })
+setInteger m x a = done (record { cells = m .cells; values = set (m .values) x a; origins = m .origins; rows = m .rows })
 
 abbrev pub setPointer : Memory → ℕ → ℕ → ℕ → Performed
-setPointer m p a o = done (record { cells = m .cells; values = set (m .values) p a; origins = set (m .origins) p o })
+setPointer m p a o = done (record { cells = m .cells; values = set (m .values) p a; origins = set (m .origins) p o; rows = m .rows })
 
 -- "op (0 add, 1 subtract, 2 multiply)", "modulo 4,294,967,296"
 unfoldable pub combined : ℕ → ℕ → ℕ → ℕ
@@ -171,24 +174,26 @@ performed D (Load x p i k) m =
     stepIf (inOrigin D (getD (m .origins) p 0) (address (m .values) p i k)) (setInteger m x (getD (m .cells) (address (m .values) p i k - bias) 0))
 performed D (Store p i k x) m =
     stepIf (inOrigin D (getD (m .origins) p 0) (address (m .values) p i k))
-    (done (record { cells = set (m .cells) (address (m .values) p i k - bias) (value (m .values) x); values = m .values; origins = m .origins }))
+    (done (record { cells = set (m .cells) (address (m .values) p i k - bias) (value (m .values) x); values = m .values; origins = m .origins; rows = m .rows }))
 performed D (Check c) m = done m
+-- Point 2: a kind 14 changes the row in force, and nothing else.
+performed D (Declare p r) m = done (record { cells = m .cells; values = m .values; origins = m .origins; rows = rowsAfter (Declare p r) (m .rows) })
 
 -- ---- steps. The machine is fed the routine (T, with its sections h and what it declares, E), the directory D, and a point.
 
 abbrev pub memoryOf : Point → Memory
-memoryOf P = record { cells = P .cells; values = P .values; origins = P .origins }
+memoryOf P = record { cells = P .cells; values = P .values; origins = P .origins; rows = P .rows }
 
 -- "Each statement begun is one step": the point after a step to the statement n.
 abbrev pub moved : Point → Memory → ℕ → Point
-moved P m n = record { cells = m .cells; values = m .values; origins = m .origins; due = n; steps = P .steps + 1; status = going }
+moved P m n = record { cells = m .cells; values = m .values; origins = m .origins; rows = m .rows; due = n; steps = P .steps + 1; status = going }
 
 -- "The stopping statement is counted and changes nothing"; "a stopped run's statement stays due".
 abbrev pub halted : Point → ℕ → Point
-halted P n = record { cells = P .cells; values = P .values; origins = P .origins; due = P .due; steps = P .steps + 1; status = stopped n }
+halted P n = record { cells = P .cells; values = P .values; origins = P .origins; rows = P .rows; due = P .due; steps = P .steps + 1; status = stopped n }
 
 abbrev pub lost : Point → Point
-lost P = record { cells = P .cells; values = P .values; origins = P .origins; due = P .due; steps = P .steps; status = stuck }
+lost P = record { cells = P .cells; values = P .values; origins = P .origins; rows = P .rows; due = P .due; steps = P .steps; status = stuck }
 
 abbrev pub afterPerformed : Point → ℕ → Performed → Point
 afterPerformed P n (done m) = moved P m n
@@ -205,7 +210,7 @@ branched false P s = moved P (memoryOf P) (s .other)
 -- "An if, a bundle, or a while whose condition holds makes its block (of an if the chosen one) due from its first statement. After any other statement, and
 -- after a while whose condition fails, the next in the same block is due." The successors are those of the flow.
 unfoldable pub statementStep : Environment → List ℕ → StatementRead → Successors → Point → Point
-statementStep E D (Read (Plain s)) n P = afterChecks (failing E (P .values) s) P (n .next) (performed D s (memoryOf P))
+statementStep E D (Read (Plain s)) n P = afterChecks (failing (inForce E (P .rows)) (P .values) s) P (n .next) (performed D s (memoryOf P))
 statementStep E D (Read (If c x y)) n P = branched (conditionHolds (P .values) c) P n
 statementStep E D (Read (While c x)) n P = branched (conditionHolds (P .values) c) P n
 statementStep E D (Read (Bundle x)) n P = moved P (memoryOf P) (n .next)
@@ -228,7 +233,7 @@ module _ (T : List ℤ) (h : Sections) (E : Environment) (D : List ℕ) where
 
   -- "at the start what was lent, the first statement (in an empty table nothing), 0"
   unfoldable pub start : List ℕ → List ℕ → List ℕ → Point
-  start cs vs os = record { cells = cs; values = vs; origins = os; due = tableEntry T h; steps = 0; status = going }
+  start cs vs os = record { cells = cs; values = vs; origins = os; rows = ownRows; due = tableEntry T h; steps = 0; status = going }
 
   -- "Its points are the start and what each step leaves": the point after t steps, or where the run ended before.
   unfoldable pub pointAfter : ℕ → Point → Point

@@ -18,7 +18,8 @@ use Rattle.flow.specs.Flow.{Successors, successors, entry, lead}
 use Rattle.flow.specs.Shape.{size, Numbered, Formed, ReadsLine, Reads, RightLine, Right}
 use Rattle.flow.specs.Targets.{targetsFrom}
 use Rattle.flow.specs.ShapeLaws.{body-targets}
-use Rattle.rules.specs.Stored.{factsAfter, conditionFacts, loopFacts, effect, bundleFacts, sidesJoined, blockFacts, boundsAfter}
+use Rattle.rules.specs.States.{State}
+use Rattle.rules.specs.Stored.{effect, sidesJoined, boundsAfter, stateAfter, assumed, atHead, declaredIn, bundleAfter, blockAfter}
 use Rattle.rules.specs.FactsTrue.{Agree}
 use Rattle.rules.specs.declared.Bounds.{Bounds}
 use Rattle.rules.specs.declared.Environment.{Environment}
@@ -77,13 +78,13 @@ module _ (T : List ℤ) (h : Sections) (f : ℕ → Successors) where
 
 module _ (T : List ℤ) (h : Sections) (E : Environment) (D : List ℕ) (room : ℕ) where
   -- The statement a is due, and F and K are true.
-  abbrev pub Stands : ℕ → FactSet → List Bounds → ℕ → Memory → Type 0
+  abbrev pub Stands : ℕ → State FactSet → List Bounds → ℕ → Memory → Type 0
   Stands a F K d m = (d ≡ a) × Good h E D room F K m
 
   -- At one of the statements of a bundle, the first of which is a.
-  abbrev pub AtLine : ℕ → List Simple → FactSet → List Bounds → ℕ → Memory → Type 0
+  abbrev pub AtLine : ℕ → List Simple → State FactSet → List Bounds → ℕ → Memory → Type 0
   AtLine a [] F K d m = ⊥
-  AtLine a (s ∷ ss) F K d m = Stands a F K d m ⊎ AtLine (a + 1) ss (factsAfter s F) (boundsAfter (effect E F s) K) d m
+  AtLine a (s ∷ ss) F K d m = Stands a F K d m ⊎ AtLine (a + 1) ss (stateAfter s F) (boundsAfter (effect E (F .facts) s) K) d m
 
   -- Some values made F true before the loop, and those now differ from them only at what the body assigns.
   pub record Framed (A : List ℕ) (F : FactSet) (m : Memory) : Type 0 where
@@ -92,21 +93,25 @@ module _ (T : List ℤ) (h : Sections) (E : Environment) (D : List ℕ) (room : 
     pub range : InRange old
     pub agree : Agree A old (value (m .values))
 
-  -- The facts at the head of a loop.
-  abbrev pub headFacts : ℕ → ℕ → FactSet → FactSet
-  headFacts a n F = loopFacts (targetsFrom T h (a + 1) n) F
+  -- What holds at the head of a loop.
+  abbrev pub headState : ℕ → ℕ → State FactSet → State FactSet
+  headState a n F = atHead (targetsFrom T h (a + 1) n) F
 
-  -- At a statement of the block, which was entered with the facts F.
-  abbrev pub At : Block → FactSet → ℕ → Memory → Type 0
+  -- At a statement outside a bundle: the known bounds are the declared ones.
+  abbrev pub StandsAt : ℕ → State FactSet → ℕ → Memory → Type 0
+  StandsAt a F d m = Stands a F (declaredIn E F) d m
+
+  -- At a statement of the block, which was entered with the facts and rows F.
+  abbrev pub At : Block → State FactSet → ℕ → Memory → Type 0
   At nil F d m = ⊥
-  At (plain a s r) F d m = Stands a F (E .declared) d m ⊎ At r (factsAfter s F) d m
+  At (plain a s r) F d m = StandsAt a F d m ⊎ At r (stateAfter s F) d m
   At (branch a c t e r) F d m =
-      Stands a F (E .declared) d m
-      ⊎ (At t (conditionFacts F c) d m
-      ⊎ (At e (conditionFacts F (negatedOf c)) d m
-      ⊎ At r (sidesJoined T h E (blockFacts T h E t (conditionFacts F c)) (blockFacts T h E e (conditionFacts F (negatedOf c)))) d m))
+      StandsAt a F d m
+      ⊎ (At t (assumed F c) d m
+      ⊎ (At e (assumed F (negatedOf c)) d m
+      ⊎ At r (sidesJoined T h E (blockAfter T h E t (assumed F c)) (blockAfter T h E e (assumed F (negatedOf c)))) d m))
   At (loop a c n t r) F d m =
-      (Framed (targetsFrom T h (a + 1) n) F m × (Stands a (headFacts a n F) (E .declared) d m ⊎ At t (conditionFacts (headFacts a n F) c) d m))
-      ⊎ At r (conditionFacts (headFacts a n F) (negatedOf c)) d m
-  At (bundle a ss r) F d m = Stands a F (E .declared) d m ⊎ (AtLine (a + 1) ss F (E .declared) d m ⊎ At r (bundleFacts ss F) d m)
+      (Framed (targetsFrom T h (a + 1) n) (F .facts) m × (StandsAt a (headState a n F) d m ⊎ At t (assumed (headState a n F) c) d m))
+      ⊎ At r (assumed (headState a n F) (negatedOf c)) d m
+  At (bundle a ss r) F d m = StandsAt a F d m ⊎ (AtLine (a + 1) ss F (declaredIn E F) d m ⊎ At r (bundleAfter ss F) d m)
   At (unread a) F d m = ⊥

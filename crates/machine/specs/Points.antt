@@ -8,11 +8,12 @@ use lib.ListN.{length, getD}
 use Rattle.sections.specs.declared.Sections.{Sections}
 use Rattle.statements.specs.Statements.{statementAt}
 use Rattle.statements.specs.declared.Simple.{Simple}
-use Rattle.statements.specs.declared.Simple.the-variants.{Literal, AddConstant, Arithmetic, Null, Address, PointerOffset, PointerIndex, Load, Store, Check}
+use Rattle.statements.specs.declared.Simple.the-variants.{Literal, AddConstant, Arithmetic, Null, Address, PointerOffset, PointerIndex, Load, Store, Check, Declare}
 use Rattle.statements.specs.declared.Statement.the-variants.{Plain, If, While, Bundle}
 use Rattle.statements.specs.declared.StatementRead.{StatementRead}
 use Rattle.statements.specs.declared.StatementRead.the-variants.{Read, Unread}
 use Rattle.blocks.specs.Tree.{Block, nil, plain, branch, loop, bundle, unread}
+use Rattle.rules.specs.BoundsRules.{inForce}
 use Rattle.rules.specs.declared.Environment.{Environment}
 use Rattle.machine.specs.Machine.{low, high, Failing, none, fails, failing, address, Status, going, stopped, stuck, Point, Memory, memoryOf}
 
@@ -42,13 +43,14 @@ simpleAccess (PointerIndex p q i) m = no-access
 simpleAccess (Load x p i k) m = access (address (m .values) p i k) (getD (m .origins) p 0)
 simpleAccess (Store p i k x) m = access (address (m .values) p i k) (getD (m .origins) p 0)
 simpleAccess (Check c) m = no-access
+simpleAccess (Declare p r) m = no-access
 
 abbrev pub unlessFailing : Failing → Access → Access
 unlessFailing none a = a
 unlessFailing (fails n) a = no-access
 
 abbrev pub statementAccess : Environment → StatementRead → Memory → Access
-statementAccess E (Read (Plain s)) m = unlessFailing (failing E (m .values) s) (simpleAccess s m)
+statementAccess E (Read (Plain s)) m = unlessFailing (failing (inForce E (m .rows)) (m .values) s) (simpleAccess s m)
 statementAccess E (Read (If c x y)) m = no-access
 statementAccess E (Read (While c x)) m = no-access
 statementAccess E (Read (Bundle x)) m = no-access

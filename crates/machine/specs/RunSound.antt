@@ -10,16 +10,16 @@ use borrow.Author.Tests.{ltb-true}
 use lib.Dec.{ltb}
 use lib.IntN.{ℤ}
 use lib.ListN.{length}
-use Rattle.facts.specs.Store.{newSet, contradictory}
+use Rattle.facts.specs.Store.{contradictory}
 use Rattle.facts.specs.declared.FactSet.{FactSet}
 use Rattle.chains.specs.Facts.{Variables, Contradiction}
-use Rattle.chains.specs.History.{new, known}
+use Rattle.chains.specs.History.{known}
 use Rattle.chains.specs.HistoryLaws.{contradicts-exactly}
 use Rattle.sections.specs.declared.Sections.{Sections}
 use Rattle.statements.specs.Statements.{statementAt}
 use Rattle.statements.specs.StatementLaws.{read-typed, read-within}
 use Rattle.statements.specs.declared.Simple.{Simple}
-use Rattle.statements.specs.declared.Simple.the-variants.{Literal, AddConstant, Arithmetic, Null, Address, PointerOffset, PointerIndex, Load, Store, Check}
+use Rattle.statements.specs.declared.Simple.the-variants.{Literal, AddConstant, Arithmetic, Null, Address, PointerOffset, PointerIndex, Load, Store, Check, Declare}
 use Rattle.statements.specs.declared.Statement.the-variants.{Plain, If, While, Bundle}
 use Rattle.statements.specs.declared.StatementRead.{StatementRead}
 use Rattle.statements.specs.declared.StatementRead.the-variants.{Read, Unread}
@@ -31,12 +31,13 @@ use Rattle.flow.specs.Flow.{successors, tableEntry}
 use Rattle.flow.specs.ShapeLaws.{table-laid}
 use Rattle.flow.specs.SuccessorLaws.{flow-right}
 use Rattle.rules.specs.FactsTrue.{Agree}
-use Rattle.rules.specs.BoundsRules.{isPointer, declared}
-use Rattle.rules.specs.EnvironmentLaws.{Declares, environment-declares}
-use Rattle.rules.specs.Stored.{store, blockFacts, faults}
-use Rattle.rules.specs.FactsBefore.{factsBefore}
+use Rattle.rules.specs.States.{State}
+use Rattle.rules.specs.BoundsRules.{isPointer, declared, ownRows, inForce}
+use Rattle.rules.specs.EnvironmentLaws.{Declares, environment-declares, Named}
+use Rattle.rules.specs.Stored.{store, faults, newState, declaredIn, blockAfter}
+use Rattle.rules.specs.StateBefore.{stateBefore}
 use Rattle.rules.specs.BeforeLaws.{before-represented}
-use Rattle.rules.specs.Representation.{represents-new}
+use Rattle.rules.specs.StateRepresentation.{new-represented}
 use Rattle.rules.specs.ByChains.{Decider, byChains, variables, DecidesTable}
 use Rattle.rules.specs.Verdict.{environmentOf}
 use Rattle.rules.specs.AcceptedLaws.{clear}
@@ -44,20 +45,21 @@ use Rattle.rules.specs.declared.Environment.{Environment}
 use Rattle.machine.specs.Machine.{value, boundsTrue, Failing, none, fails, failing, Memory, Status, going, stopped, stuck, Point, memoryOf, statementStep, successorsOf, stepIfDue, nextPoint, start, pointAfter}
 use Rattle.machine.specs.Points.{inBundle, simpleAccess, unlessFailing, statementAccess, accessIf, accessFrom}
 use Rattle.machine.specs.Soundness.{AccessRight, AccessAllowed, Begun, Sound}
-use Rattle.machine.specs.Good.{Setting, Steady, Good}
+use Rattle.machine.specs.Good.{Setting, Steady, Good, declared-true}
 use Rattle.machine.specs.AccessSound.{Inside, Ready, inside-origin, access-inside}
-use Rattle.machine.specs.Places.{Linked, linked, Stands, At}
+use Rattle.machine.specs.Places.{Linked, linked, At, StandsAt, Stands}
 use Rattle.machine.specs.BlockSound.{Fine, leads, stops, enter, block-step}
 use Rattle.machine.specs.Standing.{Standing, standing}
 use Rattle.machine.specs.NeverDue.{consistent}
 use Rattle.machine.specs.EntrySound.{true-test, begun-good}
+use Rattle.rules.specs.Rules as walkRules
 
 module _ (T : List ℤ) (h : Sections) (E : Environment) (D : List ℕ) (room : ℕ) where
   -- What the proof carries from point to point: the place in the tree with its facts and bounds, or the end of the table.
   pub record Invariant (P : Point) : Type 0 where
     pub has-step : P .status ≢ stuck
-    pub place : At T h E D room (tree T h) newSet (P .due) (memoryOf P)
-        ⊎ Stands T h E D room (h .statements) (blockFacts T h E (tree T h) newSet) (E .declared) (P .due) (memoryOf P)
+    pub place : At T h E D room (tree T h) newState (P .due) (memoryOf P)
+        ⊎ StandsAt T h E D room (h .statements) (blockAfter T h E (tree T h) newState) (P .due) (memoryOf P)
 
   module _ (S : Setting T h E D room) where
     links : Linked T h (successorsOf T h E D) (tree T h) (h .statements)
@@ -69,7 +71,7 @@ module _ (T : List ℤ) (h : Sections) (E : Environment) (D : List ℕ) (room : 
 
     abbrev Next : Memory → ℕ → Memory → Type 0
     Next m d n =
-        (At T h E D room (tree T h) newSet d n ⊎ Stands T h E D room (h .statements) (blockFacts T h E (tree T h) newSet) (E .declared) d n)
+        (At T h E D room (tree T h) newState d n ⊎ StandsAt T h E D room (h .statements) (blockAfter T h E (tree T h) newState) d n)
         × Agree (assigned (tree T h)) (value (m .values)) (value (n .values))
 
     fine-kept : (P Q : Point) → Invariant P → Fine (Next (memoryOf P)) P Q → Invariant Q
@@ -80,9 +82,9 @@ module _ (T : List ℤ) (h : Sections) (E : Environment) (D : List ℕ) (room : 
     due-kept P i false q = i
     due-kept P i true q = go (i .place)
       where
-        go : At T h E D room (tree T h) newSet (P .due) (memoryOf P) ⊎ Stands T h E D room (h .statements) (blockFacts T h E (tree T h) newSet) (E .declared) (P .due) (memoryOf P)
+        go : At T h E D room (tree T h) newState (P .due) (memoryOf P) ⊎ StandsAt T h E D room (h .statements) (blockAfter T h E (tree T h) newState) (P .due) (memoryOf P)
             → Invariant (statementStep E D (statementAt T h (P .due)) (successorsOf T h E D (P .due)) P)
-        go (inl x) = fine-kept P _ i (block-step T h E D room S (successorsOf T h E D) (tree T h) newSet (h .statements) P links (S .walked) x)
+        go (inl x) = fine-kept P _ i (block-step T h E D room S (successorsOf T h E D) (tree T h) newState (h .statements) P links (S .walked) x)
         go (inr x) = absurd (omega (arith, ltb-true (P .due) (h .statements) q, x .0))
 
     pub next-kept : (P : Point) (s : Status) → Invariant P → Invariant (nextPoint T h E D s P)
@@ -97,25 +99,25 @@ module _ (T : List ℤ) (h : Sections) (E : Environment) (D : List ℕ) (room : 
     point-kept zero P i = i
     point-kept (suc t) P i = next-kept (pointAfter T h E D t P) (pointAfter T h E D t P .status) (point-kept t P i)
 
-    pub start-kept : (cs vs os : List ℕ) → Good h E D room newSet (E .declared) (record { cells = cs; values = vs; origins = os }) → Invariant (start T h E D cs vs os)
+    pub start-kept : (cs vs os : List ℕ) → Good h E D room newState (declaredIn E newState) (record { cells = cs; values = vs; origins = os; rows = ownRows }) → Invariant (start T h E D cs vs os)
     unfolding start tableEntry
     start-kept cs vs os g =
         record {
           has-step = λ e. let z : _≡_ {A = ℕ} 0 1 = cc in omega arith;
-          place = enter T h E D room S (successorsOf T h E D) (tree T h) newSet (h .statements) _ (record { cells = cs; values = vs; origins = os }) links refl g;
+          place = enter T h E D room S (successorsOf T h E D) (tree T h) newState (h .statements) _ (record { cells = cs; values = vs; origins = os; rows = ownRows }) links refl g;
         }
 
     -- ---- what the invariant says
 
     abbrev Somewhere : Point → Type 0
-    Somewhere P = Standing T h E D room (tree T h) (P .due) (memoryOf P) ⊎ ((P .due ≡ h .statements) × Good h E D room (blockFacts T h E (tree T h) newSet) (E .declared) (memoryOf P))
+    Somewhere P = Standing T h E D room (tree T h) (P .due) (memoryOf P) ⊎ ((P .due ≡ h .statements) × Good h E D room (blockAfter T h E (tree T h) newState) (declaredIn E (blockAfter T h E (tree T h) newState)) (memoryOf P))
 
     somewhere : (P : Point) → Invariant P → Somewhere P
     somewhere P i = go (i .place)
       where
-        go : At T h E D room (tree T h) newSet (P .due) (memoryOf P) ⊎ Stands T h E D room (h .statements) (blockFacts T h E (tree T h) newSet) (E .declared) (P .due) (memoryOf P)
+        go : At T h E D room (tree T h) newState (P .due) (memoryOf P) ⊎ StandsAt T h E D room (h .statements) (blockAfter T h E (tree T h) newState) (P .due) (memoryOf P)
             → Somewhere P
-        go (inl x) = inl (standing T h E D room S (successorsOf T h E D) (tree T h) newSet (h .statements) (P .due) (memoryOf P) links (S .walked) x)
+        go (inl x) = inl (standing T h E D room S (successorsOf T h E D) (tree T h) newState (h .statements) (P .due) (memoryOf P) links (S .walked) x)
         go (inr x) = inr x
 
     steady-of : (P : Point) → Somewhere P → Steady h room (memoryOf P)
@@ -126,9 +128,12 @@ module _ (T : List ℤ) (h : Sections) (E : Environment) (D : List ℕ) (room : 
     due-of P (inl w) = omega (arith, w .within)
     due-of P (inr w) = omega (arith, w .0)
 
-    bounds-of : (P : Point) → Somewhere P → inBundle (tree T h) (P .due) ≡ false → (p : ℕ) → isPointer E p ≡ true → boundsTrue E D (P .values) (P .origins) p ≡ true
-    bounds-of P (inl w) e p t = true-test E D (h .objects) (S .pairs) (memoryOf P) p (S .declares .ends p t) (w .declared e .bounds p t)
-    bounds-of P (inr w) e p t = true-test E D (h .objects) (S .pairs) (memoryOf P) p (S .declares .ends p t) (w .1 .bounds p t)
+    bounds-at : (W : State FactSet) (m : Memory) (p : ℕ) → isPointer E p ≡ true → Good h E D room W (declaredIn E W) m → boundsTrue (inForce E (m .rows)) D (m .values) (m .origins) p ≡ true
+    bounds-at W m p t g = true-test (inForce E (m .rows)) D (h .objects) (S .pairs) m p (S .declares .ends (m .rows) (rw (g .rows) (g .named)) p t) (declared-true T h E D room S W m p t g)
+
+    bounds-of : (P : Point) → Somewhere P → inBundle (tree T h) (P .due) ≡ false → (p : ℕ) → isPointer E p ≡ true → boundsTrue (inForce E (P .rows)) D (P .values) (P .origins) p ≡ true
+    bounds-of P (inl w) e p t = bounds-at (w .state) (memoryOf P) p t (w .declared e)
+    bounds-of P (inr w) e p t = bounds-at (blockAfter T h E (tree T h) newState) (memoryOf P) p t (w .1)
 
     -- The access of a statement that is due, where no check fails.
     access-right : (m : Memory) (origin a : ℕ) → Steady h room m → Inside D (h .objects) origin a → AccessRight D (length (m .cells)) a origin
@@ -140,45 +145,46 @@ module _ (T : List ℤ) (h : Sections) (E : Environment) (D : List ℕ) (room : 
           last = omega (arith, placed .inside, i .below, s .cells-long);
         }
 
-    simple-allowed : (s : Simple) (a : ℕ) (m : Memory) → Steady h room m → statementAt T h a ≡ Read (Plain s) → Ready E D (h .objects) s m → failing E (m .values) s ≡ none
+    simple-allowed : (s : Simple) (a : ℕ) (m : Memory) → Steady h room m → Named h (m .rows) → statementAt T h a ≡ Read (Plain s) → Ready (inForce E (m .rows)) D (h .objects) s m → failing (inForce E (m .rows)) (m .values) s ≡ none
         → AccessAllowed D (length (m .cells)) (simpleAccess s m)
     unfolding failing
-    simple-allowed (Literal x k) a m w r y e = tt
-    simple-allowed (AddConstant x q k) a m w r y e = tt
-    simple-allowed (Arithmetic x q z op) a m w r y e = tt
-    simple-allowed (Null p) a m w r y e = tt
-    simple-allowed (Address p o) a m w r y e = tt
-    simple-allowed (PointerOffset p q k) a m w r y e = tt
-    simple-allowed (PointerIndex p q i) a m w r y e = tt
-    simple-allowed (Load x p i k) a m w r y e =
+    simple-allowed (Literal x k) a m w n r y e = tt
+    simple-allowed (AddConstant x q k) a m w n r y e = tt
+    simple-allowed (Arithmetic x q z op) a m w n r y e = tt
+    simple-allowed (Null p) a m w n r y e = tt
+    simple-allowed (Address p o) a m w n r y e = tt
+    simple-allowed (PointerOffset p q k) a m w n r y e = tt
+    simple-allowed (PointerIndex p q i) a m w n r y e = tt
+    simple-allowed (Load x p i k) a m w n r y e =
         let typed = read-typed T h a (Plain (Load x p i k)) r in
-        access-right m _ _ w (access-inside E D (h .objects) m p (S .declares .ends p (S .declares .pointer p (typed .pointer))) _ e y)
-    simple-allowed (Store p i k x) a m w r y e =
+        access-right m _ _ w (access-inside (inForce E (m .rows)) D (h .objects) m p (S .declares .ends (m .rows) n p (S .declares .pointer p (typed .pointer))) _ e y)
+    simple-allowed (Store p i k x) a m w n r y e =
         let typed = read-typed T h a (Plain (Store p i k x)) r in
-        access-right m _ _ w (access-inside E D (h .objects) m p (S .declares .ends p (S .declares .pointer p (typed .pointer))) _ e y)
-    simple-allowed (Check c) a m w r y e = tt
+        access-right m _ _ w (access-inside (inForce E (m .rows)) D (h .objects) m p (S .declares .ends (m .rows) n p (S .declares .pointer p (typed .pointer))) _ e y)
+    simple-allowed (Check c) a m w n r y e = tt
+    simple-allowed (Declare p i) a m w n r y e = tt
 
     -- The access of the statement that is due at a point, where no check fails.
-    pub due-allowed : (P : Point) → Invariant P → (s : Simple) → statementAt T h (P .due) ≡ Read (Plain s) → failing E (P .values) s ≡ none
+    pub due-allowed : (P : Point) → Invariant P → (s : Simple) → statementAt T h (P .due) ≡ Read (Plain s) → failing (inForce E (P .rows)) (P .values) s ≡ none
         → AccessAllowed D (length (P .cells)) (simpleAccess s (memoryOf P))
     due-allowed P i s r e = go (somewhere P i)
       where
         go : Somewhere P → AccessAllowed D (length (P .cells)) (simpleAccess s (memoryOf P))
-        go (inl w) = simple-allowed s (P .due) (memoryOf P) (w .good .steady) r (w .ready s r) e
+        go (inl w) = simple-allowed s (P .due) (memoryOf P) (w .good .steady) (rw (w .good .rows) (w .good .named)) r (w .ready s r) e
         go (inr w) = absurd (omega (arith, w .0, read-within T h (P .due) (Plain s) r))
 
     from-allowed : (P : Point) (s : Status) → Invariant P → AccessAllowed D (length (P .cells)) (accessFrom T h E s P)
     unfolding accessFrom
     from-allowed P going i = due (ltb (P .due) (h .statements))
       where
-        checked : (s : Simple) → statementAt T h (P .due) ≡ Read (Plain s) → (c : Failing) → failing E (P .values) s ≡ c
+        checked : (s : Simple) → statementAt T h (P .due) ≡ Read (Plain s) → (c : Failing) → failing (inForce E (P .rows)) (P .values) s ≡ c
             → AccessAllowed D (length (P .cells)) (unlessFailing c (simpleAccess s (memoryOf P)))
         checked s r (fails n) e = tt
         checked s r none e = due-allowed P i s r e
 
         reads : (r : StatementRead) → statementAt T h (P .due) ≡ r → AccessAllowed D (length (P .cells)) (statementAccess E r (memoryOf P))
         reads Unread r = tt
-        reads (Read (Plain s)) r = checked s r (failing E (P .values) s) refl
+        reads (Read (Plain s)) r = checked s r (failing (inForce E (P .rows)) (P .values) s) refl
         reads (Read (If c x y)) r = tt
         reads (Read (While c x)) r = tt
         reads (Read (Bundle x)) r = tt
@@ -201,6 +207,7 @@ module _ (T : List ℤ) (h : Sections) (E : Environment) (D : List ℕ) (room : 
           cells-long = s .cells-long;
           values-long = s .values-long;
           origins-long = s .origins-long;
+          rows-long = s .rows-long;
           cells-small = s .cells-small;
           values-small = s .range .below;
         }
@@ -235,22 +242,22 @@ module _ (T : List ℤ) (h : Sections) (formed : formOf T ≡ WellFormed h) (acc
   point t = pointAfter T h E D t (start T h E D cs vs os)
 
   -- The facts before a statement that is due do not contradict, by the store.
-  due-consistent : (t : ℕ) → point t .due < h .statements → contradictory (factsBefore store T h E (tree T h) newSet (point t .due)) ≡ false
+  due-consistent : (t : ℕ) → point t .due < h .statements → contradictory (stateBefore store T h E (tree T h) newState (point t .due) .facts) ≡ false
   due-consistent t l = go (point-kept T h E D (length cs) begun-setting t (start T h E D cs vs os) begun-invariant .place)
     where
-      go : At T h E D (length cs) (tree T h) newSet (point t .due) (memoryOf (point t))
-          ⊎ Stands T h E D (length cs) (h .statements) (blockFacts T h E (tree T h) newSet) (E .declared) (point t .due) (memoryOf (point t))
-          → contradictory (factsBefore store T h E (tree T h) newSet (point t .due)) ≡ false
-      go (inl x) = consistent T h E D (length cs) (tree T h) 0 newSet (point t .due) (memoryOf (point t)) (table-laid T h (begun-setting .laid) .numbered) x
+      go : At T h E D (length cs) (tree T h) newState (point t .due) (memoryOf (point t))
+          ⊎ Stands T h E D (length cs) (h .statements) (blockAfter T h E (tree T h) newState) (declaredIn E (blockAfter T h E (tree T h) newState)) (point t .due) (memoryOf (point t))
+          → contradictory (stateBefore store T h E (tree T h) newState (point t .due) .facts) ≡ false
+      go (inl x) = consistent T h E D (length cs) (tree T h) 0 newState (point t .due) (memoryOf (point t)) (table-laid T h (begun-setting .laid) .numbered) x
       go (inr x) = absurd (omega (arith, x .0))
 
   abbrev vars : Variables
   vars = variables T h (well-formed T h formed .limits)
 
   -- A statement whose facts contradict is never due, by the paper's chains. (Point 11 walks it like any other, and no run comes to it.)
-  pub never-due : (d : Decider) → DecidesTable T d → (t : ℕ) → point t .due < h .statements → Contradiction (known vars (factsBefore (byChains d) T h E (tree T h) new (point t .due))) → ⊥
+  pub never-due : (d : Decider) → DecidesTable T d → (t : ℕ) → point t .due < h .statements → Contradiction (known vars (stateBefore (byChains d) T h E (tree T h) (walkRules.newState (byChains d)) (point t .due) .facts)) → ⊥
   never-due d decides t l c =
       let w = well-formed T h formed .limits in
-      let r = before-represented T h w d (decides h w formed) (tree T h) (point t .due) (table-laid T h (begun-setting .laid) .reads) (represents-new vars) in
-      let m = contradicts-exactly vars (factsBefore (byChains d) T h E (tree T h) new (point t .due)) (r .legal) .1 c in
-      false≢true (sym (due-consistent t l) ∙ (ap (λ (f : FactSet). f .contradiction) (sym (r .same)) ∙ m))
+      let r = before-represented T h w d (decides h w formed) (tree T h) (point t .due) (table-laid T h (begun-setting .laid) .reads) (new-represented vars d) in
+      let m = contradicts-exactly vars (stateBefore (byChains d) T h E (tree T h) (walkRules.newState (byChains d)) (point t .due) .facts) (r .represents .legal) .1 c in
+      false≢true (sym (due-consistent t l) ∙ (ap (λ (f : FactSet). f .contradiction) (sym (r .represents .same)) ∙ m))

@@ -18,7 +18,7 @@ use Rattle.sections.specs.Typed.{IsInteger, IsPointer}
 use Rattle.sections.specs.declared.Sections.{Sections}
 use Rattle.statements.specs.declared.Simple.{Simple}
 use Rattle.blocks.specs.Tree.{target}
-use Rattle.rules.specs.Stored.{equated, sumFacts, offsetFacts, factsAfter, effect, effectOn, boundsAfter}
+use Rattle.rules.specs.Stored.{equated, sumFacts, offsetFacts, effect, effectOn, boundsAfter, stateAfter}
 use Rattle.rules.specs.BoundsRules as boundsRules
 use Rattle.rules.specs.FactsTrue.{Agree, among-one, equated-holds, positive-holds, sum-in-range}
 use Rattle.rules.specs.BoundsRules.{objectLength, known, forgetBounds, objectBounds}
@@ -30,6 +30,7 @@ use Rattle.rules.specs.declared.Environment.{Environment}
 use Rattle.machine.specs.Machine.{value, low, high, Memory, Performed, done, no-step, combined}
 use Rattle.machine.specs.Good.{Setting, TrueOf, Good, carry, Assigned, set-good}
 use Rattle.rules.specs.FactRules as factRules
+use Rattle.rules.specs.States.{State}
 
 -- A statement that has a step leaves a memory.
 abbrev pub Done : (Memory → Type 0) → Performed → Type 0
@@ -58,10 +59,10 @@ abbrev pub valuesSet : Memory → ℕ → ℕ → ℕ → ℕ
 valuesSet m x a = value (set (m .values) x a)
 
 abbrev pub integerSet : Memory → ℕ → ℕ → Memory
-integerSet m x a = record { cells = m .cells; values = set (m .values) x a; origins = m .origins }
+integerSet m x a = record { cells = m .cells; values = set (m .values) x a; origins = m .origins; rows = m .rows }
 
 abbrev pub pointerSet : Memory → ℕ → ℕ → ℕ → Memory
-pointerSet m p a o = record { cells = m .cells; values = set (m .values) p a; origins = set (m .origins) p o }
+pointerSet m p a o = record { cells = m .cells; values = set (m .values) p a; origins = set (m .origins) p o; rows = m .rows }
 
 -- The pointer p gets the address a, and the origin of q.
 abbrev pub derivedSet : Memory → ℕ → ℕ → ℕ → Memory
@@ -69,8 +70,8 @@ derivedSet m p q a = pointerSet m p a (getD (m .origins) q 0)
 
 module _ (T : List ℤ) (h : Sections) (E : Environment) (D : List ℕ) (room : ℕ) (S : Setting T h E D room) where
   -- What the statement s leaves.
-  pub record Left (F : FactSet) (K : List Bounds) (s : Simple) (m n : Memory) : Type 0 where
-    pub good : Good h E D room (factsAfter s F) (boundsAfter (effect E F s) K) n
+  pub record Left (W : State FactSet) (K : List Bounds) (s : Simple) (m n : Memory) : Type 0 where
+    pub good : Good h E D room (stateAfter s W) (boundsAfter (effect E (W .facts) s) K) n
     pub agree : Agree (target s) (value (m .values)) (value (n .values))
 
   others-forget : (K : List Bounds) (v w : ℕ → ℕ) (x a : ℕ) → Assigned v w x a → (r l u : ℕ) → r ≢ x → BoundsHold l u (known K r) v → BoundsHold l u (effectOn (Forget x) K r) w
@@ -90,7 +91,14 @@ module _ (T : List ℤ) (h : Sections) (E : Environment) (D : List ℕ) (room : 
   unfolding boundsRules.effectOn
   others-object K v w x k a is r l u n b = rw (ne-eqb r x n) (forget-holds v w x (is .except) l u (known K r) b)
 
-  module _ (F : FactSet) (K : List Bounds) (m : Memory) (g : Good h E D room F K m) where
+  module _ (W : State FactSet) (K : List Bounds) (m : Memory) (g : Good h E D room W K m) where
+    abbrev F : FactSet
+    F = W .facts
+
+    -- What a statement that keeps the rows in force leaves.
+    abbrev pub GoodAfter : FactSet → List Bounds → Memory → Type 0
+    GoodAfter G L n = Good h E D room (record { facts = G; rows = W .rows }) L n
+
     abbrev v : ℕ → ℕ
     v = value (m .values)
 
@@ -105,12 +113,12 @@ module _ (T : List ℤ) (h : Sections) (E : Environment) (D : List ℕ) (room : 
 
       integer-good : (G : FactSet) (e : Effect) → (Assigned v w x a → Holds G w)
           → (Assigned v w x a → (r l u : ℕ) → r ≢ x → BoundsHold l u (known K r) v → BoundsHold l u (effectOn e K r) w)
-          → Good h E D room G (boundsAfter e K) (integerSet m x a)
+          → GoodAfter G (boundsAfter e K) (integerSet m x a)
       integer-good G e facts others =
-          set-good T h E D room S F G K e m x a (m .origins) g (i .below) small (g .steady .origins-long) (λ r n. refl) facts others
+          set-good T h E D room S W G K e m x a (m .origins) g (i .below) small (g .steady .origins-long) (λ r n. refl) facts others
           (λ is t. absurd (false≢true (sym (S .declares .integer x i) ∙ t)))
 
-      pub integer-dropped : Good h E D room (dropped F x) (boundsAfter (Forget x) K) (integerSet m x a)
+      pub integer-dropped : GoodAfter (dropped F x) (boundsAfter (Forget x) K) (integerSet m x a)
       integer-dropped =
           integer-good (dropped F x) (Forget x) (λ is. dropped-holds F v w (g .steady .range) (is .range) (g .facts) x (variable-small x (i .below)) (is .except))
           (others-forget K v w x a)
@@ -118,7 +126,7 @@ module _ (T : List ℤ) (h : Sections) (E : Environment) (D : List ℕ) (room : 
       pub integer-agree : Agree (x ∷ []) v w
       integer-agree z n = getD-set-other (m .values) x z a 0 (among-one z x n)
 
-    pub literal-left : (x k : ℕ) → IsInteger T h x → k ≤ maxValue → Good h E D room (ranged F x k k) (boundsAfter (Forget x) K) (integerSet m x k)
+    pub literal-left : (x k : ℕ) → IsInteger T h x → k ≤ maxValue → GoodAfter (ranged F x k k) (boundsAfter (Forget x) K) (integerSet m x k)
     literal-left x k i l =
         integer-good x k i l (ranged F x k k) (Forget x)
         (λ is. ranged-holds F v (valuesSet m x k) (g .steady .range) (is .range) (g .facts) x (variable-small x (i .below)) (is .except) k k (omega (arith, is .value-is)) (omega (arith, is .value-is)))
@@ -129,13 +137,13 @@ module _ (T : List ℤ) (h : Sections) (E : Environment) (D : List ℕ) (room : 
       sum = (v y + k) % 2 ^ 32
 
       pub sum-left : (f s : Bool) → inRange F y k ≡ f → eqb x y ≡ s
-          → Good h E D room (sumFacts f s F x y k) (boundsAfter (cond (f && s) (Shift x k) (Forget x)) K) (integerSet m x sum)
+          → GoodAfter (sumFacts f s F x y k) (boundsAfter (cond (f && s) (Shift x k) (Forget x)) K) (integerSet m x sum)
       unfolding factRules.sumFacts
       sum-left false s p q = integer-dropped x sum i (remainder-small (v y + k))
       sum-left true s p q = in-range s q (sum-in-range F v (g .steady .range) (g .facts) y k (omega (arith, variable-small y (j .below))) p)
         where
           in-range : (s : Bool) → eqb x y ≡ s → (bias ≤ v y + k) × (v y + k ≤ bias + maxValue)
-              → Good h E D room (cond s (shifted F x k) (equated (dropped F x) x y k)) (boundsAfter (cond s (Shift x k) (Forget x)) K) (integerSet m x sum)
+              → GoodAfter (cond s (shifted F x k) (equated (dropped F x) x y k)) (boundsAfter (cond s (Shift x k) (Forget x)) K) (integerSet m x sum)
           in-range true q r =
               let same : v x ≡ v y = ap v (eqb-true x y q) in
               let raised : sum + bias ≡ v x + k = omega (arith, remainder-same (v y + k) (r .0) (r .1)) in
@@ -157,9 +165,9 @@ module _ (T : List ℤ) (h : Sections) (E : Environment) (D : List ℕ) (room : 
       pointer-good : (G : FactSet) (e : Effect) → (Assigned v (valuesSet m p a) p a → Holds G (valuesSet m p a))
           → (Assigned v (valuesSet m p a) p a → (r l u : ℕ) → r ≢ p → BoundsHold l u (known K r) v → BoundsHold l u (effectOn e K r) (valuesSet m p a))
           → (Assigned v (valuesSet m p a) p a → getD (set (m .origins) p o) p 0 ≡ o → TrueOf D (h .objects) (pointerSet m p a o) p (effectOn e K p))
-          → Good h E D room G (boundsAfter e K) (pointerSet m p a o)
+          → GoodAfter G (boundsAfter e K) (pointerSet m p a o)
       pointer-good G e facts others own =
-          set-good T h E D room S F G K e m p a (set (m .origins) p o) g (i .below) small (length-set (m .origins) p o ∙ g .steady .origins-long)
+          set-good T h E D room S W G K e m p a (set (m .origins) p o) g (i .below) small (length-set (m .origins) p o ∙ g .steady .origins-long)
           (λ r n. getD-set-other (m .origins) p r o 0 n) facts others
           (λ is t. own is (getD-set-same (m .origins) p o 0 (omega (arith, i .below, g .steady .origins-long))))
 
@@ -171,12 +179,12 @@ module _ (T : List ℤ) (h : Sections) (E : Environment) (D : List ℕ) (room : 
       ranged-fact bottom top l u is =
           ranged-holds F v (valuesSet m p a) (g .steady .range) (is .range) (g .facts) p (variable-small p (i .below)) (is .except) bottom top (omega (arith, is .value-is)) (omega (arith, is .value-is))
 
-    pub null-left : (p : ℕ) → IsPointer T h p → Good h E D room (ranged F p 0 0) (boundsAfter (Forget p) K) (pointerSet m p 0 0)
+    pub null-left : (p : ℕ) → IsPointer T h p → GoodAfter (ranged F p 0 0) (boundsAfter (Forget p) K) (pointerSet m p 0 0)
     null-left p i =
         pointer-good p 0 0 i (omega arith) (ranged F p 0 0) (Forget p) (ranged-fact p 0 0 i (omega arith) 0 0 (omega arith) (omega arith))
         (others-forget K v (valuesSet m p 0) p 0) (λ is e. inl (is .value-is))
 
-    pub address-left : (p o : ℕ) → IsPointer T h p → o < h .objects → Good h E D room (ranged F p 1 maxValue) (boundsAfter (Object p (objectLength E o)) K) (pointerSet m p (low D o) (o + 1))
+    pub address-left : (p o : ℕ) → IsPointer T h p → o < h .objects → GoodAfter (ranged F p 1 maxValue) (boundsAfter (Object p (objectLength E o)) K) (pointerSet m p (low D o) (o + 1))
     unfolding boundsRules.effectOn
     address-left p o i l =
         let placed = S .placed o l in
@@ -210,21 +218,21 @@ module _ (T : List ℤ) (h : Sections) (E : Environment) (D : List ℕ) (room : 
       derived-own b is e k = carry D (h .objects) m (derivedSet m p q a) q p (known K q) b (g .bounds q (S .declares .pointer q j)) (λ z. is .value-is ∙ null z) e k
 
       copy-good : (G : FactSet) → (Assigned v (valuesSet m p a) p a → Holds G (valuesSet m p a))
-          → Good h E D room G (boundsAfter (Copy p q) K) (derivedSet m p q a)
+          → GoodAfter G (boundsAfter (Copy p q) K) (derivedSet m p q a)
       unfolding boundsRules.effectOn
       copy-good G facts =
           pointer-good p a (getD (m .origins) q 0) i small G (Copy p q) facts (others-copy K v (valuesSet m p a) p q a)
           (λ is e. derived-own _ is e (λ l u b. rw (eq-eqb p p refl) (forget-holds v (valuesSet m p a) p (is .except) l u (known K q) b)))
 
       forget-good : (G : FactSet) → p ≡ q → (Assigned v (valuesSet m p a) p a → Holds G (valuesSet m p a))
-          → Good h E D room G (boundsAfter (Forget p) K) (derivedSet m p q a)
+          → GoodAfter G (boundsAfter (Forget p) K) (derivedSet m p q a)
       unfolding boundsRules.effectOn
       forget-good G s facts =
           pointer-good p a (getD (m .origins) q 0) i small G (Forget p) facts (others-forget K v (valuesSet m p a) p a)
           (λ is e. derived-own _ is e (λ l u b. forget-holds v (valuesSet m p a) p (is .except) l u (known K p) (rw s b)))
 
       shift-good : (k : ℕ) (G : FactSet) → p ≡ q → a + bias ≡ v q + k → (Assigned v (valuesSet m p a) p a → Holds G (valuesSet m p a))
-          → Good h E D room G (boundsAfter (Shift p k) K) (derivedSet m p q a)
+          → GoodAfter G (boundsAfter (Shift p k) K) (derivedSet m p q a)
       unfolding boundsRules.effectOn
       shift-good k G s r facts =
           let same : v p ≡ v q = ap v s in
@@ -233,7 +241,7 @@ module _ (T : List ℤ) (h : Sections) (E : Environment) (D : List ℕ) (room : 
           (λ is e.
           derived-own _ is e (λ l u b. shift-holds v (valuesSet m p a) p (is .except) k (omega (arith, is .value-is)) l u (known K p) (rw s b)))
 
-      pub index-left : 1 ≤ a → (s : Bool) → eqb p q ≡ s → Good h E D room (ranged F p 1 maxValue) (boundsAfter (cond s (Forget p) (Copy p q)) K) (derivedSet m p q a)
+      pub index-left : 1 ≤ a → (s : Bool) → eqb p q ≡ s → GoodAfter (ranged F p 1 maxValue) (boundsAfter (cond s (Forget p) (Copy p q)) K) (derivedSet m p q a)
       index-left l true e = forget-good (ranged F p 1 maxValue) (eqb-true p q e) (ranged-fact p a (getD (m .origins) q 0) i small 1 maxValue l small)
       index-left l false e = copy-good (ranged F p 1 maxValue) (ranged-fact p a (getD (m .origins) q 0) i small 1 maxValue l small)
 
@@ -253,6 +261,6 @@ module _ (T : List ℤ) (h : Sections) (E : Environment) (D : List ℕ) (room : 
         offset-facts s false e d is =
             positive-holds (cond s (shifted F p k) (equated (dropped F p) p q k)) (valuesSet m p a) (is .range) (moved-facts s e is) p (omega (arith, is .value-is, some d))
 
-        pub offset-left : (s z : Bool) → eqb p q ≡ s → eqb k bias ≡ z → Good h E D room (offsetFacts s z F p q k) (boundsAfter (cond s (Shift p k) (Copy p q)) K) (derivedSet m p q a)
+        pub offset-left : (s z : Bool) → eqb p q ≡ s → eqb k bias ≡ z → GoodAfter (offsetFacts s z F p q k) (boundsAfter (cond s (Shift p k) (Copy p q)) K) (derivedSet m p q a)
         offset-left true z e d = shift-good k (offsetFacts true z F p q k) (eqb-true p q e) moved (offset-facts true z e d)
         offset-left false z e d = copy-good (offsetFacts false z F p q k) (offset-facts false z e d)

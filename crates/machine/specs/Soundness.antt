@@ -9,7 +9,7 @@ use lib.ListN.{length, getD}
 use Rattle.sums.specs.Numbers.{bias, maxValue}
 use Rattle.sections.specs.declared.Sections.{Sections}
 use Rattle.blocks.specs.Tree.{tree}
-use Rattle.rules.specs.BoundsRules.{isPointer, objectLength}
+use Rattle.rules.specs.BoundsRules.{isPointer, objectLength, inForce}
 use Rattle.rules.specs.declared.Environment.{Environment}
 use Rattle.machine.specs.Machine.{low, high, boundsTrue, inOrigin, stuck, Point}
 use Rattle.machine.specs.Points.{inBundle, Access, no-access, access, accessFrom}
@@ -52,7 +52,7 @@ pub record Sound (T : List ℤ) (h : Sections) (E : Environment) (D : List ℕ) 
   -- The machine is not without a step: no access that the checks let pass is outside its pointer's origin object.
   pub has-step : P .status ≢ stuck
   -- Outside bundles the declared bounds of every pointer are true; also where nothing is due, and where a check has stopped the run.
-  pub bounds : inBundle (tree T h) (P .due) ≡ false → (p : ℕ) → isPointer E p ≡ true → boundsTrue E D (P .values) (P .origins) p ≡ true
+  pub bounds : inBundle (tree T h) (P .due) ≡ false → (p : ℕ) → isPointer E p ≡ true → boundsTrue (inForce E (P .rows)) D (P .values) (P .origins) p ≡ true
   -- The access that the step from here performs is inside the origin object of its pointer, and at a cell of the memory.
   pub access-allowed : AccessAllowed D (length (P .cells)) (accessFrom T h E (P .status) P)
   -- The statement due is one of the table, or the number past the last.
@@ -60,5 +60,6 @@ pub record Sound (T : List ℤ) (h : Sections) (E : Environment) (D : List ℕ) 
   pub cells-long : length (P .cells) ≡ room
   pub values-long : length (P .values) ≡ h .variables
   pub origins-long : length (P .origins) ≡ h .variables
+  pub rows-long : length (P .rows) ≡ 16
   pub cells-small : (i : ℕ) → getD (P .cells) i 0 ≤ maxValue
   pub values-small : (x : ℕ) → getD (P .values) x 0 ≤ maxValue

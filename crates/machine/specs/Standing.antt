@@ -21,8 +21,10 @@ use Rattle.statements.specs.declared.StatementRead.the-variants.{Read}
 use Rattle.blocks.specs.Tree.{Block, nil, plain, branch, loop, bundle, unread}
 use Rattle.flow.specs.Flow.{Successors, entry}
 use Rattle.flow.specs.Shape.{size}
-use Rattle.rules.specs.Stored.{factsAfter, conditionFacts, effect, accessShown, bundleFacts, bundleFaults, sidesJoined, blockFacts, blockFaults, boundsAfter}
+use Rattle.rules.specs.States.{State}
+use Rattle.rules.specs.Stored.{effect, bundleFaults, sidesJoined, blockFaults, boundsAfter, stateAfter, assumed, accessIn, declaredIn, bundleAfter, blockAfter}
 use Rattle.rules.specs.FactsTrue.{neither}
+use Rattle.rules.specs.BoundsRules.{inForce}
 use Rattle.rules.specs.RuleLaws.{no-first, no-rest, access-passed}
 use Rattle.rules.specs.declared.Bounds.{Bounds}
 use Rattle.rules.specs.declared.Environment.{Environment}
@@ -31,29 +33,29 @@ use Rattle.machine.specs.Points.{inBundle}
 use Rattle.machine.specs.Good.{Setting, Good}
 use Rattle.machine.specs.AccessSound.{Ready}
 use Rattle.machine.specs.BlockSound.{ready-inside, ready-outside}
-use Rattle.machine.specs.Places.{LinkedLine, Linked, AtLine, headFacts, At}
+use Rattle.machine.specs.Places.{LinkedLine, Linked, AtLine, At, headState}
 use Rattle.rules.specs.Rules as walkRules
 
 module _ (T : List ℤ) (h : Sections) (E : Environment) (D : List ℕ) (room : ℕ) where
   pub record Standing (b : Block) (d : ℕ) (m : Memory) : Type 0 where
-    pub facts : FactSet
+    pub state : State FactSet
     pub bounds : List Bounds
-    pub good : Good h E D room facts bounds m
+    pub good : Good h E D room state bounds m
     pub within : d < h .statements
-    pub ready : (s : Simple) → statementAt T h d ≡ Read (Plain s) → Ready E D (h .objects) s m
-    pub declared : inBundle b d ≡ false → Good h E D room facts (E .declared) m
+    pub ready : (s : Simple) → statementAt T h d ≡ Read (Plain s) → Ready (inForce E (m .rows)) D (h .objects) s m
+    pub declared : inBundle b d ≡ false → Good h E D room state (declaredIn E state) m
 
   -- From a part of a block to the block.
   widened : (b c : Block) (d : ℕ) (m : Memory) → (inBundle c d ≡ false → inBundle b d ≡ false) → Standing b d m → Standing c d m
-  widened b c d m k s = record { facts = s .facts; bounds = s .bounds; good = s .good; within = s .within; ready = s .ready; declared = λ e. s .declared (k e) }
+  widened b c d m k s = record { state = s .state; bounds = s .bounds; good = s .good; within = s .within; ready = s .ready; declared = λ e. s .declared (k e) }
 
   module _ (S : Setting T h E D room) (f : ℕ → Successors) where
     -- Outside a bundle.
-    standing-here : (b : Block) (a d : ℕ) (s : Statement) (F : FactSet) (m : Memory) → statementAt T h a ≡ Read s → d ≡ a → Good h E D room F (E .declared) m → Standing b d m
+    standing-here : (b : Block) (a d : ℕ) (s : Statement) (F : State FactSet) (m : Memory) → statementAt T h a ≡ Read s → d ≡ a → Good h E D room F (declaredIn E F) m → Standing b d m
     standing-here b a d s F m r e g =
         record {
-          facts = F;
-          bounds = E .declared;
+          state = F;
+          bounds = declaredIn E F;
           good = g;
           within = omega (arith, read-within T h a s r);
           ready = λ q u. ready-outside T h E D room S q F m (read-typed T h d (Plain q) u) g;
@@ -61,24 +63,24 @@ module _ (T : List ℤ) (h : Sections) (E : Environment) (D : List ℕ) (room : 
         }
 
     pub record StandingLine (a n d : ℕ) (m : Memory) : Type 0 where
-      pub facts : FactSet
+      pub state : State FactSet
       pub bounds : List Bounds
-      pub good : Good h E D room facts bounds m
+      pub good : Good h E D room state bounds m
       pub within : d < h .statements
-      pub ready : (s : Simple) → statementAt T h d ≡ Read (Plain s) → Ready E D (h .objects) s m
+      pub ready : (s : Simple) → statementAt T h d ≡ Read (Plain s) → Ready (inForce E (m .rows)) D (h .objects) s m
       pub first : a ≤ d
       pub last : d < a + n
 
-    standing-line : (a : ℕ) (ss : List Simple) (F : FactSet) (K : List Bounds) (after d : ℕ) (m : Memory) → LinkedLine T h f a ss after → bundleFaults E a ss F K ≡ []
+    standing-line : (a : ℕ) (ss : List Simple) (F : State FactSet) (K : List Bounds) (after d : ℕ) (m : Memory) → LinkedLine T h f a ss after → bundleFaults E a ss F K ≡ []
         → AtLine T h E D room a ss F K d m → StandingLine a (length ss) d m
     unfolding walkRules.bundleFaults
     standing-line a [] F K after d m l q i = absurd i
     standing-line a (s ∷ ss) F K after d m l q (inl i) =
         let e = i .0 in
-        let shown = access-passed (accessShown E F K s) a (no-first _ _ q) in
+        let shown = access-passed (accessIn E F K s) a (no-first _ _ q) in
         let read : statementAt T h d ≡ Read (Plain s) = ap (statementAt T h) e ∙ l .0 in
         record {
-          facts = F;
+          state = F;
           bounds = K;
           good = i .1;
           within = omega (arith, read-within T h a (Plain s) (l .0));
@@ -87,15 +89,15 @@ module _ (T : List ℤ) (h : Sections) (E : Environment) (D : List ℕ) (room : 
           last = omega arith;
         }
     standing-line a (s ∷ ss) F K after d m l q (inr i) =
-        let w = standing-line (a + 1) ss (factsAfter s F) (boundsAfter (effect E F s) K) after d m (l .2) (no-rest _ _ q) i in
-        record { facts = w .facts; bounds = w .bounds; good = w .good; within = w .within; ready = w .ready; first = omega (arith, w .first); last = omega (arith, w .last) }
+        let w = standing-line (a + 1) ss (stateAfter s F) (boundsAfter (effect E (F .facts) s) K) after d m (l .2) (no-rest _ _ (no-rest _ _ q)) i in
+        record { state = w .state; bounds = w .bounds; good = w .good; within = w .within; ready = w .ready; first = omega (arith, w .first); last = omega (arith, w .last) }
 
     -- Inside a bundle.
     standing-inside : (a : ℕ) (ss : List Simple) (r : Block) (d : ℕ) (m : Memory) → StandingLine (a + 1) (length ss) d m → Standing (bundle a ss r) d m
     unfolding inBundle
     standing-inside a ss r d m w =
         record {
-          facts = w .facts;
+          state = w .state;
           bounds = w .bounds;
           good = w .good;
           within = w .within;
@@ -106,34 +108,34 @@ module _ (T : List ℤ) (h : Sections) (E : Environment) (D : List ℕ) (room : 
               absurd (false≢true (sym t));
         }
 
-    pub standing : (b : Block) (F : FactSet) (after d : ℕ) (m : Memory) → Linked T h f b after → blockFaults T h E b F ≡ [] → At T h E D room b F d m → Standing b d m
+    pub standing : (b : Block) (F : State FactSet) (after d : ℕ) (m : Memory) → Linked T h f b after → blockFaults T h E b F ≡ [] → At T h E D room b F d m → Standing b d m
     unfolding walkRules.blockFaults inBundle
     standing nil F after d m l q i = absurd i
     standing (plain a s r) F after d m l q (inl i) = standing-here (plain a s r) a d (Plain s) F m (l .0) (i .0) (i .1)
-    standing (plain a s r) F after d m l q (inr i) = widened r (plain a s r) d m (λ e. e) (standing r (factsAfter s F) after d m (l .2) (no-rest _ _ q) i)
+    standing (plain a s r) F after d m l q (inr i) = widened r (plain a s r) d m (λ e. e) (standing r (stateAfter s F) after d m (l .2) (no-rest _ _ (no-rest _ _ q)) i)
     standing (branch a c t e r) F after d m l q (inl i) = standing-here (branch a c t e r) a d (If c (size t) (size e)) F m (l .0) (i .0) (i .1)
     standing (branch a c t e r) F after d m l q (inr (inl i)) =
         widened t (branch a c t e r) d m (λ u. neither (inBundle t d) (inBundle e d || inBundle r d) u .0)
-        (standing t (conditionFacts F c) (entry r after) d m (l .2) (no-first _ _ q) i)
+        (standing t (assumed F c) (entry r after) d m (l .2) (no-first _ _ q) i)
     standing (branch a c t e r) F after d m l q (inr (inr (inl i))) =
         widened e (branch a c t e r) d m (λ u. neither (inBundle e d) (inBundle r d) (neither (inBundle t d) (inBundle e d || inBundle r d) u .1) .0)
-        (standing e (conditionFacts F (negatedOf c)) (entry r after) d m (l .3) (no-first _ _ (no-rest _ _ q)) i)
+        (standing e (assumed F (negatedOf c)) (entry r after) d m (l .3) (no-first _ _ (no-rest _ _ q)) i)
     standing (branch a c t e r) F after d m l q (inr (inr (inr i))) =
         widened r (branch a c t e r) d m (λ u. neither (inBundle e d) (inBundle r d) (neither (inBundle t d) (inBundle e d || inBundle r d) u .1) .1)
-        (standing r (sidesJoined T h E (blockFacts T h E t (conditionFacts F c)) (blockFacts T h E e (conditionFacts F (negatedOf c)))) after d m (l .4)
-        (no-rest _ _ (no-rest _ _ q)) i)
+        (standing r (sidesJoined T h E (blockAfter T h E t (assumed F c)) (blockAfter T h E e (assumed F (negatedOf c)))) after d m (l .4)
+        (no-rest _ _ (no-rest _ _ (no-rest _ _ q))) i)
     standing (loop a c k t r) F after d m l q (inl (w, inl i)) =
-        standing-here (loop a c k t r) a d (While c (size t)) (headFacts T h E D room a k F) m (l .0) (i .0) (i .1)
+        standing-here (loop a c k t r) a d (While c (size t)) (headState T h E D room a k F) m (l .0) (i .0) (i .1)
     standing (loop a c k t r) F after d m l q (inl (w, inr i)) =
         widened t (loop a c k t r) d m (λ u. neither (inBundle t d) (inBundle r d) u .0)
-        (standing t (conditionFacts (headFacts T h E D room a k F) c) a d m (l .3) (no-first _ _ q) i)
+        (standing t (assumed (headState T h E D room a k F) c) a d m (l .3) (no-first _ _ q) i)
     standing (loop a c k t r) F after d m l q (inr i) =
         widened r (loop a c k t r) d m (λ u. neither (inBundle t d) (inBundle r d) u .1)
-        (standing r (conditionFacts (headFacts T h E D room a k F) (negatedOf c)) after d m (l .4) (no-rest _ _ q) i)
+        (standing r (assumed (headState T h E D room a k F) (negatedOf c)) after d m (l .4) (no-rest _ _ (no-rest _ _ q)) i)
     standing (bundle a ss r) F after d m l q (inl i) = standing-here (bundle a ss r) a d (Bundle (length ss)) F m (l .0) (i .0) (i .1)
     standing (bundle a ss r) F after d m l q (inr (inl i)) =
-        standing-inside a ss r d m (standing-line (a + 1) ss F (E .declared) (entry r after) d m (l .2) (no-first _ _ q) i)
+        standing-inside a ss r d m (standing-line (a + 1) ss F (declaredIn E F) (entry r after) d m (l .2) (no-first _ _ q) i)
     standing (bundle a ss r) F after d m l q (inr (inr i)) =
         widened r (bundle a ss r) d m (λ u. neither (ltb a d && ltb d (a + 1 + length ss)) (inBundle r d) u .1)
-        (standing r (bundleFacts ss F) after d m (l .3) (no-rest _ _ (no-rest _ _ q)) i)
+        (standing r (bundleAfter ss F) after d m (l .3) (no-rest _ _ (no-rest _ _ q)) i)
     standing (unread a) F after d m l q i = absurd l

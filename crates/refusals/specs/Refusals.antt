@@ -1,7 +1,7 @@
 -- The paper's number and place of each refusal.
 use Prim.Native.Nat.{ℕ}
 use Rattle.refusals.specs.declared.Refusal.{Refusal}
-use Rattle.refusals.specs.declared.Refusal.the-variants.{Length, Directory, ObjectLength, VariableRecord, StatementRecord, BlockLayout, BoundsNotShown, BundleAccess, MemorySize, DirectoryPair, EntryLengths, EntryValue}
+use Rattle.refusals.specs.declared.Refusal.the-variants.{Length, Directory, ObjectLength, VariableRecord, StatementRecord, BlockLayout, BoundsNotShown, BundleAccess, MemorySize, DirectoryPair, EntryLengths, EntryValue, RowsDiffer}
 
 -- "Causes of refusal", the column "No." Point 11: "Refusal 7 no longer occurs."
 abbrev pub number : Refusal → ℕ
@@ -17,6 +17,8 @@ number MemorySize = 10
 number (DirectoryPair i) = 10
 number EntryLengths = 11
 number (EntryValue v) = 12
+-- Point 2: "It refuses with 13, at the if or while"
+number (RowsDiffer s) = 13
 
 -- The column "Returned": object, variable, statement, pair, or 0.
 abbrev pub place : Refusal → ℕ
@@ -32,6 +34,7 @@ place MemorySize = 0
 place (DirectoryPair i) = i
 place EntryLengths = 0
 place (EntryValue v) = v
+place (RowsDiffer s) = s
 
 -- Refusal 8 also returns a pointer (point 6: "the lowest-numbered one not shown"); the others return none, for which 0 stands.
 abbrev pub pointer : Refusal → ℕ
@@ -47,3 +50,4 @@ pointer MemorySize = 0
 pointer (DirectoryPair i) = 0
 pointer EntryLengths = 0
 pointer (EntryValue v) = 0
+pointer (RowsDiffer s) = 0

@@ -16,6 +16,7 @@ pub enum Refusal {
     DirectoryPair(usize),
     EntryLengths,
     EntryValue(usize),
+    RowsDiffer(usize),
 }
 
 pub fn refusal_number(r: Refusal) -> u32
@@ -37,6 +38,7 @@ pub fn refusal_number(r: Refusal) -> u32
         Refusal::DirectoryPair(_) => 10,
         Refusal::EntryLengths => 11,
         Refusal::EntryValue(_) => 12,
+        Refusal::RowsDiffer(_) => 13,
     }
 }
 
@@ -59,6 +61,7 @@ pub fn refusal_place(r: Refusal) -> usize
         Refusal::DirectoryPair(i) => i,
         Refusal::EntryLengths => 0,
         Refusal::EntryValue(v) => v,
+        Refusal::RowsDiffer(a) => a,
     }
 }
 
@@ -82,5 +85,6 @@ pub fn refusal_pointer(r: Refusal) -> usize
         Refusal::DirectoryPair(_) => 0,
         Refusal::EntryLengths => 0,
         Refusal::EntryValue(_) => 0,
+        Refusal::RowsDiffer(_) => 0,
     }
 }

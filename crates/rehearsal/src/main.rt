@@ -55,7 +55,7 @@ fn show_rows(cells: &[u32])
 }
 
 fn first_club() {
-    let mut table = [0i32; 7318];
+    let mut table = [0i32; 7704];
     let count = read_routine(b"first_club", &mut table);
     let mut cells = [0u32; 13];
     cells[OTHER_ROW] = 201;
@@ -73,7 +73,7 @@ fn first_club() {
 }
 
 fn second_club() {
-    let mut table = [0i32; 7318];
+    let mut table = [0i32; 7704];
     let count = read_routine(b"second_club", &mut table);
     let mut cells = [0, 101, 102, 103, 104, 201, 0, 0, 0, 0, 0, 0, 0];
     let mut values = [FIRST_ROW, ROWS, 105];

@@ -4,7 +4,6 @@ use mathlib.Core.Path.{_≡_, refl}
 use mathlib.Core.List.{List, [], _∷_}
 use native.Mathlib.Omega.{arith}
 use lib.IntN.{ℤ}
-use Rattle.facts.specs.Store.{newSet}
 use Rattle.refusals.specs.declared.Refusal.{Refusal}
 use Rattle.sections.specs.declared.Sections.{Sections}
 use Rattle.table.specs.Form.{formOf}
@@ -12,7 +11,7 @@ use Rattle.table.specs.declared.Form.{Form}
 use Rattle.table.specs.declared.Form.the-variants as form
 use Rattle.blocks.specs.Tree.{tree}
 use Rattle.blocks.specs.Layout.{layout}
-use Rattle.rules.specs.Stored.{blockFaults, sectionFaults, formFaults, faults}
+use Rattle.rules.specs.Stored.{blockFaults, sectionFaults, formFaults, faults, newState}
 use Rattle.rules.specs.Verdict.{environmentOf, verdictOf}
 use Rattle.rules.specs.RuleLaws.{no-first, no-rest}
 use Rattle.rules.specs.declared.Verdict.{Verdict}
@@ -28,7 +27,7 @@ accepted-clear (r ∷ xs) a e = cc
 pub record Clear (T : List ℤ) (h : Sections) : Type 0 where
   pub form : formOf T ≡ form.WellFormed h
   pub laid : layout T h ≡ []
-  pub walked : blockFaults T h (environmentOf T h) (tree T h) newSet ≡ []
+  pub walked : blockFaults T h (environmentOf T h) (tree T h) newState ≡ []
 
 -- A table without a fault is well formed and laid out, and its walk has no fault.
 pub clear : (T : List ℤ) (h : Sections) → formOf T ≡ form.WellFormed h → faults T ≡ [] → Clear T h

@@ -22,7 +22,7 @@ use Rattle.conditions.specs.declared.Condition.{Condition}
 use Rattle.statements.specs.StatementLaws.{read-typed}
 use Rattle.statements.specs.Typed.{SimpleTyped}
 use Rattle.statements.specs.declared.Simple.{Simple}
-use Rattle.statements.specs.declared.Simple.the-variants.{Literal, AddConstant, Arithmetic, Null, Address, PointerOffset, PointerIndex, Load, Store, Check}
+use Rattle.statements.specs.declared.Simple.the-variants.{Literal, AddConstant, Arithmetic, Null, Address, PointerOffset, PointerIndex, Load, Store, Check, Declare}
 use Rattle.statements.specs.declared.Statement.the-variants.{Plain, If, While}
 use Rattle.table.specs.Form.{formOf}
 use Rattle.table.specs.FormLaws.{Formed, well-formed}
@@ -32,16 +32,17 @@ use Rattle.blocks.specs.Layout.{also, layout}
 use Rattle.blocks.specs.Tree.{Block, nil, plain, branch, loop, bundle, unread, tree}
 use Rattle.flow.specs.Shape.{size, ReadsLine, Reads, Formed as Shaped}
 use Rattle.flow.specs.ShapeLaws.{table-laid}
-use Rattle.rules.specs.FactRules.{factsAfter, conditionFacts}
-use Rattle.rules.specs.BoundsRules.{isPointer, declared, known, names, consIf, shiftEnd, shiftBounds, effectOn, boundsAfter, effect, endAtMost, knownAtMost, boundsShown, unshownFrom, unshown, accessShown}
-use Rattle.rules.specs.Rules.{accessAt, boundsAt, bundleFacts, bundleBounds, bundleFaults, blockFacts, blockFaults}
+use Rattle.rules.specs.States.{State}
+use Rattle.rules.specs.BoundsRules.{isPointer, declared, known, names, consIf, shiftEnd, shiftBounds, effectOn, boundsAfter, effect, endAtMost, knownAtMost, boundsShown, unshownFrom, unshown, accessShown, rowBound, inForce, rowUnshown}
+use Rattle.rules.specs.Rules.{accessAt, boundsAt, bundleBounds, bundleFaults, blockFaults, rowsAt, stateAfter, assumed, unshownIn, accessIn, declaredIn, bundleAfter, blockAfter}
 use Rattle.rules.specs.Verdict.{environmentOf, sectionFaults, formFaults, faults, verdictOf}
 use Rattle.rules.specs.RuleLaws.{no-first, no-rest}
 use Rattle.rules.specs.EnvironmentLaws.{environment-declares}
 use Rattle.rules.specs.Stored.{store}
 use Rattle.rules.specs.ByChains.{Decider, Decides, byChains, variables, DecidesTable}
-use Rattle.rules.specs.Representation.{Represents, represents-new, represents-join, shown-represented, end-represented, range-represented, condition-represented, negated-represented, after-represented, body-represented}
-use Rattle.rules.specs.Fair.{FairKnown, FairBounds, FairAll, FairEffect, later, constant-moved, after-fair, declared-fair, statement-fair}
+use Rattle.rules.specs.Representation.{Represents, shown-represented, end-represented, range-represented}
+use Rattle.rules.specs.StateRepresentation.{StateRepresents, new-represented, meets, state-after, state-assumed, state-negated, state-at-head}
+use Rattle.rules.specs.Fair.{FairKnown, FairBounds, FairAll, FairEffect, later, constant-moved, after-fair, declared-fair, statement-fair, number-fair}
 use Rattle.rules.specs.declared.KnownEnd.{KnownEnd}
 use Rattle.rules.specs.declared.KnownEnd.the-variants.{Known, Unknown}
 use Rattle.rules.specs.declared.Bounds.{Bounds}
@@ -127,24 +128,26 @@ module _ (T : List ℤ) (h : Sections) (w : Formed T h) (q : Decider) (right : D
     bounds-agree n p k d l i a b =
         three (shown-represented vars q right t p zeroVar bias (inr i) (inl refl)) (known-agrees n (k .lower) (d .lower) l (a .lower) (b .lower)) (known-agrees n (d .upper) (k .upper) l (b .upper) (a .upper))
 
-    declared-agree : (n p : ℕ) (K : List Bounds) → n ≤ 16 → p < h .variables → FairAll vars n K
-        → boundsShown store f p (known K p) (declared E p) ≡ boundsShown (byChains q) H p (known K p) (declared E p)
-    declared-agree n p K l i a = bounds-agree n p (known K p) (declared E p) l i (a p) (later vars 0 n (declared E p) (omega arith) (declared-fair T h w p))
+    -- The row of a kind 14.
+    number-agrees : (n p m : ℕ) (K : List Bounds) → n ≤ 16 → p < h .variables → FairAll vars n K
+        → boundsShown store f p (known K p) (rowBound E m p) ≡ boundsShown (byChains q) H p (known K p) (rowBound E m p)
+    number-agrees n p m K l i a = bounds-agree n p (known K p) (rowBound E m p) l i (a p) (later vars 0 n (rowBound E m p) (omega arith) (number-fair T h w m p))
 
-    unshown-from : (n m p : ℕ) (K : List Bounds) → n ≤ 16 → FairAll vars n K → unshownFrom store E f K m p ≡ unshownFrom (byChains q) E H K m p
+    -- What is declared, with the rows R in force.
+    declared-agree : (R : List ℕ) (n p : ℕ) (K : List Bounds) → n ≤ 16 → p < h .variables → FairAll vars n K
+        → boundsShown store f p (known K p) (declared (inForce E R) p) ≡ boundsShown (byChains q) H p (known K p) (declared (inForce E R) p)
+    declared-agree R n p K l i a = bounds-agree n p (known K p) (declared (inForce E R) p) l i (a p) (later vars 0 n (declared (inForce E R) p) (omega arith) (declared-fair T h w R p))
+
+    unshown-from : (R : List ℕ) (n m p : ℕ) (K : List Bounds) → n ≤ 16 → FairAll vars n K → unshownFrom store (inForce E R) f K m p ≡ unshownFrom (byChains q) (inForce E R) H K m p
     unfolding unshownFrom
-    unshown-from n zero p K l a = refl
-    unshown-from n (suc m) p K l a = go (isPointer E p) refl (unshown-from n m (p + 1) K l a)
+    unshown-from R n zero p K l a = refl
+    unshown-from R n (suc m) p K l a = go (isPointer E p) refl (unshown-from R n m (p + 1) K l a)
       where
-        go : (b : Bool) → isPointer E p ≡ b → unshownFrom store E f K m (p + 1) ≡ unshownFrom (byChains q) E H K m (p + 1)
-            → consIf (b && not (boundsShown store f p (known K p) (declared E p))) p (unshownFrom store E f K m (p + 1))
-            ≡ consIf (b && not (boundsShown (byChains q) H p (known K p) (declared E p))) p (unshownFrom (byChains q) E H K m (p + 1))
-        go true e i = ap₂ (λ (x : Bool) (xs : List ℕ). consIf (not x) p xs) (declared-agree n p K l (environment-declares T h w .below p e) a) i
+        go : (b : Bool) → isPointer E p ≡ b → unshownFrom store (inForce E R) f K m (p + 1) ≡ unshownFrom (byChains q) (inForce E R) H K m (p + 1)
+            → consIf (b && not (boundsShown store f p (known K p) (declared (inForce E R) p))) p (unshownFrom store (inForce E R) f K m (p + 1))
+            ≡ consIf (b && not (boundsShown (byChains q) H p (known K p) (declared (inForce E R) p))) p (unshownFrom (byChains q) (inForce E R) H K m (p + 1))
+        go true e i = ap₂ (λ (x : Bool) (xs : List ℕ). consIf (not x) p xs) (declared-agree R n p K l (environment-declares T h w .below p e) a) i
         go false e i = i
-
-    unshown-agrees : (n : ℕ) (K : List Bounds) → n ≤ 16 → FairAll vars n K → unshown store E f K ≡ unshown (byChains q) E H K
-    unfolding unshown
-    unshown-agrees n K l a = unshown-from n 16 0 K l a
 
     effect-agrees : (s : Simple) → SimpleTyped T h s → effect (byChains q) E H s ≡ effect store E f s
     unfolding effect
@@ -158,123 +161,165 @@ module _ (T : List ℤ) (h : Sections) (w : Formed T h) (q : Decider) (right : D
     effect-agrees (Load x p i k) s = refl
     effect-agrees (Store p i k x) s = refl
     effect-agrees (Check c) s = refl
+    effect-agrees (Declare p r) s = refl
 
     after-agrees : (n : ℕ) (K : List Bounds) (s : Simple) → n ≤ 16 → FairAll vars n K → SimpleTyped T h s
         → boundsAfter (byChains q) (effect (byChains q) E H s) K ≡ boundsAfter store (effect store E f s) K
     after-agrees n K s l g y = ap (λ (e : Effect). boundsAfter (byChains q) e K) (effect-agrees s y) ∙ moved-agree n (effect store E f s) K l (statement-fair T h w f s y) g
 
-    access-agrees : (n : ℕ) (K : List Bounds) (s : Simple) → n ≤ 16 → FairAll vars n K → SimpleTyped T h s → accessShown store E f K s ≡ accessShown (byChains q) E H K s
+    access-same : (R : List ℕ) (n : ℕ) (K : List Bounds) (s : Simple) → n ≤ 16 → FairAll vars n K → SimpleTyped T h s
+        → accessShown store (inForce E R) f K s ≡ accessShown (byChains q) (inForce E R) H K s
     unfolding accessShown
-    access-agrees n K (Literal x k) l a s = refl
-    access-agrees n K (AddConstant x y k) l a s = refl
-    access-agrees n K (Arithmetic x y z op) l a s = refl
-    access-agrees n K (Null p) l a s = refl
-    access-agrees n K (Address p o) l a s = refl
-    access-agrees n K (PointerOffset p r k) l a s = refl
-    access-agrees n K (PointerIndex p r i) l a s = refl
-    access-agrees n K (Load x p i k) l a s = declared-agree n p K l (s .pointer .below) a
-    access-agrees n K (Store p i k x) l a s = declared-agree n p K l (s .pointer .below) a
-    access-agrees n K (Check c) l a s = refl
+    access-same R n K (Literal x k) l a s = refl
+    access-same R n K (AddConstant x y k) l a s = refl
+    access-same R n K (Arithmetic x y z op) l a s = refl
+    access-same R n K (Null p) l a s = refl
+    access-same R n K (Address p o) l a s = refl
+    access-same R n K (PointerOffset p r k) l a s = refl
+    access-same R n K (PointerIndex p r i) l a s = refl
+    access-same R n K (Load x p i k) l a s = declared-agree R n p K l (s .pointer .below) a
+    access-same R n K (Store p i k x) l a s = declared-agree R n p K l (s .pointer .below) a
+    access-same R n K (Check c) l a s = refl
+    access-same R n K (Declare p r) l a s = refl
+
+    row-same : (n : ℕ) (K : List Bounds) (s : Simple) → n ≤ 16 → FairAll vars n K → SimpleTyped T h s
+        → rowUnshown store E f K s ≡ rowUnshown (byChains q) E H K s
+    unfolding rowUnshown
+    row-same n K (Literal x k) l a s = refl
+    row-same n K (AddConstant x y k) l a s = refl
+    row-same n K (Arithmetic x y z op) l a s = refl
+    row-same n K (Null p) l a s = refl
+    row-same n K (Address p o) l a s = refl
+    row-same n K (PointerOffset p r k) l a s = refl
+    row-same n K (PointerIndex p r i) l a s = refl
+    row-same n K (Load x p i k) l a s = refl
+    row-same n K (Store p i k x) l a s = refl
+    row-same n K (Check c) l a s = refl
+    row-same n K (Declare p r) l a s = ap (λ (x : Bool). consIf (not x) p []) (number-agrees n p (r + 1) K l (s .pointer .below) a)
+
+  -- ---- what is handed on: a history that tells the facts, and the same rows
+
+  module _ {U : State History} {W : State FactSet} (t : StateRepresents vars U W) where
+    unshown-agrees : (n : ℕ) (K : List Bounds) → n ≤ 16 → FairAll vars n K → unshownIn store E W K ≡ unshownIn (byChains q) E U K
+    unfolding unshown
+    unshown-agrees n K l a = unshown-from (t .represents) (W .rows) n 16 0 K l a ∙ ap (λ (R : List ℕ). unshownFrom (byChains q) (inForce E R) (U .facts) K 16 0) (sym (t .rows))
+
+    access-agrees : (n : ℕ) (K : List Bounds) (s : Simple) → n ≤ 16 → FairAll vars n K → SimpleTyped T h s → accessIn store E W K s ≡ accessIn (byChains q) E U K s
+    access-agrees n K s l a y = access-same (t .represents) (W .rows) n K s l a y ∙ ap (λ (R : List ℕ). accessShown (byChains q) (inForce E R) (U .facts) K s) (sym (t .rows))
+
+    row-agrees : (n : ℕ) (K : List Bounds) (s : Simple) → n ≤ 16 → FairAll vars n K → SimpleTyped T h s → rowUnshown store E (W .facts) K s ≡ rowUnshown (byChains q) E (U .facts) K s
+    row-agrees n K s l a y = row-same (t .represents) n K s l a y
 
   -- ---- a bundle, after n of its statements
 
-  record LineAgrees (n a : ℕ) (ss : List Simple) (H : History) (f : FactSet) (K : List Bounds) : Type 0 where
-    faults : SameFirst (bundleFaults store E a ss f K) (bundleFaults (byChains q) E a ss H K)
-    represents : bundleFaults store E a ss f K ≡ [] → Represents vars (bundleFacts (byChains q) ss H) (bundleFacts store ss f)
-    bounds : bundleFaults store E a ss f K ≡ [] → bundleBounds (byChains q) E ss H K ≡ bundleBounds store E ss f K
-    fair : bundleFaults store E a ss f K ≡ [] → FairAll vars (n + length ss) (bundleBounds store E ss f K)
+  record LineAgrees (n a : ℕ) (ss : List Simple) (U : State History) (W : State FactSet) (K : List Bounds) : Type 0 where
+    faults : SameFirst (bundleFaults store E a ss W K) (bundleFaults (byChains q) E a ss U K)
+    represents : bundleFaults store E a ss W K ≡ [] → StateRepresents vars (bundleAfter (byChains q) ss U) (bundleAfter store ss W)
+    bounds : bundleFaults store E a ss W K ≡ [] → bundleBounds (byChains q) E ss U K ≡ bundleBounds store E ss W K
+    fair : bundleFaults store E a ss W K ≡ [] → FairAll vars (n + length ss) (bundleBounds store E ss W K)
 
-  line-step : (n a : ℕ) (s : Simple) (ss : List Simple) {H : History} {f : FactSet} (K : List Bounds) → n ≤ 16 → SimpleTyped T h s → FairAll vars n K → Represents vars H f
-      → LineAgrees (n + 1) (a + 1) ss (factsAfter (byChains q) s H) (factsAfter store s f) (boundsAfter store (effect store E f s) K)
-      → LineAgrees n a (s ∷ ss) H f K
-  unfolding bundleFaults bundleFacts bundleBounds
-  line-step n a s ss {H} {f} K l y g t rest =
-      let e : boundsAfter (byChains q) (effect (byChains q) E H s) K ≡ boundsAfter store (effect store E f s) K = after-agrees t n K s l g y in
+  line-step : (n a : ℕ) (s : Simple) (ss : List Simple) {U : State History} {W : State FactSet} (K : List Bounds) → n ≤ 16 → SimpleTyped T h s → FairAll vars n K → StateRepresents vars U W
+      → LineAgrees (n + 1) (a + 1) ss (stateAfter (byChains q) s U) (stateAfter store s W) (boundsAfter store (effect store E (W .facts) s) K)
+      → LineAgrees n a (s ∷ ss) U W K
+  unfolding bundleFaults bundleAfter bundleBounds
+  line-step n a s ss {U} {W} K l y g t rest =
+      let e : boundsAfter (byChains q) (effect (byChains q) E (U .facts) s) K ≡ boundsAfter store (effect store E (W .facts) s) K =
+      after-agrees (t .represents) n K s l g y in
       let m : n + suc (length ss) ≡ n + 1 + length ss = omega arith in
       record {
-        faults = same-also _ _ _ _ (same-of _ _ (ap (λ (b : Bool). accessAt b a) (access-agrees t n K s l g y))) (λ u. rw e (rest .faults));
-        represents = λ z. rest .represents (no-rest _ _ z);
-        bounds = λ z. rw e (rest .bounds (no-rest _ _ z));
-        fair = λ z. rw m (rest .fair (no-rest _ _ z));
+        faults = same-also _ _ _ _ (same-of _ _ (ap (λ (b : Bool). accessAt b a) (access-agrees t n K s l g y)))
+            (λ u. same-also _ _ _ _ (same-of _ _ (ap (boundsAt a) (row-agrees t n K s l g y)))
+            (λ o. rw e (rest .faults)));
+        represents = λ z. rest .represents (no-rest _ _ (no-rest _ _ z));
+        bounds = λ z. rw e (rest .bounds (no-rest _ _ (no-rest _ _ z)));
+        fair = λ z. rw m (rest .fair (no-rest _ _ (no-rest _ _ z)));
       }
 
-  line-agrees : (n a : ℕ) (ss : List Simple) {H : History} {f : FactSet} (K : List Bounds) → n + length ss ≤ 16 → ReadsLine T h a ss → FairAll vars n K → Represents vars H f → LineAgrees n a ss H f K
-  unfolding bundleFaults bundleFacts bundleBounds
+  line-agrees : (n a : ℕ) (ss : List Simple) {U : State History} {W : State FactSet} (K : List Bounds) → n + length ss ≤ 16 → ReadsLine T h a ss → FairAll vars n K → StateRepresents vars U W → LineAgrees n a ss U W K
+  unfolding bundleFaults bundleAfter bundleBounds
   line-agrees n a [] K l r g t = let e : n + 0 ≡ n = omega arith in record { faults = tt; represents = λ z. t; bounds = λ z. refl; fair = λ z. rw e g }
-  line-agrees n a (s ∷ ss) {H} {f} K l r g t =
+  line-agrees n a (s ∷ ss) {U} {W} K l r g t =
       let y = read-typed T h a (Plain s) (r .0) in
       line-step n a s ss K (omega arith) y g t
-      (line-agrees (n + 1) (a + 1) ss (boundsAfter store (effect store E f s) K) (omega arith) (r .1)
-      (after-fair vars n (effect store E f s) K (omega arith) (statement-fair T h w f s y) g) (after-represented T h (w .limits) q right t s y))
+      (line-agrees (n + 1) (a + 1) ss (boundsAfter store (effect store E (W .facts) s) K) (omega arith) (r .1)
+      (after-fair vars n (effect store E (W .facts) s) K (omega arith) (statement-fair T h w (W .facts) s y) g) (state-after T h (w .limits) q right t s y))
 
   -- ---- a block
 
-  record BlockAgrees (b : Block) (H : History) (f : FactSet) : Type 0 where
-    faults : SameFirst (blockFaults store T h E b f) (blockFaults (byChains q) T h E b H)
-    represents : blockFaults store T h E b f ≡ [] → Represents vars (blockFacts (byChains q) T h E b H) (blockFacts store T h E b f)
+  record BlockAgrees (b : Block) (U : State History) (W : State FactSet) : Type 0 where
+    faults : SameFirst (blockFaults store T h E b W) (blockFaults (byChains q) T h E b U)
+    represents : blockFaults store T h E b W ≡ [] → StateRepresents vars (blockAfter (byChains q) T h E b U) (blockAfter store T h E b W)
 
   bounds-fault : (a : ℕ) {ps qs : List ℕ} → ps ≡ qs → SameFirst (boundsAt a ps) (boundsAt a qs)
   bounds-fault a {ps} {qs} e = same-of _ _ (ap (boundsAt a) e)
 
-  plain-agrees : (a : ℕ) (s : Simple) (r : Block) {H : History} {f : FactSet} → SimpleTyped T h s → Represents vars H f
-      → BlockAgrees r (factsAfter (byChains q) s H) (factsAfter store s f) → BlockAgrees (plain a s r) H f
-  unfolding blockFaults blockFacts
-  plain-agrees a s r {H} {f} y t rest =
-      let e : boundsAfter (byChains q) (effect (byChains q) E H s) (E .declared) ≡ boundsAfter store (effect store E f s) (E .declared) =
-      after-agrees t 0 (E .declared) s (omega arith) (declared-fair T h w) y in
+  plain-agrees : (a : ℕ) (s : Simple) (r : Block) {U : State History} {W : State FactSet} → SimpleTyped T h s → StateRepresents vars U W
+      → BlockAgrees r (stateAfter (byChains q) s U) (stateAfter store s W) → BlockAgrees (plain a s r) U W
+  unfolding blockFaults blockAfter
+  plain-agrees a s r {U} {W} y t rest =
+      let k : declaredIn (byChains q) E U ≡ declaredIn store E W = ap (λ (R : List ℕ). inForce E R .declared) (t .rows) in
+      let e : boundsAfter (byChains q) (effect (byChains q) E (U .facts) s) (declaredIn store E W) ≡ boundsAfter store (effect store E (W .facts) s) (declaredIn store E W) =
+      after-agrees (t .represents) 0 (declaredIn store E W) s (omega arith) (declared-fair T h w (W .rows)) y in
       record {
-        faults = same-also _ _ _ _
-            (rw e (bounds-fault a (unshown-agrees (after-represented T h (w .limits) q right t s y) 1 _ (omega arith)
-            (after-fair vars 0 (effect store E f s) (E .declared) (omega arith) (statement-fair T h w f s y) (declared-fair T h w)))))
-            (λ u. rest .faults);
-        represents = λ z. rest .represents (no-rest _ _ z);
+        faults = same-also _ _ _ _ (rw k (bounds-fault a (row-agrees t 0 _ s (omega arith) (declared-fair T h w (W .rows)) y)))
+            (λ o. same-also _ _ _ _
+            (rw (k, e) (bounds-fault a (unshown-agrees (state-after T h (w .limits) q right t s y) 1 _ (omega arith)
+            (after-fair vars 0 (effect store E (W .facts) s) (declaredIn store E W) (omega arith) (statement-fair T h w (W .facts) s y) (declared-fair T h w (W .rows))))))
+            (λ u. rest .faults));
+        represents = λ z. rest .represents (no-rest _ _ (no-rest _ _ z));
       }
 
-  bundle-agrees : (a : ℕ) (ss : List Simple) (r : Block) {H : History} {f : FactSet} → length ss ≤ 16 → LineAgrees 0 (a + 1) ss H f (E .declared)
-      → (Represents vars (bundleFacts (byChains q) ss H) (bundleFacts store ss f) → BlockAgrees r (bundleFacts (byChains q) ss H) (bundleFacts store ss f)) → BlockAgrees (bundle a ss r) H f
-  unfolding blockFaults blockFacts
-  bundle-agrees a ss r l i rest =
+  bundle-agrees : (a : ℕ) (ss : List Simple) (r : Block) {U : State History} {W : State FactSet} → length ss ≤ 16 → LineAgrees 0 (a + 1) ss U W (declaredIn store E W) → StateRepresents vars U W
+      → (StateRepresents vars (bundleAfter (byChains q) ss U) (bundleAfter store ss W) → BlockAgrees r (bundleAfter (byChains q) ss U) (bundleAfter store ss W)) → BlockAgrees (bundle a ss r) U W
+  unfolding blockFaults blockAfter
+  bundle-agrees a ss r {U} {W} l i t rest =
+      let k : declaredIn (byChains q) E U ≡ declaredIn store E W = ap (λ (R : List ℕ). inForce E R .declared) (t .rows) in
       record {
-        faults = same-also _ _ _ _ (i .faults) (λ u.
+        faults = same-also _ _ _ _ (rw k (i .faults)) (λ u.
             let b = i .bounds u in
-            same-also _ _ _ _ (rw b (bounds-fault a (unshown-agrees (i .represents u) (0 + length ss) _ (omega arith) (i .fair u)))) (λ v. rest (i .represents u) .faults));
+            same-also _ _ _ _ (rw (k, b) (bounds-fault a (unshown-agrees (i .represents u) (0 + length ss) _ (omega arith) (i .fair u)))) (λ v. rest (i .represents u) .faults));
         represents = λ z. rest (i .represents (no-first _ _ z)) .represents (no-rest _ _ (no-rest _ _ z));
       }
 
-  branch-agrees : (a : ℕ) (c : Condition) (x y u : Block) {H : History} {f : FactSet}
-      → BlockAgrees x (conditionFacts (byChains q) H c) (conditionFacts store f c) → BlockAgrees y (conditionFacts (byChains q) H (negatedOf c)) (conditionFacts store f (negatedOf c))
-      → ((G : History) (g : FactSet) → Represents vars G g → BlockAgrees u G g) → BlockAgrees (branch a c x y u) H f
-  unfolding blockFaults blockFacts
-  branch-agrees a c x y u i j rest =
+  branch-agrees : (a : ℕ) (c : Condition) (x y u : Block) {U : State History} {W : State FactSet} → StateRepresents vars U W
+      → BlockAgrees x (assumed (byChains q) U c) (assumed store W c) → BlockAgrees y (assumed (byChains q) U (negatedOf c)) (assumed store W (negatedOf c))
+      → ((U : State History) (W : State FactSet) → StateRepresents vars U W → BlockAgrees u U W) → BlockAgrees (branch a c x y u) U W
+  unfolding blockFaults blockAfter
+  branch-agrees a c x y u t i j rest =
       record {
-        faults = same-also _ _ _ _ (i .faults) (λ z₁. same-also _ _ _ _ (j .faults) (λ z₂. rest _ _ (represents-join vars (i .represents z₁) (j .represents z₂)) .faults));
-        represents = λ z. let e = no-rest _ _ z in rest _ _ (represents-join vars (i .represents (no-first _ _ z)) (j .represents (no-first _ _ e))) .represents (no-rest _ _ e);
+        faults = same-also _ _ _ _ (i .faults) (λ z₁. same-also _ _ _ _ (j .faults) (λ z₂.
+            same-also _ _ _ _ (same-of _ _ (ap₂ (rowsAt a) (sym (i .represents z₁ .rows)) (sym (j .represents z₂ .rows))))
+            (λ z₃. rest _ _ (meets T h (w .limits) q right (i .represents z₁) (j .represents z₂)) .faults)));
+        represents = λ z. let e = no-rest _ _ z in rest _ _ (meets T h (w .limits) q right (i .represents (no-first _ _ z)) (j .represents (no-first _ _ e))) .represents (no-rest _ _ (no-rest _ _ e));
       }
 
-  loop-agrees : (a : ℕ) (c : Condition) (n : ℕ) (x u : Block) {H : History} {f : FactSet} → Represents vars H f → Sides T h (c .left) (c .right) (c .offset)
-      → ((G : History) (g : FactSet) → Represents vars G g → BlockAgrees x G g) → ((G : History) (g : FactSet) → Represents vars G g → BlockAgrees u G g) → BlockAgrees (loop a c n x u) H f
-  unfolding blockFaults blockFacts
-  loop-agrees a c n x u t s body rest =
-      let l = body-represented T h (w .limits) q right t (a + 1) n in
+  loop-agrees : (a : ℕ) (c : Condition) (n : ℕ) (x u : Block) {U : State History} {W : State FactSet} → StateRepresents vars U W → Sides T h (c .left) (c .right) (c .offset)
+      → ((U : State History) (W : State FactSet) → StateRepresents vars U W → BlockAgrees x U W) → ((U : State History) (W : State FactSet) → StateRepresents vars U W → BlockAgrees u U W) → BlockAgrees (loop a c n x u) U W
+  unfolding blockFaults blockAfter
+  loop-agrees a c n x u {U} {W} t s body rest =
+      let l = state-at-head T h (w .limits) q right t (a + 1) n in
+      let i = body _ _ (state-assumed T h (w .limits) q right l c s) in
       record {
-        faults = same-also _ _ _ _ (body _ _ (condition-represented T h (w .limits) q right l c s) .faults) (λ z. rest _ _ (negated-represented T h (w .limits) q right l c s) .faults);
-        represents = λ z. rest _ _ (negated-represented T h (w .limits) q right l c s) .represents (no-rest _ _ z);
+        faults = same-also _ _ _ _ (i .faults) (λ z₁.
+            same-also _ _ _ _ (same-of _ _ (ap₂ (rowsAt a) (sym (t .rows)) (sym (i .represents z₁ .rows))))
+            (λ z₂. rest _ _ (state-negated T h (w .limits) q right l c s) .faults));
+        represents = λ z. rest _ _ (state-negated T h (w .limits) q right l c s) .represents (no-rest _ _ (no-rest _ _ z));
       }
 
-  block-agrees : (d : ℕ) (b : Block) {H : History} {f : FactSet} → Shaped d b → Reads T h b → Represents vars H f → BlockAgrees b H f
-  unfolding blockFaults blockFacts
+  block-agrees : (d : ℕ) (b : Block) {U : State History} {W : State FactSet} → Shaped d b → Reads T h b → StateRepresents vars U W → BlockAgrees b U W
+  unfolding blockFaults blockAfter
   block-agrees d nil o r t = record { faults = tt; represents = λ z. t }
   block-agrees d (plain a s u) o r t =
       let y = read-typed T h a (Plain s) (r .0) in
-      plain-agrees a s u y t (block-agrees d u (o .1) (r .1) (after-represented T h (w .limits) q right t s y))
+      plain-agrees a s u y t (block-agrees d u (o .1) (r .1) (state-after T h (w .limits) q right t s y))
   block-agrees d (branch a c x y u) o r t =
       let s = read-typed T h a (If c (size x) (size y)) (r .0) .condition .sides in
-      branch-agrees a c x y u (block-agrees (d + 1) x (o .1) (r .1) (condition-represented T h (w .limits) q right t c s))
-      (block-agrees (d + 1) y (o .2) (r .2) (negated-represented T h (w .limits) q right t c s)) (λ G g t′. block-agrees d u (o .3) (r .3) t′)
+      branch-agrees a c x y u t (block-agrees (d + 1) x (o .1) (r .1) (state-assumed T h (w .limits) q right t c s))
+      (block-agrees (d + 1) y (o .2) (r .2) (state-negated T h (w .limits) q right t c s)) (λ U W t′. block-agrees d u (o .3) (r .3) t′)
   block-agrees d (loop a c n x u) o r t =
-      loop-agrees a c n x u t (read-typed T h a (While c (size x)) (r .0) .condition .sides) (λ G g t′. block-agrees (d + 1) x (o .2) (r .1) t′) (λ G g t′. block-agrees d u (o .3) (r .2) t′)
-  block-agrees d (bundle a ss u) o r t =
-      bundle-agrees a ss u (o .2) (line-agrees 0 (a + 1) ss (E .declared) (omega (arith, o .2)) (r .1) (declared-fair T h w) t) (λ t′. block-agrees d u (o .3) (r .2) t′)
+      loop-agrees a c n x u t (read-typed T h a (While c (size x)) (r .0) .condition .sides) (λ U W t′. block-agrees (d + 1) x (o .2) (r .1) t′) (λ U W t′. block-agrees d u (o .3) (r .2) t′)
+  block-agrees d (bundle a ss u) {U} {W} o r t =
+      bundle-agrees a ss u (o .2) (line-agrees 0 (a + 1) ss (declaredIn store E W) (omega (arith, o .2)) (r .1) (declared-fair T h w (W .rows)) t) t (λ t′. block-agrees d u (o .3) (r .2) t′)
   block-agrees d (unread a) o r t = absurd o
 
 -- ---- the whole table
@@ -283,7 +328,7 @@ section-agrees : (T : List ℤ) (h : Sections) (w : Formed T h) (q : Decider) �
 unfolding sectionFaults
 section-agrees T h w q right =
     same-also _ _ _ _ (same-self (layout T h))
-    (λ z. let l = table-laid T h z in block-agrees T h w q right 0 (tree T h) (l .formed) (l .reads) (represents-new (variables T h (w .limits))) .faults)
+    (λ z. let l = table-laid T h z in block-agrees T h w q right 0 (tree T h) (l .formed) (l .reads) (new-represented (variables T h (w .limits)) q) .faults)
 
 pub faults-agree : (T : List ℤ) (q : Decider) → DecidesTable T q → SameFirst (faults store T) (faults (byChains q) T)
 unfolding faults

@@ -14,12 +14,13 @@ use Rattle.statements.specs.declared.Simple.{Simple}
 use Rattle.statements.specs.declared.Statement.the-variants.{Plain, If, While}
 use Rattle.blocks.specs.Tree.{Block, nil, plain, branch, loop, bundle, unread}
 use Rattle.flow.specs.Shape.{size, ReadsLine, Reads}
-use Rattle.rules.specs.Rules.{bundleFacts, blockFacts}
-use Rattle.rules.specs.FactsBefore.{lineBefore, factsBefore}
+use Rattle.rules.specs.States.{State}
+use Rattle.rules.specs.Rules.{bundleAfter, blockAfter}
+use Rattle.rules.specs.StateBefore.{lineBefore, stateBefore}
 use Rattle.rules.specs.Verdict.{environmentOf}
 use Rattle.rules.specs.Stored.{store}
 use Rattle.rules.specs.ByChains.{Decider, Decides, byChains, variables}
-use Rattle.rules.specs.Representation.{Represents, represents-cond, represents-join, condition-represented, negated-represented, after-represented, body-represented}
+use Rattle.rules.specs.StateRepresentation.{StateRepresents, either, meets, state-after, state-assumed, state-negated, state-at-head}
 use Rattle.rules.specs.declared.Environment.{Environment}
 
 module _ (T : List ℤ) (h : Sections) (w : Limits h) (q : Decider) (right : Decides (variables T h w) q) where
@@ -31,54 +32,54 @@ module _ (T : List ℤ) (h : Sections) (w : Limits h) (q : Decider) (right : Dec
 
   -- ---- after a bundle and after a block
 
-  line-represented : (a : ℕ) (ss : List Simple) {H : History} {f : FactSet} → ReadsLine T h a ss → Represents vars H f → Represents vars (bundleFacts (byChains q) ss H) (bundleFacts store ss f)
-  unfolding bundleFacts
+  line-represented : (a : ℕ) (ss : List Simple) {U : State History} {W : State FactSet} → ReadsLine T h a ss → StateRepresents vars U W → StateRepresents vars (bundleAfter (byChains q) ss U) (bundleAfter store ss W)
+  unfolding bundleAfter
   line-represented a [] r t = t
-  line-represented a (s ∷ ss) r t = line-represented (a + 1) ss (r .1) (after-represented T h w q right t s (read-typed T h a (Plain s) (r .0)))
+  line-represented a (s ∷ ss) r t = line-represented (a + 1) ss (r .1) (state-after T h w q right t s (read-typed T h a (Plain s) (r .0)))
 
-  block-represented : (b : Block) {H : History} {f : FactSet} → Reads T h b → Represents vars H f → Represents vars (blockFacts (byChains q) T h E b H) (blockFacts store T h E b f)
-  unfolding blockFacts
+  block-represented : (b : Block) {U : State History} {W : State FactSet} → Reads T h b → StateRepresents vars U W → StateRepresents vars (blockAfter (byChains q) T h E b U) (blockAfter store T h E b W)
+  unfolding blockAfter
   block-represented nil r t = t
-  block-represented (plain a s u) r t = block-represented u (r .1) (after-represented T h w q right t s (read-typed T h a (Plain s) (r .0)))
+  block-represented (plain a s u) r t = block-represented u (r .1) (state-after T h w q right t s (read-typed T h a (Plain s) (r .0)))
   block-represented (branch a c x y u) r t =
       let s = read-typed T h a (If c (size x) (size y)) (r .0) .condition .sides in
       block-represented u (r .3)
-      (represents-join vars (block-represented x (r .1) (condition-represented T h w q right t c s)) (block-represented y (r .2) (negated-represented T h w q right t c s)))
+      (meets T h w q right (block-represented x (r .1) (state-assumed T h w q right t c s)) (block-represented y (r .2) (state-negated T h w q right t c s)))
   block-represented (loop a c n x u) r t =
       let s = read-typed T h a (While c (size x)) (r .0) .condition .sides in
-      block-represented u (r .2) (negated-represented T h w q right (body-represented T h w q right t (a + 1) n) c s)
+      block-represented u (r .2) (state-negated T h w q right (state-at-head T h w q right t (a + 1) n) c s)
   block-represented (bundle a ss u) r t = block-represented u (r .2) (line-represented (a + 1) ss (r .1) t)
   block-represented (unread a) r t = absurd r
 
   -- ---- before a statement
 
-  line-before : (a : ℕ) (ss : List Simple) (d : ℕ) {H : History} {f : FactSet} → ReadsLine T h a ss → Represents vars H f
-      → Represents vars (lineBefore (byChains q) a ss H d) (lineBefore store a ss f d)
+  line-before : (a : ℕ) (ss : List Simple) (d : ℕ) {U : State History} {W : State FactSet} → ReadsLine T h a ss → StateRepresents vars U W
+      → StateRepresents vars (lineBefore (byChains q) a ss U d) (lineBefore store a ss W d)
   unfolding lineBefore
   line-before a [] d r t = t
-  line-before a (s ∷ ss) d r t = represents-cond vars (eqb d a) t (line-before (a + 1) ss d (r .1) (after-represented T h w q right t s (read-typed T h a (Plain s) (r .0))))
+  line-before a (s ∷ ss) d r t = either (eqb d a) t (line-before (a + 1) ss d (r .1) (state-after T h w q right t s (read-typed T h a (Plain s) (r .0))))
 
-  pub before-represented : (b : Block) (d : ℕ) {H : History} {f : FactSet} → Reads T h b → Represents vars H f
-      → Represents vars (factsBefore (byChains q) T h E b H d) (factsBefore store T h E b f d)
-  unfolding factsBefore
+  pub before-represented : (b : Block) (d : ℕ) {U : State History} {W : State FactSet} → Reads T h b → StateRepresents vars U W
+      → StateRepresents vars (stateBefore (byChains q) T h E b U d) (stateBefore store T h E b W d)
+  unfolding stateBefore
   before-represented nil d r t = t
   before-represented (plain a s u) d r t =
-      represents-cond vars (eqb d a) t (before-represented u d (r .1) (after-represented T h w q right t s (read-typed T h a (Plain s) (r .0))))
+      either (eqb d a) t (before-represented u d (r .1) (state-after T h w q right t s (read-typed T h a (Plain s) (r .0))))
   before-represented (branch a c x y u) d r t =
       let s = read-typed T h a (If c (size x) (size y)) (r .0) .condition .sides in
-      let then = condition-represented T h w q right t c s in
-      let other = negated-represented T h w q right t c s in
-      represents-cond vars (eqb d a) t
-      (represents-cond vars (ltb d (a + 1 + size x)) (before-represented x d (r .1) then)
-      (represents-cond vars (ltb d (a + 1 + size x + size y)) (before-represented y d (r .2) other)
-      (before-represented u d (r .3) (represents-join vars (block-represented x (r .1) then) (block-represented y (r .2) other)))))
+      let then = state-assumed T h w q right t c s in
+      let other = state-negated T h w q right t c s in
+      either (eqb d a) t
+      (either (ltb d (a + 1 + size x)) (before-represented x d (r .1) then)
+      (either (ltb d (a + 1 + size x + size y)) (before-represented y d (r .2) other)
+      (before-represented u d (r .3) (meets T h w q right (block-represented x (r .1) then) (block-represented y (r .2) other)))))
   before-represented (loop a c n x u) d r t =
       let s = read-typed T h a (While c (size x)) (r .0) .condition .sides in
-      let head = body-represented T h w q right t (a + 1) n in
-      represents-cond vars (eqb d a) t
-      (represents-cond vars (ltb d (a + 1 + size x)) (before-represented x d (r .1) (condition-represented T h w q right head c s))
-      (before-represented u d (r .2) (negated-represented T h w q right head c s)))
+      let head = state-at-head T h w q right t (a + 1) n in
+      either (eqb d a) t
+      (either (ltb d (a + 1 + size x)) (before-represented x d (r .1) (state-assumed T h w q right head c s))
+      (before-represented u d (r .2) (state-negated T h w q right head c s)))
   before-represented (bundle a ss u) d r t =
-      represents-cond vars (eqb d a) t
-      (represents-cond vars (ltb d (a + 1 + length ss)) (line-before (a + 1) ss d (r .1) t) (before-represented u d (r .2) (line-represented (a + 1) ss (r .1) t)))
+      either (eqb d a) t
+      (either (ltb d (a + 1 + length ss)) (line-before (a + 1) ss d (r .1) t) (before-represented u d (r .2) (line-represented (a + 1) ss (r .1) t)))
   before-represented (unread a) d r t = absurd r

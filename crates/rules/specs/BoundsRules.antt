@@ -3,11 +3,11 @@ use Prim.Native.Nat.{ℕ, zero, suc, _+_}
 use mathlib.Core.Bool.{Bool, true, false, not, _&&_, _||_, cond}
 use mathlib.Core.List.{List, [], _∷_}
 use lib.Dec.{eqb}
-use lib.ListN.{getD}
+use lib.ListN.{getD, set}
 use Rattle.sums.specs.Numbers.{bias, zeroVar}
 use Rattle.arrays.specs.Tabulate.{tabulate}
 use Rattle.statements.specs.declared.Simple.{Simple}
-use Rattle.statements.specs.declared.Simple.the-variants.{Literal, AddConstant, Arithmetic, Null, Address, PointerOffset, PointerIndex, Load, Store, Check}
+use Rattle.statements.specs.declared.Simple.the-variants.{Literal, AddConstant, Arithmetic, Null, Address, PointerOffset, PointerIndex, Load, Store, Check, Declare}
 use Rattle.variables.specs.declared.End.{End}
 use Rattle.rules.specs.FactSets.{FactSets}
 use Rattle.rules.specs.FactRules.{inRange}
@@ -26,9 +26,38 @@ nothingKnown = record { lower = Unknown; upper = Unknown }
 abbrev pub isPointer : Environment → ℕ → Bool
 isPointer E p = getD (E .pointers) p false
 
--- The declared bounds in force of a pointer: its own.
+-- The declared bounds of a pointer: those of the environment in force.
 abbrev pub declared : Environment → ℕ → Bounds
 declared E p = getD (E .declared) p nothingKnown
+
+-- ---- point 2: rows in force, one number for each pointer, 0 its own bound and r + 1 the row r
+
+-- "at entry the variable's own is": the rows in force there.
+abbrev pub ownRows : List ℕ
+ownRows = tabulate 16 (λ p. 0)
+
+-- The bounds that a number stands for.
+unfoldable pub rowBound : Environment → ℕ → ℕ → Bounds
+rowBound E zero p = getD (E .declared) p nothingKnown
+rowBound E (suc r) p = getD (E .rows) r nothingKnown
+
+-- The environment in force: what each pointer declares is the bound of its row.
+abbrev pub inForce : Environment → List ℕ → Environment
+inForce E R = record { pointers = E .pointers; declared = tabulate 16 (λ p. rowBound E (getD R p 0) p); lengths = E .lengths; rows = E .rows }
+
+-- "Kind 14 names a pointer and a row", which is in force after it.
+unfoldable pub rowsAfter : Simple → List ℕ → List ℕ
+rowsAfter (Literal x k) R = R
+rowsAfter (AddConstant x y k) R = R
+rowsAfter (Arithmetic x y z op) R = R
+rowsAfter (Null p) R = R
+rowsAfter (Address p o) R = R
+rowsAfter (PointerOffset p q k) R = R
+rowsAfter (PointerIndex p q i) R = R
+rowsAfter (Load x p i k) R = R
+rowsAfter (Store p i k x) R = R
+rowsAfter (Check c) R = R
+rowsAfter (Declare p r) R = set R p (r + 1)
 
 abbrev pub objectLength : Environment → ℕ → ℕ
 objectLength E o = getD (E .lengths) o 0
@@ -94,6 +123,8 @@ module _ (S : FactSets) where
   effect E f (Load x p i k) = Forget x
   effect E f (Store p i k x) = Keep
   effect E f (Check c) = Keep
+  -- "In a bundle" it changes no known bound; outside, "all declared bounds .. become the known ones" after it.
+  effect E f (Declare p r) = Keep
 
   -- ---- "Declared bounds of p are shown when p <= 0 is shown, or known lower <= declared lower and declared upper <= known upper."
 
@@ -130,3 +161,18 @@ module _ (S : FactSets) where
   accessShown E f K (Load x p i k) = boundsShown f p (known K p) (declared E p)
   accessShown E f K (Store p i k x) = boundsShown f p (known K p) (declared E p)
   accessShown E f K (Check c) = true
+  accessShown E f K (Declare p r) = true
+
+  -- Point 2: "The row must be shown there as declared bounds are, else refusal 8 there with that pointer". "There": before the kind 14.
+  unfoldable pub rowUnshown : Environment → Facts → List Bounds → Simple → List ℕ
+  rowUnshown E f K (Literal x k) = []
+  rowUnshown E f K (AddConstant x y k) = []
+  rowUnshown E f K (Arithmetic x y z op) = []
+  rowUnshown E f K (Null p) = []
+  rowUnshown E f K (Address p o) = []
+  rowUnshown E f K (PointerOffset p q k) = []
+  rowUnshown E f K (PointerIndex p q i) = []
+  rowUnshown E f K (Load x p i k) = []
+  rowUnshown E f K (Store p i k x) = []
+  rowUnshown E f K (Check c) = []
+  rowUnshown E f K (Declare p r) = consIf (not (boundsShown f p (known K p) (rowBound E (r + 1) p))) p []

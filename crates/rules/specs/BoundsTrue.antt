@@ -6,10 +6,11 @@ use mathlib.Core.Bool.{Bool, true, false, not, _&&_, false≢true, cond}
 use mathlib.Core.List.{List, []}
 use native.Mathlib.Omega.{arith}
 use native.Mathlib.Nat.{eq-or-lt-of-le}
-use borrow.Author.Tests.{leb-true, ltb-true, eqb-true, eqb-false, not-false}
+use borrow.Author.Tests.{ltb-false, leb-true, ltb-true, eqb-true, eqb-false, not-false}
 use lib.Dec.{leb, ltb, eqb}
+use lib.ListN.{getD, List·getD-eq-default}
 use Rattle.sums.specs.Numbers.{bias, zeroVar}
-use Rattle.arrays.specs.TabulateLaws.{getD-tabulate}
+use Rattle.arrays.specs.TabulateLaws.{getD-tabulate, length-tabulate}
 use Rattle.sums.specs.Sums.{unbounded}
 use Rattle.facts.specs.Store.{shown, endShown}
 use Rattle.chains.specs.Sound.{InRange, Holds, Except, end-true}
@@ -18,7 +19,7 @@ use Rattle.sections.specs.SectionsLaws.{both}
 use Rattle.sections.specs.NameLaws.{either}
 use Rattle.variables.specs.declared.End.{End}
 use Rattle.rules.specs.FactsTrue.{neither}
-use Rattle.rules.specs.BoundsRules.{nothingKnown, isPointer, declared, known, names, forgetEnd, forgetBounds, objectBounds, consIf}
+use Rattle.rules.specs.BoundsRules.{nothingKnown, isPointer, declared, known, names, forgetEnd, forgetBounds, objectBounds, consIf, ownRows, rowBound, inForce}
 use Rattle.rules.specs.Stored.{sameEnd, endAtMost, knownAtMost, boundsShown, unshownFrom, unshown, shiftConstant, shiftEnd, shiftBounds, effectOn, boundsAfter}
 use Rattle.rules.specs.declared.KnownEnd.{KnownEnd}
 use Rattle.rules.specs.declared.KnownEnd.the-variants.{Known, Unknown}
@@ -159,6 +160,28 @@ object-holds low n p v g hp hn e =
 pub known-after : (e : Effect) (K : List Bounds) (p : ℕ) → p < 16 → known (boundsAfter e K) p ≡ effectOn e K p
 unfolding boundsRules.boundsAfter
 known-after e K p l = getD-tabulate 16 (effectOn e K) p nothingKnown l
+
+-- At entry each pointer's own bound is in force.
+pub own-row : (p : ℕ) → getD ownRows p 0 ≡ 0
+own-row p = go (ltb p 16) refl
+  where
+    go : (b : Bool) → ltb p 16 ≡ b → getD ownRows p 0 ≡ 0
+    go true q = getD-tabulate {A = ℕ} 16 (λ x. 0) p 0 (ltb-true p 16 q)
+    go false q = List·getD-eq-default ownRows 0 {n = p} (omega (arith, length-tabulate {A = ℕ} 16 (λ x. 0), ltb-false p 16 q))
+
+-- The bounds of a number that is not 0, in the words of the code.
+pub row-some : (E : Environment) (n p : ℕ) → n ≢ 0 → getD (E .rows) (n - 1) nothingKnown ≡ rowBound E n p
+unfolding rowBound
+row-some E zero p e = absurd (e refl)
+row-some E (suc n) p e = let q : suc n - 1 ≡ n = omega arith in rw q
+
+-- The declared bounds in force of a pointer.
+pub declared-in-force : (E : Environment) (R : List ℕ) (p : ℕ) → p < 16 → declared (inForce E R) p ≡ rowBound E (getD R p 0) p
+declared-in-force E R p l = getD-tabulate 16 (λ q. rowBound E (getD R q 0) q) p nothingKnown l
+
+pub own-declared : (E : Environment) (p : ℕ) → p < 16 → declared (inForce E ownRows) p ≡ declared E p
+unfolding rowBound
+own-declared E p l = declared-in-force E ownRows p l ∙ rw (own-row p)
 
 -- ---- bounds that are shown
 

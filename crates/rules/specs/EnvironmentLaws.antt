@@ -1,5 +1,5 @@
 -- What a well-formed table declares: the kinds of its variables, and ends that name variables of the right kinds.
-use Prim.Native.Nat.{ℕ, _+_, _≤_, _<_}
+use Prim.Native.Nat.{ℕ, _+_, _≤_, _<_, zero, suc}
 use mathlib.Core.Path.{_≡_, refl, sym, _∙_, ap}
 use mathlib.Core.Logic.{_≢_}
 use mathlib.Core.Bool.{Bool, true, false, false≢true}
@@ -7,7 +7,7 @@ use mathlib.Core.List.{List}
 use native.Mathlib.Omega.{arith}
 use borrow.Author.Tests.{ltb-true, ltb-false, eqb-true, ne-eqb}
 use lib.IntN.{ℤ}
-use lib.ListN.{length, List·getD-eq-default}
+use lib.ListN.{length, List·getD-eq-default, getD}
 use lib.Dec.{ltb}
 use Rattle.sums.specs.Numbers.{bias}
 use Rattle.arrays.specs.Tabulate.{tabulate}
@@ -17,27 +17,38 @@ use Rattle.sections.specs.Typed.{IsInteger, IsPointer, IsIndex, missing, given}
 use Rattle.sections.specs.NameLaws.{pointer-limits}
 use Rattle.sections.specs.declared.Sections.{Sections}
 use Rattle.variables.specs.Typed.{EndTyped, PointerTyped}
-use Rattle.variables.specs.Variables.{variableAt}
-use Rattle.variables.specs.VariableLaws.{variable-read-typed}
+use Rattle.variables.specs.Variables.{variableAt, rowAt}
+use Rattle.variables.specs.VariableLaws.{variable-read-typed, row-read-typed}
 use Rattle.variables.specs.declared.End.{End}
 use Rattle.variables.specs.declared.Variable.{Variable}
 use Rattle.variables.specs.declared.Variable.the-variants.{Integer, Pointer}
 use Rattle.variables.specs.declared.VariableRead.{VariableRead}
 use Rattle.variables.specs.declared.VariableRead.the-variants.{Read}
+use Rattle.variables.specs.declared.RowRead.{RowRead}
 use Rattle.table.specs.FormLaws.{Formed}
-use Rattle.rules.specs.BoundsRules.{nothingKnown, isPointer, declared}
-use Rattle.rules.specs.BoundsTrue.{Proper}
-use Rattle.rules.specs.Verdict.{boundsOf, environmentOf}
+use Rattle.rules.specs.BoundsRules.{nothingKnown, isPointer, declared, rowBound, inForce}
+use Rattle.rules.specs.BoundsTrue.{Proper, declared-in-force}
+use Rattle.rules.specs.Verdict.{boundsOf, environmentOf, rowBounds}
 use Rattle.rules.specs.declared.KnownEnd.the-variants.{Known}
+use Rattle.rules.specs.declared.Bounds.{Bounds}
 use Rattle.rules.specs.declared.Environment.{Environment}
+use Rattle.variables.specs.declared.RowRead.the-variants as row
 
--- The declared ends of a pointer.
-pub record DeclaredEnds (E : Environment) (p : ℕ) : Type 0 where
+-- Bounds with both ends.
+pub record Ends (b : Bounds) : Type 0 where
   pub low : End
   pub high : End
-  pub bounds : declared E p ≡ record { lower = Known low; upper = Known high }
+  pub bounds : b ≡ record { lower = Known low; upper = Known high }
   pub low-proper : Proper low
   pub high-proper : Proper high
+
+-- The declared ends of a pointer.
+abbrev pub DeclaredEnds : Environment → ℕ → Type 0
+DeclaredEnds E p = Ends (declared E p)
+
+-- Each row in force is one of the table's.
+abbrev pub Named : Sections → List ℕ → Type 0
+Named h R = (p : ℕ) → getD R p 0 ≤ h .rows
 
 -- The environment is that of the table.
 pub record Declares (T : List ℤ) (h : Sections) (E : Environment) : Type 0 where
@@ -45,7 +56,7 @@ pub record Declares (T : List ℤ) (h : Sections) (E : Environment) : Type 0 whe
   pub pointer : (p : ℕ) → IsPointer T h p → isPointer E p ≡ true
   pub integer : (x : ℕ) → IsInteger T h x → isPointer E x ≡ false
   pub below : (p : ℕ) → isPointer E p ≡ true → p < h .variables
-  pub ends : (p : ℕ) → isPointer E p ≡ true → DeclaredEnds E p
+  pub ends : (R : List ℕ) → Named h R → (p : ℕ) → isPointer E p ≡ true → DeclaredEnds (inForce E R) p
 
 module _ (T : List ℤ) (h : Sections) where
   integer-no-pointer : (x : ℕ) → integerAt T h x ≡ true → pointerAt T h x ≡ false
@@ -56,9 +67,13 @@ module _ (T : List ℤ) (h : Sections) where
   unfolding environmentOf
   pointer-at p l = getD-tabulate 17 (pointerAt T h) p false l
 
-  declared-at : (p : ℕ) → p < 16 → declared (environmentOf T h) p ≡ boundsOf (variableAt T h p)
-  unfolding environmentOf
+  declared-at : (p : ℕ) → p < 16 → rowBound (environmentOf T h) 0 p ≡ boundsOf (variableAt T h p)
+  unfolding environmentOf rowBound
   declared-at p l = getD-tabulate 16 (λ v. boundsOf (variableAt T h v)) p nothingKnown l
+
+  row-at : (p r : ℕ) → r < 64 → rowBound (environmentOf T h) (suc r) p ≡ rowBounds (rowAt T h r)
+  unfolding environmentOf rowBound
+  row-at p r l = getD-tabulate 64 (λ v. rowBounds (rowAt T h v)) r nothingKnown l
 
   -- A number that the list of kinds does not have is no pointer.
   pointer-kind : (p : ℕ) → isPointer (environmentOf T h) p ≡ true → pointerAt T h p ≡ true
@@ -88,7 +103,7 @@ module _ (T : List ℤ) (h : Sections) where
         constant = omega (arith, t .constant .high);
       }
 
-  ends-of : h .variables ≤ 16 → (p : ℕ) → p < 16 → pointerAt T h p ≡ true → (x : Variable) → variableAt T h p ≡ Read x → DeclaredEnds (environmentOf T h) p
+  ends-of : h .variables ≤ 16 → (p : ℕ) → p < 16 → pointerAt T h p ≡ true → (x : Variable) → variableAt T h p ≡ Read x → Ends (rowBound (environmentOf T h) 0 p)
   ends-of few p l k Integer e = absurd (false≢true (sym (integer-no-pointer p (variable-read-typed T h p Integer e)) ∙ k))
   ends-of few p l k (Pointer low high) e =
       let t : PointerTyped T h p low high = variable-read-typed T h p (Pointer low high) e in
@@ -100,6 +115,28 @@ module _ (T : List ℤ) (h : Sections) where
         high-proper = end-proper high few (t .upper);
       }
 
+  row-ends : h .variables ≤ 16 → (p r : ℕ) → r < 64 → (l u : End) → rowAt T h r ≡ row.Read l u → Ends (rowBound (environmentOf T h) (suc r) p)
+  row-ends few p r b l u e =
+      let t = row-read-typed T h r l u e in
+      record {
+        low = l;
+        high = u;
+        bounds = row-at p r b ∙ ap (λ (x : RowRead). rowBounds x) e;
+        low-proper = end-proper l few (t .lower);
+        high-proper = end-proper u few (t .upper);
+      }
+
+  -- The ends of a number in force.
+  number-ends : Formed T h → (p : ℕ) → isPointer (environmentOf T h) p ≡ true → (n : ℕ) → n ≤ h .rows → Ends (rowBound (environmentOf T h) n p)
+  number-ends f p e zero s =
+      let k = pointer-kind p e in
+      let l : p < h .variables = pointer-limits T h p k .1 in
+      let r = f .variables p l in
+      ends-of (f .limits .variables) p (omega (arith, f .limits .variables)) k (r .0) (r .1)
+  number-ends f p e (suc n) s =
+      let r = f .rows n s in
+      row-ends (f .limits .variables) p n (omega (arith, f .limits .rows)) (r .0) (r .1) (r .2)
+
 pub environment-declares : (T : List ℤ) (h : Sections) → Formed T h → Declares T h (environmentOf T h)
 environment-declares T h f =
     let few : h .variables ≤ 16 = f .limits .variables in
@@ -108,10 +145,5 @@ environment-declares T h f =
       pointer = λ p i. pointer-at T h p (omega (arith, i .below)) ∙ i .kind;
       integer = λ x i. pointer-at T h x (omega (arith, i .below)) ∙ integer-no-pointer T h x (i .kind);
       below = λ p e. pointer-limits T h p (pointer-kind T h p e) .1;
-      ends =
-          λ p e.
-          let k = pointer-kind T h p e in
-          let l : p < h .variables = pointer-limits T h p k .1 in
-          let r = f .variables p l in
-          ends-of T h few p (omega arith) k (r .0) (r .1);
+      ends = λ R n p e. rw (declared-in-force (environmentOf T h) R p (omega (arith, few, pointer-limits T h p (pointer-kind T h p e) .1))) (number-ends T h f p e (getD R p 0) (n p));
     }

@@ -6,7 +6,7 @@ use lib.Dec.{eqb}
 use Rattle.sums.specs.Numbers.{bias, maxValue, zeroVar}
 use Rattle.conditions.specs.declared.Condition.{Condition}
 use Rattle.statements.specs.declared.Simple.{Simple}
-use Rattle.statements.specs.declared.Simple.the-variants.{Literal, AddConstant, Arithmetic, Null, Address, PointerOffset, PointerIndex, Load, Store, Check}
+use Rattle.statements.specs.declared.Simple.the-variants.{Literal, AddConstant, Arithmetic, Null, Address, PointerOffset, PointerIndex, Load, Store, Check, Declare}
 use Rattle.rules.specs.FactSets.{FactSets}
 
 -- A number among others.
@@ -58,7 +58,7 @@ module _ (S : FactSets) where
       let moved = cond same (shifted f p k) (equated (dropped f p) p q k) in
       cond plain moved (positive moved p)
 
-  -- The facts after a statement of kinds 1 to 10.
+  -- The facts after a statement of kinds 1 to 10, and 14.
   unfoldable pub factsAfter : Simple → Facts → Facts
   -- "Kind 1: drop x, then x equals the literal."
   factsAfter (Literal x k) f = ranged f x k k
@@ -76,6 +76,8 @@ module _ (S : FactSets) where
   factsAfter (Store p i k x) f = f
   -- "A condition gives its facts after a dynamic check"
   factsAfter (Check c) f = conditionFacts f c
+  -- Point 2: kind 14 assigns nothing.
+  factsAfter (Declare p r) f = f
 
   -- "variables assigned in the body are dropped first": each variable, by its number, that is among the targets.
   unfoldable pub droppedEach : ℕ → (ℕ → Bool) → Facts → Facts

@@ -1,5 +1,5 @@
 -- The ends that the rules compare are in range: they name variables, and their constants are those of a table or an object's length, moved at most 16 times.
-use Prim.Native.Nat.{ℕ, _+_, _-_, _*_, _^_, _≤_, _<_}
+use Prim.Native.Nat.{ℕ, _+_, _-_, _*_, _^_, _≤_, _<_, zero, suc}
 use mathlib.Core.Path.{_≡_, refl}
 use mathlib.Core.Logic.{inl, inr}
 use mathlib.Core.Bool.{Bool, true, false, _&&_, cond}
@@ -20,17 +20,18 @@ use Rattle.sections.specs.Typed.{IsIndex, missing, given, IsSmall}
 use Rattle.sections.specs.declared.Sections.{Sections}
 use Rattle.statements.specs.Typed.{SimpleTyped}
 use Rattle.statements.specs.declared.Simple.{Simple}
-use Rattle.statements.specs.declared.Simple.the-variants.{Literal, AddConstant, Arithmetic, Null, Address, PointerOffset, PointerIndex, Load, Store, Check}
-use Rattle.variables.specs.Variables.{variableAt, objectAt}
-use Rattle.variables.specs.VariableLaws.{variable-read-typed}
+use Rattle.statements.specs.declared.Simple.the-variants.{Literal, AddConstant, Arithmetic, Null, Address, PointerOffset, PointerIndex, Load, Store, Check, Declare}
+use Rattle.variables.specs.Variables.{variableAt, objectAt, rowAt}
+use Rattle.variables.specs.VariableLaws.{variable-read-typed, row-read-typed}
 use Rattle.variables.specs.Typed.{EndTyped}
 use Rattle.variables.specs.declared.End.{End}
 use Rattle.variables.specs.declared.Variable.the-variants.{Integer, Pointer}
 use Rattle.variables.specs.declared.VariableRead.{VariableRead}
 use Rattle.variables.specs.declared.VariableRead.the-variants.{Read, Unread}
+use Rattle.variables.specs.declared.RowRead.{RowRead}
 use Rattle.table.specs.FormLaws.{Formed}
-use Rattle.rules.specs.BoundsRules.{nothingKnown, known, names, objectLength, forgetEnd, forgetBounds, objectBounds, effect}
-use Rattle.rules.specs.Verdict.{boundsOf, environmentOf}
+use Rattle.rules.specs.BoundsRules.{nothingKnown, known, names, objectLength, forgetEnd, forgetBounds, objectBounds, effect, rowBound, declared, inForce}
+use Rattle.rules.specs.Verdict.{boundsOf, environmentOf, rowBounds}
 use Rattle.rules.specs.Stored.{store, shiftConstant, shiftEnd, shiftBounds, effectOn, boundsAfter}
 use Rattle.rules.specs.BoundsRules as boundsRules
 use Rattle.rules.specs.ByChains.{variables}
@@ -39,6 +40,7 @@ use Rattle.rules.specs.declared.KnownEnd.the-variants.{Known, Unknown}
 use Rattle.rules.specs.declared.Bounds.{Bounds}
 use Rattle.rules.specs.declared.Effect.{Effect}
 use Rattle.rules.specs.declared.Effect.the-variants.{Keep, Forget, Shift, Copy, Object}
+use Rattle.variables.specs.declared.RowRead.the-variants as row
 
 -- An end after at most n statements: it names variables, and its constant is that of a table or an object's length, moved n times.
 pub record FairEnd (vars : Variables) (n : ℕ) (e : End) : Type 0 where
@@ -153,15 +155,44 @@ module _ (T : List ℤ) (h : Sections) (w : Formed T h) where
   read-fair v (Read Integer) e = nothing-fair vars 0
   read-fair v Unread e = nothing-fair vars 0
 
-  pub declared-fair : FairAll vars 0 (environmentOf T h .declared)
+  own-fair : FairAll vars 0 (environmentOf T h .declared)
   unfolding environmentOf
-  declared-fair p = go (ltb p 16) refl
+  own-fair p = go (ltb p 16) refl
     where
       go : (b : Bool) → ltb p 16 ≡ b → FairBounds vars 0 (getD (tabulate 16 (λ v. boundsOf (variableAt T h v))) p nothingKnown)
       go true q = rw (getD-tabulate 16 (λ v. boundsOf (variableAt T h v)) p nothingKnown (ltb-true p 16 q)) (read-fair p (variableAt T h p) refl)
       go false q =
           let i : length (tabulate 16 (λ v. boundsOf (variableAt T h v))) ≤ p = omega (arith, length-tabulate 16 (λ v. boundsOf (variableAt T h v)), ltb-false p 16 q) in
           rw (List·getD-eq-default (tabulate 16 (λ v. boundsOf (variableAt T h v))) nothingKnown {n = p} i) (nothing-fair vars 0)
+
+  row-read-fair : (r : ℕ) (x : RowRead) → rowAt T h r ≡ x → FairBounds vars 0 (rowBounds x)
+  row-read-fair r (row.Read l u) e = let t = row-read-typed T h r l u e in record { lower = end-fair (t .lower); upper = end-fair (t .upper) }
+  row-read-fair r row.Unread e = nothing-fair vars 0
+
+  row-fair : FairAll vars 0 (environmentOf T h .rows)
+  unfolding environmentOf
+  row-fair r = go (ltb r 64) refl
+    where
+      go : (b : Bool) → ltb r 64 ≡ b → FairBounds vars 0 (getD (tabulate 64 (λ v. rowBounds (rowAt T h v))) r nothingKnown)
+      go true q = rw (getD-tabulate 64 (λ v. rowBounds (rowAt T h v)) r nothingKnown (ltb-true r 64 q)) (row-read-fair r (rowAt T h r) refl)
+      go false q =
+          let i : length (tabulate 64 (λ v. rowBounds (rowAt T h v))) ≤ r = omega (arith, length-tabulate 64 (λ v. rowBounds (rowAt T h v)), ltb-false r 64 q) in
+          rw (List·getD-eq-default (tabulate 64 (λ v. rowBounds (rowAt T h v))) nothingKnown {n = r} i) (nothing-fair vars 0)
+
+  -- The bounds that a number stands for, and those in force, whatever the rows.
+  pub number-fair : (n p : ℕ) → FairBounds vars 0 (rowBound (environmentOf T h) n p)
+  unfolding rowBound
+  number-fair zero p = own-fair p
+  number-fair (suc r) p = row-fair r
+
+  pub declared-fair : (R : List ℕ) → FairAll vars 0 (inForce (environmentOf T h) R .declared)
+  declared-fair R p = go (ltb p 16) refl
+    where
+      go : (b : Bool) → ltb p 16 ≡ b → FairBounds vars 0 (getD (tabulate 16 (λ q. rowBound (environmentOf T h) (getD R q 0) q)) p nothingKnown)
+      go true q = rw (getD-tabulate 16 (λ q. rowBound (environmentOf T h) (getD R q 0) q) p nothingKnown (ltb-true p 16 q)) (number-fair (getD R p 0) p)
+      go false q =
+          let i : length (tabulate 16 (λ q. rowBound (environmentOf T h) (getD R q 0) q)) ≤ p = omega (arith, length-tabulate 16 (λ q. rowBound (environmentOf T h) (getD R q 0) q), ltb-false p 16 q) in
+          rw (List·getD-eq-default (tabulate 16 (λ q. rowBound (environmentOf T h) (getD R q 0) q)) nothingKnown {n = p} i) (nothing-fair vars 0)
 
   length-fair : (o : ℕ) → o < h .objects → objectLength (environmentOf T h) o ≤ 1000000
   unfolding environmentOf
@@ -179,3 +210,4 @@ module _ (T : List ℤ) (h : Sections) (w : Formed T h) where
   statement-fair f (Load x p i k) s = tt
   statement-fair f (Store p i k x) s = tt
   statement-fair f (Check c) s = tt
+  statement-fair f (Declare p r) s = tt

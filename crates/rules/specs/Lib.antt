@@ -4,12 +4,14 @@ pub mod Representation
 pub mod Fair
 pub mod Agreement
 pub mod FactSets
+pub mod States
 pub mod Stored
 pub mod FactRules
 pub mod BoundsRules
 pub mod Rules
 pub mod Verdict
-pub mod FactsBefore
+pub mod StateBefore
+pub mod StateRepresentation
 pub mod BeforeLaws
 pub mod Ranges
 pub mod RuleLaws

@@ -1,7 +1,7 @@
 -- The ranges that sums of 64 bits allow: of a statement, of the lengths of objects, of an effect.
 use Prim.Native.Nat.{ℕ, _^_, _<_}
 use Rattle.statements.specs.declared.Simple.{Simple}
-use Rattle.statements.specs.declared.Simple.the-variants.{Literal, AddConstant, Arithmetic, Null, Address, PointerOffset, PointerIndex, Load, Store, Check}
+use Rattle.statements.specs.declared.Simple.the-variants.{Literal, AddConstant, Arithmetic, Null, Address, PointerOffset, PointerIndex, Load, Store, Check, Declare}
 use Rattle.rules.specs.BoundsRules.{objectLength}
 use Rattle.rules.specs.declared.Environment.{Environment}
 use Rattle.rules.specs.declared.Effect.{Effect}
@@ -19,6 +19,7 @@ InRange (PointerIndex p q i) = q < 16
 InRange (Load x p i k) = Unit
 InRange (Store p i k x) = Unit
 InRange (Check c) = c .offset < 2 ^ 32
+InRange (Declare p r) = Unit
 
 -- The lengths of objects are in range.
 abbrev pub Measured : Environment → Type 0

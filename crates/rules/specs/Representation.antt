@@ -29,7 +29,7 @@ use Rattle.statements.specs.Statements.{statementAt}
 use Rattle.statements.specs.StatementLaws.{read-typed}
 use Rattle.statements.specs.Typed.{SimpleTyped}
 use Rattle.statements.specs.declared.Simple.{Simple}
-use Rattle.statements.specs.declared.Simple.the-variants.{Literal, AddConstant, Arithmetic, Null, Address, PointerOffset, PointerIndex, Load, Store, Check}
+use Rattle.statements.specs.declared.Simple.the-variants.{Literal, AddConstant, Arithmetic, Null, Address, PointerOffset, PointerIndex, Load, Store, Check, Declare}
 use Rattle.statements.specs.declared.Statement.the-variants.{Plain, If, While, Bundle}
 use Rattle.statements.specs.declared.StatementRead.{StatementRead}
 use Rattle.statements.specs.declared.StatementRead.the-variants.{Read, Unread}
@@ -237,6 +237,7 @@ module _ (T : List ℤ) (h : Sections) (w : Limits h) where
   target-below v (Load x p i k) s e = one (s .value .below) e
   target-below v (Store p i k x) s e = none e
   target-below v (Check c) s e = none e
+  target-below v (Declare p r) s e = none e
 
   read-below : (v a : ℕ) (r : StatementRead) → statementAt T h a ≡ r → among v (targetOf r) ≡ true → v < h .variables
   read-below v a Unread q e = none e
@@ -286,6 +287,7 @@ module _ (T : List ℤ) (h : Sections) (w : Limits h) where
     after-represented t (Load x p i k) s = represents-drop vars t x (s .value .below)
     after-represented t (Store p i k x) s = t
     after-represented t (Check d) s = condition-represented t d (s .sides)
+    after-represented t (Declare p r) s = t
 
     pub body-represented : {H : History} {f : FactSet} → Represents vars H f → (a n : ℕ)
         → Represents vars (loopFacts (byChains q) (targetsFrom T h a n) H) (loopFacts store (targetsFrom T h a n) f)

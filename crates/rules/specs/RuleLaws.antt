@@ -1,12 +1,16 @@
 -- A walk without faults has none in any of its parts.
-use mathlib.Core.Path.{_≡_, refl}
-use mathlib.Core.Bool.{Bool, true, false}
+use mathlib.Core.Path.{_≡_, refl, ap₂}
+use mathlib.Core.Bool.{Bool, true, false, not, false≢true}
 use mathlib.Core.List.{List, [], _∷_}
 use Prim.Native.Nat.{ℕ}
 use native.Mathlib.Omega.{arith}
 use Rattle.refusals.specs.declared.Refusal.{Refusal}
-use Rattle.blocks.specs.Layout.{also}
-use Rattle.rules.specs.Rules.{accessAt, boundsAt}
+use Rattle.refusals.specs.declared.Refusal.the-variants.{RowsDiffer}
+use Rattle.sections.specs.SectionsLaws.{both}
+use borrow.Author.Tests.{eqb-true, not-false}
+use lib.Dec.{eqb}
+use Rattle.blocks.specs.Layout.{also, when}
+use Rattle.rules.specs.Rules.{accessAt, boundsAt, sameRows, rowsAt}
 
 pub no-first : (xs ys : List Refusal) → also xs ys ≡ [] → xs ≡ []
 unfolding also
@@ -27,3 +31,22 @@ pub bounds-passed : (a : ℕ) (ps : List ℕ) → boundsAt a ps ≡ [] → ps �
 unfolding boundsAt
 bounds-passed a [] e = refl
 bounds-passed a (p ∷ ps) e = cc
+
+pub same-rows : (R Q : List ℕ) → sameRows R Q ≡ true → R ≡ Q
+unfolding sameRows
+same-rows [] [] e = refl
+same-rows [] (y ∷ ys) e = absurd (false≢true e)
+same-rows (x ∷ xs) [] e = absurd (false≢true e)
+same-rows (x ∷ xs) (y ∷ ys) e =
+    let p = both (eqb x y) (sameRows xs ys) e in
+    ap₂ (λ (n : ℕ) (l : List ℕ). n ∷ l) (eqb-true x y (p .0)) (same-rows xs ys (p .1))
+
+no-fault : (b : Bool) (r : Refusal) → when b r ≡ [] → b ≡ false
+unfolding when
+no-fault true r e = let z : _≡_ {A = ℕ} 0 1 = cc in absurd (omega arith)
+no-fault false r e = refl
+
+-- Where 13 does not refuse, the same rows are in force.
+pub rows-passed : (a : ℕ) (R Q : List ℕ) → rowsAt a R Q ≡ [] → R ≡ Q
+unfolding rowsAt
+rows-passed a R Q e = same-rows R Q (not-false (sameRows R Q) (no-fault (not (sameRows R Q)) (RowsDiffer a) e))

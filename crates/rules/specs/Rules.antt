@@ -1,19 +1,22 @@
 -- The walk over a routine: the facts after each block, and the faults of each block in table order.
 use Prim.Native.Nat.{ℕ, _+_}
-use mathlib.Core.Bool.{Bool, true, false}
+use mathlib.Core.Bool.{Bool, true, false, not, _&&_}
 use mathlib.Core.List.{List, [], _∷_}
 use lib.IntN.{ℤ}
+use lib.Dec.{eqb}
 use Rattle.refusals.specs.declared.Refusal.{Refusal}
-use Rattle.refusals.specs.declared.Refusal.the-variants.{StatementRecord, BoundsNotShown, BundleAccess}
+use Rattle.refusals.specs.declared.Refusal.the-variants.{StatementRecord, BoundsNotShown, BundleAccess, RowsDiffer}
 use Rattle.sections.specs.declared.Sections.{Sections}
 use Rattle.conditions.specs.Negation.{negatedOf}
+use Rattle.conditions.specs.declared.Condition.{Condition}
 use Rattle.statements.specs.declared.Simple.{Simple}
 use Rattle.blocks.specs.Tree.{Block, nil, plain, branch, loop, bundle, unread}
-use Rattle.blocks.specs.Layout.{also}
+use Rattle.blocks.specs.Layout.{also, when}
 use Rattle.flow.specs.Targets.{targetsFrom}
 use Rattle.rules.specs.FactSets.{FactSets}
+use Rattle.rules.specs.States.{State}
 use Rattle.rules.specs.FactRules.{factsAfter, conditionFacts, loopFacts}
-use Rattle.rules.specs.BoundsRules.{isPointer, effect, boundsAfter, unshown, accessShown}
+use Rattle.rules.specs.BoundsRules.{isPointer, effect, boundsAfter, unshown, accessShown, ownRows, inForce, rowsAfter, rowUnshown}
 use Rattle.rules.specs.declared.Bounds.{Bounds}
 use Rattle.rules.specs.declared.Environment.{Environment}
 
@@ -29,55 +32,102 @@ unfoldable pub boundsAt : ℕ → List ℕ → List Refusal
 boundsAt a [] = []
 boundsAt a (p ∷ ps) = BoundsNotShown a p ∷ []
 
+-- ---- point 2: "when the two sides of an if, or the head and end of a while body, leave rows of different numbers in force"
+
+unfoldable pub sameRows : List ℕ → List ℕ → Bool
+sameRows [] [] = true
+sameRows [] (y ∷ ys) = false
+sameRows (x ∷ xs) [] = false
+sameRows (x ∷ xs) (y ∷ ys) = eqb x y && sameRows xs ys
+
+unfoldable pub rowsAt : ℕ → List ℕ → List ℕ → List Refusal
+rowsAt a R Q = when (not (sameRows R Q)) (RowsDiffer a)
+
 module _ (S : FactSets) where
-  open FactSets S using (Facts, joined)
+  open FactSets S using (Facts, new, joined)
+
+  -- ---- what is handed on
+
+  -- Where the walk begins: what is always known, and "at entry the variable's own".
+  abbrev pub newState : State Facts
+  newState = record { facts = new; rows = ownRows }
+
+  -- What a statement of kinds 1 to 10 and 14 leaves.
+  abbrev pub stateAfter : Simple → State Facts → State Facts
+  stateAfter s w = record { facts = factsAfter S s (w .facts); rows = rowsAfter s (w .rows) }
+
+  -- Where a condition holds.
+  abbrev pub assumed : State Facts → Condition → State Facts
+  assumed w c = record { facts = conditionFacts S (w .facts) c; rows = w .rows }
+
+  -- At the head of a loop whose body assigns the targets.
+  abbrev pub atHead : List ℕ → State Facts → State Facts
+  atHead targets w = record { facts = loopFacts S targets (w .facts); rows = w .rows }
+
+  -- What is asked of the declared bounds in force.
+  abbrev pub unshownIn : Environment → State Facts → List Bounds → List ℕ
+  unshownIn E w K = unshown S (inForce E (w .rows)) (w .facts) K
+
+  abbrev pub accessIn : Environment → State Facts → List Bounds → Simple → Bool
+  accessIn E w K s = accessShown S (inForce E (w .rows)) (w .facts) K s
+
+  -- Outside a bundle the known bounds are the declared ones.
+  abbrev pub declaredIn : Environment → State Facts → List Bounds
+  declaredIn E w = inForce E (w .rows) .declared
 
   -- ---- the statements of a bundle, from number a on
 
-  unfoldable pub bundleFacts : List Simple → Facts → Facts
-  bundleFacts [] f = f
-  bundleFacts (s ∷ ss) f = bundleFacts ss (factsAfter S s f)
+  unfoldable pub bundleAfter : List Simple → State Facts → State Facts
+  bundleAfter [] w = w
+  bundleAfter (s ∷ ss) w = bundleAfter ss (stateAfter s w)
 
-  unfoldable pub bundleBounds : Environment → List Simple → Facts → List Bounds → List Bounds
-  bundleBounds E [] f K = K
-  bundleBounds E (s ∷ ss) f K = bundleBounds E ss (factsAfter S s f) (boundsAfter S (effect S E f s) K)
+  unfoldable pub bundleBounds : Environment → List Simple → State Facts → List Bounds → List Bounds
+  bundleBounds E [] w K = K
+  bundleBounds E (s ∷ ss) w K = bundleBounds E ss (stateAfter s w) (boundsAfter S (effect S E (w .facts) s) K)
 
-  unfoldable pub bundleFaults : Environment → ℕ → List Simple → Facts → List Bounds → List Refusal
-  bundleFaults E a [] f K = []
-  bundleFaults E a (s ∷ ss) f K =
-      also (accessAt (accessShown S E f K s) a) (bundleFaults E (a + 1) ss (factsAfter S s f) (boundsAfter S (effect S E f s) K))
+  unfoldable pub bundleFaults : Environment → ℕ → List Simple → State Facts → List Bounds → List Refusal
+  bundleFaults E a [] w K = []
+  bundleFaults E a (s ∷ ss) w K =
+      also (accessAt (accessIn E w K s) a)
+      (also (boundsAt a (rowUnshown S E (w .facts) K s))
+      (bundleFaults E (a + 1) ss (stateAfter s w) (boundsAfter S (effect S E (w .facts) s) K)))
 
   -- ---- blocks. Outside a bundle the known bounds are the declared ones: "all declared bounds must be shown and become the known ones".
 
   module _ (T : List ℤ) (h : Sections) (E : Environment) where
-    abbrev pub sidesJoined : Facts → Facts → Facts
-    sidesJoined f g = joined (isPointer E) f g
+    -- Where the sides of an if meet: the rows in force are those of both sides (else refusal 13).
+    abbrev pub sidesJoined : State Facts → State Facts → State Facts
+    sidesJoined w v = record { facts = joined (isPointer E) (w .facts) (v .facts); rows = w .rows }
 
-    -- The facts after a block. "If: the negated condition holds in the else block; afterwards what both sides show. While: variables assigned in the
+    -- What a block leaves. "If: the negated condition holds in the else block; afterwards what both sides show. While: variables assigned in the
     -- body are dropped first; then the condition holds in the body and its negation after it."
-    unfoldable pub blockFacts : Block → Facts → Facts
-    blockFacts nil f = f
-    blockFacts (plain a s r) f = blockFacts r (factsAfter S s f)
-    blockFacts (branch a c t e r) f = blockFacts r (sidesJoined (blockFacts t (conditionFacts S f c)) (blockFacts e (conditionFacts S f (negatedOf c))))
-    blockFacts (loop a c n t r) f = blockFacts r (conditionFacts S (loopFacts S (targetsFrom T h (a + 1) n) f) (negatedOf c))
-    blockFacts (bundle a ss r) f = blockFacts r (bundleFacts ss f)
-    blockFacts (unread a) f = f
+    unfoldable pub blockAfter : Block → State Facts → State Facts
+    blockAfter nil w = w
+    blockAfter (plain a s r) w = blockAfter r (stateAfter s w)
+    blockAfter (branch a c t e r) w = blockAfter r (sidesJoined (blockAfter t (assumed w c)) (blockAfter e (assumed w (negatedOf c))))
+    blockAfter (loop a c n t r) w = blockAfter r (assumed (atHead (targetsFrom T h (a + 1) n) w) (negatedOf c))
+    blockAfter (bundle a ss r) w = blockAfter r (bundleAfter ss w)
+    blockAfter (unread a) w = w
 
     -- All faults of a block in table order: "statements in table order: 9, the statement, 8". Point 11: "A statement whose facts contradict is now walked
-    -- like any other, with every fact shown."
-    unfoldable pub blockFaults : Block → Facts → List Refusal
-    blockFaults nil f = []
-    blockFaults (plain a s r) f =
-        also (boundsAt a (unshown S E (factsAfter S s f) (boundsAfter S (effect S E f s) (E .declared)))) (blockFaults r (factsAfter S s f))
-    blockFaults (branch a c t e r) f =
-        also (blockFaults t (conditionFacts S f c))
-        (also (blockFaults e (conditionFacts S f (negatedOf c)))
-        (blockFaults r (sidesJoined (blockFacts t (conditionFacts S f c)) (blockFacts e (conditionFacts S f (negatedOf c))))))
-    blockFaults (loop a c n t r) f =
-        also (blockFaults t (conditionFacts S (loopFacts S (targetsFrom T h (a + 1) n) f) c))
-        (blockFaults r (conditionFacts S (loopFacts S (targetsFrom T h (a + 1) n) f) (negatedOf c)))
-    blockFaults (bundle a ss r) f =
-        also (bundleFaults E (a + 1) ss f (E .declared))
-        (also (boundsAt a (unshown S E (bundleFacts ss f) (bundleBounds E ss f (E .declared))))
-        (blockFaults r (bundleFacts ss f)))
-    blockFaults (unread a) f = StatementRecord a ∷ []
+    -- like any other, with every fact shown." Point 2: "13 comes after all inside the blocks".
+    unfoldable pub blockFaults : Block → State Facts → List Refusal
+    blockFaults nil w = []
+    blockFaults (plain a s r) w =
+        also (boundsAt a (rowUnshown S E (w .facts) (declaredIn E w) s))
+        (also (boundsAt a (unshownIn E (stateAfter s w) (boundsAfter S (effect S E (w .facts) s) (declaredIn E w))))
+        (blockFaults r (stateAfter s w)))
+    blockFaults (branch a c t e r) w =
+        also (blockFaults t (assumed w c))
+        (also (blockFaults e (assumed w (negatedOf c)))
+        (also (rowsAt a (blockAfter t (assumed w c) .rows) (blockAfter e (assumed w (negatedOf c)) .rows))
+        (blockFaults r (sidesJoined (blockAfter t (assumed w c)) (blockAfter e (assumed w (negatedOf c)))))))
+    blockFaults (loop a c n t r) w =
+        also (blockFaults t (assumed (atHead (targetsFrom T h (a + 1) n) w) c))
+        (also (rowsAt a (w .rows) (blockAfter t (assumed (atHead (targetsFrom T h (a + 1) n) w) c) .rows))
+        (blockFaults r (assumed (atHead (targetsFrom T h (a + 1) n) w) (negatedOf c))))
+    blockFaults (bundle a ss r) w =
+        also (bundleFaults E (a + 1) ss w (declaredIn E w))
+        (also (boundsAt a (unshownIn E (bundleAfter ss w) (bundleBounds E ss w (declaredIn E w))))
+        (blockFaults r (bundleAfter ss w)))
+    blockFaults (unread a) w = StatementRecord a ∷ []

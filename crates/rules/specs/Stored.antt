@@ -15,6 +15,7 @@ use Rattle.variables.specs.declared.End.{End}
 use Rattle.table.specs.declared.Form.{Form}
 use Rattle.blocks.specs.Tree.{Block}
 use Rattle.rules.specs.FactSets.{FactSets}
+use Rattle.rules.specs.States.{State}
 use Rattle.rules.specs.FactRules as facts
 use Rattle.rules.specs.BoundsRules as bounds
 use Rattle.rules.specs.Rules as walk
@@ -113,27 +114,51 @@ unshownFrom = bounds.unshownFrom store
 abbrev pub unshown : Environment → FactSet → List Bounds → List ℕ
 unshown = bounds.unshown store
 
+abbrev pub rowUnshown : Environment → FactSet → List Bounds → Simple → List ℕ
+rowUnshown = bounds.rowUnshown store
+
 abbrev pub accessShown : Environment → FactSet → List Bounds → Simple → Bool
 accessShown = bounds.accessShown store
 
 -- ---- the walk
 
-abbrev pub bundleFacts : List Simple → FactSet → FactSet
-bundleFacts = walk.bundleFacts store
+abbrev pub newState : State FactSet
+newState = walk.newState store
 
-abbrev pub bundleBounds : Environment → List Simple → FactSet → List Bounds → List Bounds
+abbrev pub stateAfter : Simple → State FactSet → State FactSet
+stateAfter = walk.stateAfter store
+
+abbrev pub assumed : State FactSet → Condition → State FactSet
+assumed = walk.assumed store
+
+abbrev pub atHead : List ℕ → State FactSet → State FactSet
+atHead = walk.atHead store
+
+abbrev pub unshownIn : Environment → State FactSet → List Bounds → List ℕ
+unshownIn = walk.unshownIn store
+
+abbrev pub accessIn : Environment → State FactSet → List Bounds → Simple → Bool
+accessIn = walk.accessIn store
+
+abbrev pub declaredIn : Environment → State FactSet → List Bounds
+declaredIn = walk.declaredIn store
+
+abbrev pub bundleAfter : List Simple → State FactSet → State FactSet
+bundleAfter = walk.bundleAfter store
+
+abbrev pub bundleBounds : Environment → List Simple → State FactSet → List Bounds → List Bounds
 bundleBounds = walk.bundleBounds store
 
-abbrev pub bundleFaults : Environment → ℕ → List Simple → FactSet → List Bounds → List Refusal
+abbrev pub bundleFaults : Environment → ℕ → List Simple → State FactSet → List Bounds → List Refusal
 bundleFaults = walk.bundleFaults store
 
-abbrev pub sidesJoined : List ℤ → Sections → Environment → FactSet → FactSet → FactSet
+abbrev pub sidesJoined : List ℤ → Sections → Environment → State FactSet → State FactSet → State FactSet
 sidesJoined = walk.sidesJoined store
 
-abbrev pub blockFacts : List ℤ → Sections → Environment → Block → FactSet → FactSet
-blockFacts = walk.blockFacts store
+abbrev pub blockAfter : List ℤ → Sections → Environment → Block → State FactSet → State FactSet
+blockAfter = walk.blockAfter store
 
-abbrev pub blockFaults : List ℤ → Sections → Environment → Block → FactSet → List Refusal
+abbrev pub blockFaults : List ℤ → Sections → Environment → Block → State FactSet → List Refusal
 blockFaults = walk.blockFaults store
 
 -- ---- the verdict

@@ -5,10 +5,11 @@ use Rattle.arrays.specs.Tabulate.{tabulate}
 use Rattle.refusals.specs.declared.Refusal.{Refusal}
 use Rattle.sections.specs.Sections.{pointerAt}
 use Rattle.sections.specs.declared.Sections.{Sections}
-use Rattle.variables.specs.Variables.{variableAt, objectAt}
+use Rattle.variables.specs.Variables.{variableAt, objectAt, rowAt}
 use Rattle.variables.specs.declared.Variable.the-variants.{Integer, Pointer}
 use Rattle.variables.specs.declared.VariableRead.{VariableRead}
 use Rattle.variables.specs.declared.VariableRead.the-variants.{Read, Unread}
+use Rattle.variables.specs.declared.RowRead.{RowRead}
 use Rattle.table.specs.Form.{formOf}
 use Rattle.table.specs.declared.Form.{Form}
 use Rattle.table.specs.declared.Form.the-variants as form
@@ -16,12 +17,13 @@ use Rattle.blocks.specs.Tree.{tree}
 use Rattle.blocks.specs.Layout.{also, layout}
 use Rattle.rules.specs.FactSets.{FactSets}
 use Rattle.rules.specs.BoundsRules.{nothingKnown}
-use Rattle.rules.specs.Rules.{blockFaults}
+use Rattle.rules.specs.Rules.{newState, blockFaults}
 use Rattle.rules.specs.declared.KnownEnd.the-variants.{Known}
 use Rattle.rules.specs.declared.Bounds.{Bounds}
 use Rattle.rules.specs.declared.Environment.{Environment}
 use Rattle.rules.specs.declared.Verdict.{Verdict}
 use Rattle.rules.specs.declared.Verdict.the-variants.{Accepted, Refused}
+use Rattle.variables.specs.declared.RowRead.the-variants as row
 
 -- ---- what a table declares
 
@@ -30,20 +32,26 @@ boundsOf (Read (Pointer l u)) = record { lower = Known l; upper = Known u }
 boundsOf (Read Integer) = nothingKnown
 boundsOf Unread = nothingKnown
 
+-- Point 2: "bounds rows of six words, two ends each".
+abbrev pub rowBounds : RowRead → Bounds
+rowBounds (row.Read l u) = record { lower = Known l; upper = Known u }
+rowBounds row.Unread = nothingKnown
+
 unfoldable pub environmentOf : List ℤ → Sections → Environment
 environmentOf T h =
     record {
       pointers = tabulate 17 (pointerAt T h);
       declared = tabulate 16 (λ v. boundsOf (variableAt T h v));
       lengths = tabulate 16 (objectAt T h);
+      rows = tabulate 64 (λ r. rowBounds (rowAt T h r));
     }
 
 -- ---- the verdict
 
 module _ (S : FactSets) where
-  -- Cause 6, then the walk, begun with what is always known.
+  -- Cause 6, then the walk.
   unfoldable pub sectionFaults : List ℤ → Sections → List Refusal
-  sectionFaults T h = also (layout T h) (blockFaults S T h (environmentOf T h) (tree T h) (S .new))
+  sectionFaults T h = also (layout T h) (blockFaults S T h (environmentOf T h) (tree T h) (newState S))
 
   -- The first of the causes 1 to 5, else what follows them.
   abbrev pub formFaults : List ℤ → Form → List Refusal

@@ -3,13 +3,14 @@ use crate::Bounds;
 use crate::Environment;
 use crate::KnownEnd;
 use sections::Sections;
+use variables::RowRead;
 use variables::Variable;
 use variables::VariableRead;
 ghost use mathlib.Core.Path.{_≡_};
 ghost use Rattle.arrays.specs.Tabulate.{tabulate};
 ghost use Rattle.sections.specs.Sections.{pointerAt};
-ghost use Rattle.variables.specs.Variables.{variableAt, objectAt};
-ghost use Rattle.rules.specs.Verdict.{boundsOf, environmentOf};
+ghost use Rattle.variables.specs.Variables.{variableAt, rowAt, objectAt};
+ghost use Rattle.rules.specs.Verdict.{boundsOf, rowBounds, environmentOf};
 
 // The declared bounds of a variable; an integer has none.
 fn bounds_of(read: VariableRead) -> Bounds
@@ -28,6 +29,22 @@ fn bounds_of(read: VariableRead) -> Bounds
             lower: KnownEnd::Known(lower),
             upper: KnownEnd::Known(upper),
         },
+    }
+}
+
+// The bounds of a row.
+fn row_bounds(read: RowRead) -> Bounds
+    ensures { λ r. ⌜ r ≡ rowBounds read ⌝ }
+{
+    let RowRead::Read { lower, upper } = read else {
+        return Bounds {
+            lower: KnownEnd::Unknown,
+            upper: KnownEnd::Unknown,
+        };
+    };
+    Bounds {
+        lower: KnownEnd::Known(lower),
+        upper: KnownEnd::Known(upper),
     }
 }
 
@@ -65,6 +82,20 @@ fn read_lengths(table: &[i32], sections: Sections) -> [u64; 16]
     lengths
 }
 
+fn read_rows(table: &[i32], sections: Sections) -> [Bounds; 64]
+    ensures { λ r. ⌜ r ≡ tabulate 64 (λ v. rowBounds (rowAt (now (table .entry)) sections v)) ⌝ }
+{
+    let unknown = Bounds {
+        lower: KnownEnd::Unknown,
+        upper: KnownEnd::Unknown,
+    };
+    let mut rows = [unknown; 64];
+    for v in 0..64 {
+        rows[v] = row_bounds(variables::read_row(table, sections, v));
+    }
+    rows
+}
+
 pub fn read_environment(table: &[i32], sections: Sections) -> Environment
     ensures { λ r. ⌜ r ≡ environmentOf (now (table .entry)) sections ⌝ }
 {
@@ -72,5 +103,6 @@ pub fn read_environment(table: &[i32], sections: Sections) -> Environment
         pointers: read_pointers(table, sections),
         declared: read_declared(table, sections),
         lengths: read_lengths(table, sections),
+        rows: read_rows(table, sections),
     }
 }

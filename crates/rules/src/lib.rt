@@ -16,11 +16,13 @@ pub struct Bounds {
     pub upper: KnownEnd,
 }
 
-// What a table declares, read once: which variables are pointers, the declared bounds (unknown for an integer), the lengths of the objects.
+// What a table declares, read once: which variables are pointers, the declared bounds (unknown for an integer), the lengths of the objects, the
+// bounds rows (unknown where there is none).
 pub struct Environment {
     pub pointers: [bool; 17],
     pub declared: [Bounds; 16],
     pub lengths: [u64; 16],
+    pub rows: [Bounds; 64],
 }
 
 // What a statement does to known bounds.

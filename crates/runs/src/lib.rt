@@ -10,7 +10,7 @@ ghost use Rattle.runs.specs.BareRun.{SafeRun, bareRun, Ends};
 pub fn resume(
     table: &[i32],
     sections: Sections,
-    ends: &[u64],
+    ends: &mut [u64],
     directory: &[u32],
     successors: &[u32],
     first: usize,
@@ -20,7 +20,7 @@ pub fn resume(
 ) -> Outcome
     requires { ⌜ Prepared (now table) sections (now ends) (now directory) (now successors) (now values) ⌝ }
     requires { ⌜ SafeRun (now table) sections (now ends) (now directory) (now successors) limit first (now values) (now cells) ⌝ }
-    ensures { λ r. ⌜ Ends (bareRun (now (table .entry)) sections (now (ends .entry)) (now (directory .entry)) (now (successors .entry)) limit 0 first (now (values .entry)) (now (cells .entry))) r (now (values .exit)) (now (cells .exit)) ⌝ }
+    ensures { λ r. ⌜ Ends (bareRun (now (table .entry)) sections (now (ends .entry)) (now (directory .entry)) (now (successors .entry)) limit 0 first (now (values .entry)) (now (cells .entry))) r (now (ends .exit)) (now (values .exit)) (now (cells .exit)) ⌝ }
 {
     let mut at = first;
     let mut steps: u32 = 0;

@@ -9,9 +9,13 @@ use Rattle.words.specs.Words.{word}
 use Rattle.fields.specs.Fields.{plain}
 use Rattle.sections.specs.declared.Sections.{Sections}
 
+-- "The first offset is 6"; point 2: "A first offset of 8 means a fourth pair and section, after the statements: at most 64 bounds rows".
+unfoldable pub startRight : Sections → Bool
+startRight h = eqb (h .start) 6 && eqb (h .rows) 0 || eqb (h .start) 8 && leb (h .rows) 64
+
 -- "At most 16" objects, "1 to 16" variables, "at most 1,024" statements.
 unfoldable pub inLimits : Sections → Bool
-inLimits h = leb (h .objects) 16 && leb 1 (h .variables) && leb (h .variables) 16 && leb (h .statements) 1024
+inLimits h = leb (h .objects) 16 && leb 1 (h .variables) && leb (h .variables) 16 && leb (h .statements) 1024 && startRight h
 
 -- The same as facts.
 pub record Limits (h : Sections) : Type 0 where
@@ -19,16 +23,38 @@ pub record Limits (h : Sections) : Type 0 where
   pub some : 1 ≤ h .variables
   pub variables : h .variables ≤ 16
   pub statements : h .statements ≤ 1024
+  pub start : h .start ≤ 8
+  pub rows : h .rows ≤ 64
 
--- "Objects: one word each", "Variables: 8 words each", "Statements: 7 words each", the sections one after the other from word 6.
-abbrev pub objectStart : ℕ → ℕ
-objectStart o = 6 + o
+-- "Objects: one word each", "Variables: 8 words each", "Statements: 7 words each", "bounds rows of six words", the sections one after the other:
+-- where each section starts, and where the last one ends.
+abbrev pub objectsStart : Sections → ℕ
+objectsStart h = h .start
+
+abbrev pub variablesStart : Sections → ℕ
+variablesStart h = objectsStart h + h .objects
+
+abbrev pub statementsStart : Sections → ℕ
+statementsStart h = variablesStart h + 8 * h .variables
+
+abbrev pub rowsStart : Sections → ℕ
+rowsStart h = statementsStart h + 7 * h .statements
+
+abbrev pub tableEnd : Sections → ℕ
+tableEnd h = rowsStart h + 6 * h .rows
+
+-- Where a record starts.
+abbrev pub objectStart : Sections → ℕ → ℕ
+objectStart h o = objectsStart h + o
 
 abbrev pub variableStart : Sections → ℕ → ℕ
-variableStart h v = 6 + h .objects + 8 * v
+variableStart h v = variablesStart h + 8 * v
 
 abbrev pub statementStart : Sections → ℕ → ℕ
-statementStart h a = 6 + h .objects + 8 * h .variables + 7 * a
+statementStart h a = statementsStart h + 7 * a
+
+abbrev pub rowStart : Sections → ℕ → ℕ
+rowStart h r = rowsStart h + 6 * r
 
 -- Whether there is a variable of this number.
 unfoldable pub isVariable : Sections → ℕ → Bool

@@ -3,13 +3,23 @@ use fields::plain;
 use sums::BIAS;
 use words::word;
 ghost use mathlib.Core.Path.{_≡_};
-ghost use Rattle.sections.specs.Sections.{inLimits, isVariable, kindAt, integerAt, pointerAt, namesInteger, namesPointer, namesIndex};
+ghost use Rattle.sections.specs.Sections.{startRight, inLimits, isVariable, kindAt, integerAt, pointerAt, namesInteger, namesPointer, namesIndex};
 
-// How many items each section has. The offsets follow: objects at word 6, variables at 6 + objects, statements at 6 + objects + 8 * variables.
+// Where the first section starts (6, or 8 where there is a section of rows), and how many items each section has. The offsets follow: objects at word
+// start, variables at start + objects, statements at start + objects + 8 * variables, rows after 7 * statements more.
 pub struct Sections {
+    pub start: usize,
     pub objects: usize,
     pub variables: usize,
     pub statements: usize,
+    pub rows: usize,
+}
+
+// Six words and no row, or eight words and at most 64 rows.
+fn start_right(sections: Sections) -> bool
+    ensures { λ r. ⌜ r ≡ startRight sections ⌝ }
+{
+    ((sections.start == 6) & (sections.rows == 0)) | ((sections.start == 8) & (sections.rows <= 64))
 }
 
 pub fn in_limits(sections: Sections) -> bool
@@ -19,6 +29,7 @@ pub fn in_limits(sections: Sections) -> bool
         & (1 <= sections.variables)
         & (sections.variables <= 16)
         & (sections.statements <= 1024)
+        & start_right(sections)
 }
 
 fn is_variable(sections: Sections, v: usize) -> bool
@@ -32,7 +43,7 @@ fn kind_at(table: &[i32], sections: Sections, v: usize) -> u64
     ensures { λ r. ⌜ r ≡ kindAt (now (table .entry)) sections v ⌝ }
 {
     if is_variable(sections, v) {
-        return word(table, 6 + sections.objects + 8 * v);
+        return word(table, sections.start + sections.objects + 8 * v);
     }
     BIAS + 2
 }

@@ -17,7 +17,7 @@ use Rattle.sections.specs.declared.Sections.{Sections}
 use Rattle.conditions.specs.Conditions.{conditionRight}
 use Rattle.conditions.specs.ConditionLaws.{condition-typed}
 use Rattle.conditions.specs.declared.Condition.{Condition}
-use Rattle.statements.specs.Statements.{readIf, unusedFrom, literalRead, addConstantRead, arithmeticRead, nullRead, addressRead, pointerOffsetRead, pointerIndexRead, loadRead, storeRead, checkRead, ifRead, whileRead, bundleRead, kindRead, statementAt}
+use Rattle.statements.specs.Statements.{readIf, unusedFrom, literalRead, addConstantRead, arithmeticRead, nullRead, addressRead, pointerOffsetRead, pointerIndexRead, loadRead, storeRead, checkRead, ifRead, whileRead, bundleRead, kindRead, statementAt, declareRead}
 use Rattle.statements.specs.Typed.{WellTyped}
 use Rattle.statements.specs.declared.Statement.{Statement}
 use Rattle.statements.specs.declared.Statement.the-variants.{If, While, Bundle}
@@ -115,6 +115,12 @@ module _ (table : List ℤ) (h : Sections) where
     unfolding checkRead
     check-typed = typed₂ (conditionRight table h f) (unusedFrom 5 f) _ (λ a b. condition-typed table h f a)
 
+    declare-typed : TypedRead (declareRead table h f)
+    unfolding declareRead
+    declare-typed =
+        typed₃ (names-pointer (f .first)) (isBelow (h .rows) (f .second)) (unusedFrom 3 f) _
+        (λ a b c. record { pointer = pointer-named table h (f .first) a; row = below-holds (h .rows) (f .second) b })
+
     if-typed : TypedRead (ifRead table h f)
     unfolding ifRead
     if-typed =
@@ -149,7 +155,8 @@ module _ (table : List ℤ) (h : Sections) where
         (typed-pick (is 10) (checkRead table h f) _ check-typed
         (typed-pick (is 11) (ifRead table h f) _ if-typed
         (typed-pick (is 12) (whileRead table h f) _ while-typed
-        (typed-pick (is 13) (bundleRead f) Unread bundle-typed tt))))))))))))
+        (typed-pick (is 13) (bundleRead f) _ bundle-typed
+        (typed-pick (is 14) (declareRead table h f) Unread declare-typed tt)))))))))))))
 
   statement-typed : (a : ℕ) → TypedRead (statementAt table h a)
   unfolding statementAt

@@ -1,6 +1,6 @@
 -- What a statement record reads as: "7 words each: kind and six fields, unused fields 0".
 use Prim.Native.Nat.{ℕ, _^_}
-use mathlib.Core.Bool.{Bool, true, false, _&&_, _||_, cond}
+use mathlib.Core.Bool.{Bool, _&&_, _||_, cond}
 use mathlib.Core.List.{List}
 use lib.IntN.{ℤ}
 use lib.Dec.{ltb, eqb}
@@ -10,7 +10,7 @@ use Rattle.fields.specs.Fields.{plain, indexOf, literalValue, isZero, isBelow, 
 use Rattle.sections.specs.Sections.{inLimits, statementStart, namesInteger, namesPointer, namesIndex}
 use Rattle.sections.specs.declared.Sections.{Sections}
 use Rattle.conditions.specs.Conditions.{conditionRight, conditionOf}
-use Rattle.statements.specs.declared.Simple.the-variants.{Literal, AddConstant, Arithmetic, Null, Address, PointerOffset, PointerIndex, Load, Store, Check}
+use Rattle.statements.specs.declared.Simple.the-variants.{Literal, AddConstant, Arithmetic, Null, Address, PointerOffset, PointerIndex, Load, Store, Check, Declare}
 use Rattle.statements.specs.declared.Statement.{Statement}
 use Rattle.statements.specs.declared.Statement.the-variants.{Plain, If, While, Bundle}
 use Rattle.statements.specs.declared.StatementRead.{StatementRead}
@@ -81,6 +81,11 @@ module _ (table : List ℤ) (h : Sections) where
   unfoldable pub checkRead : Fields → StatementRead
   checkRead f = readIf (conditionRight table h f && unusedFrom 5 f) (Plain (Check (conditionOf f)))
 
+  -- Point 2: "Kind 14 names a pointer and a row"
+  unfoldable pub declareRead : Fields → StatementRead
+  declareRead f =
+      readIf (namesPointer table h (f .first) && isBelow (h .rows) (f .second) && unusedFrom 3 f) (Plain (Declare (plain (f .first)) (plain (f .second))))
+
   -- "11. if: condition, count of the then block, count of the else block"
   unfoldable pub ifRead : Fields → StatementRead
   ifRead f = readIf (conditionRight table h f && isCount (f .fifth) && isCount (f .sixth)) (If (conditionOf f) (plain (f .fifth)) (plain (f .sixth)))
@@ -93,7 +98,7 @@ module _ (table : List ℤ) (h : Sections) where
 unfoldable pub bundleRead : Fields → StatementRead
 bundleRead f = readIf (ltb (plain (f .first)) (2 ^ 31) && unusedFrom 2 f) (Bundle (plain (f .first)))
 
--- The kinds by their number, 1 to 13.
+-- The kinds by their number, 1 to 14.
 unfoldable pub kindRead : List ℤ → Sections → Fields → StatementRead
 kindRead table h f =
     let kind = plain (f .kind) in
@@ -109,7 +114,8 @@ kindRead table h f =
     (cond (eqb kind 10) (checkRead table h f)
     (cond (eqb kind 11) (ifRead table h f)
     (cond (eqb kind 12) (whileRead table h f)
-    (cond (eqb kind 13) (bundleRead f) Unread))))))))))))
+    (cond (eqb kind 13) (bundleRead f)
+    (cond (eqb kind 14) (declareRead table h f) Unread)))))))))))))
 
 -- The statement of a number; a number that no statement has does not read.
 unfoldable pub statementAt : List ℤ → Sections → ℕ → StatementRead

@@ -8,7 +8,7 @@ use Rattle.sections.specs.declared.Sections.{Sections}
 use Rattle.conditions.specs.Typed.{ConditionTyped}
 use Rattle.conditions.specs.declared.Condition.{Condition}
 use Rattle.statements.specs.declared.Simple.{Simple}
-use Rattle.statements.specs.declared.Simple.the-variants.{Literal, AddConstant, Arithmetic, Null, Address, PointerOffset, PointerIndex, Load, Store, Check}
+use Rattle.statements.specs.declared.Simple.the-variants.{Literal, AddConstant, Arithmetic, Null, Address, PointerOffset, PointerIndex, Load, Store, Check, Declare}
 use Rattle.statements.specs.declared.Statement.{Statement}
 use Rattle.statements.specs.declared.Statement.the-variants.{Plain, If, While, Bundle}
 
@@ -49,6 +49,10 @@ module _ (table : List ℤ) (h : Sections) where
     pub index : IsIndex table h i
     pub constant : IsSmall k
 
+  pub record DeclareTyped (p r : ℕ) : Type 0 where
+    pub pointer : IsPointer table h p
+    pub row : r < h .rows
+
   pub record IfTyped (c : Condition) (n m : ℕ) : Type 0 where
     pub condition : ConditionTyped table h c
     pub then-count : n < 2 ^ 31
@@ -69,6 +73,7 @@ module _ (table : List ℤ) (h : Sections) where
   SimpleTyped (Load x p i k) = AccessTyped x p i k
   SimpleTyped (Store p i k x) = AccessTyped x p i k
   SimpleTyped (Check c) = ConditionTyped table h c
+  SimpleTyped (Declare p r) = DeclareTyped p r
 
   abbrev pub WellTyped : Statement → Type 0
   WellTyped (Plain s) = SimpleTyped s

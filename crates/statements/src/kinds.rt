@@ -17,7 +17,7 @@ use sections::names_integer;
 use sections::names_pointer;
 use words::Fields;
 ghost use mathlib.Core.Path.{_≡_};
-ghost use Rattle.statements.specs.Statements.{unusedFrom, literalRead, addConstantRead, arithmeticRead, nullRead, addressRead, pointerOffsetRead, pointerIndexRead, loadRead, storeRead, checkRead, ifRead, whileRead, bundleRead, kindRead};
+ghost use Rattle.statements.specs.Statements.{unusedFrom, literalRead, addConstantRead, arithmeticRead, nullRead, addressRead, pointerOffsetRead, pointerIndexRead, loadRead, storeRead, checkRead, ifRead, whileRead, bundleRead, declareRead, kindRead};
 
 // Each field from number n on is 0. Every kind uses the first.
 fn unused_from(n: usize, f: Fields) -> bool
@@ -236,6 +236,22 @@ fn read_bundle(f: Fields) -> StatementRead
     StatementRead::Unread
 }
 
+// Kind 14: bounds declared at a statement. The row is one of the table's.
+fn read_declare(table: &[i32], sections: Sections, f: Fields) -> StatementRead
+    ensures { λ r. ⌜ r ≡ declareRead (now (table .entry)) sections f ⌝ }
+{
+    if names_pointer(table, sections, f.first)
+        & is_below(sections.rows, f.second)
+        & unused_from(3, f)
+    {
+        return StatementRead::Read(Statement::Plain(Simple::Declare {
+            pointer: plain(f.first),
+            row: plain(f.second),
+        }));
+    }
+    StatementRead::Unread
+}
+
 pub(crate) fn read_kind(table: &[i32], sections: Sections, f: Fields) -> StatementRead
     ensures { λ r. ⌜ r ≡ kindRead (now (table .entry)) sections f ⌝ }
 {
@@ -254,6 +270,7 @@ pub(crate) fn read_kind(table: &[i32], sections: Sections, f: Fields) -> Stateme
         11 => read_if(table, sections, f),
         12 => read_while(table, sections, f),
         13 => read_bundle(f),
+        14 => read_declare(table, sections, f),
         _ => StatementRead::Unread,
     }
 }

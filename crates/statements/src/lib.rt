@@ -9,7 +9,7 @@ use words::fields_at;
 ghost use mathlib.Core.Path.{_≡_};
 ghost use Rattle.statements.specs.Statements.{statementAt};
 
-// Kinds 1 to 10, in this order. Literals are plain numbers, constants are biased. A missing index is 16.
+// Kinds 1 to 10 and 14, in this order. Literals are plain numbers, constants are biased. A missing index is 16.
 pub enum Simple {
     Literal {
         target: usize,
@@ -58,9 +58,13 @@ pub enum Simple {
     Check {
         condition: Condition,
     },
+    Declare {
+        pointer: usize,
+        row: usize,
+    },
 }
 
-// The thirteen kinds. A bundle holds kinds 1 to 10 only, so these have a type of their own.
+// The fourteen kinds. A bundle holds kinds 1 to 10 and 14 only, so these have a type of their own.
 pub enum Statement {
     Plain(Simple),
     If {
@@ -87,7 +91,7 @@ pub fn read_statement(table: &[i32], sections: Sections, at: usize) -> Statement
     ensures { λ r. ⌜ r ≡ statementAt (now (table .entry)) sections at ⌝ }
 {
     if in_limits(sections) & (at < sections.statements) {
-        let start = 6 + sections.objects + 8 * sections.variables + 7 * at;
+        let start = sections.start + sections.objects + 8 * sections.variables + 7 * at;
         return read_kind(table, sections, fields_at(table, start));
     }
     StatementRead::Unread

@@ -10,10 +10,10 @@ use lib.ListN.{getD, set}
 use Rattle.sums.specs.Numbers.{bias, maxValue}
 use Rattle.conditions.specs.declared.Condition.{Condition}
 use Rattle.statements.specs.declared.Simple.{Simple}
-use Rattle.statements.specs.declared.Simple.the-variants.{Literal, AddConstant, Arithmetic, Null, Address, PointerOffset, PointerIndex, Load, Store, Check as Test}
+use Rattle.statements.specs.declared.Simple.the-variants.{Literal, AddConstant, Arithmetic, Null, Address, PointerOffset, PointerIndex, Load, Store, Check as Test, Declare}
 use Rattle.machine.specs.Machine.{value, address, conditionHolds, Failing, none, fails, firstOf, failing, accessFailing, arithmeticFailing, combined}
 use Rattle.checks.specs.Checked.{declaredIn, stepUnless}
-use Rattle.steps.specs.Bare.{offsetFailing, indexFailing, changedUnless, valuesAfter, cellsAfter, simpleMove, Moves, Assigns}
+use Rattle.steps.specs.Bare.{offsetFailing, indexFailing, changedUnless, valuesAfter, cellsAfter, simpleMove, Moves, Assigns, copied, endsAfter}
 use Rattle.stops.specs.declared.Check.{Check}
 use Rattle.checks.specs.declared.Step.{Step}
 use Rattle.checks.specs.declared.Step.the-variants.{Go, Stop}
@@ -81,49 +81,53 @@ module _ (a n p q : ℕ) (vs : List ℕ) where
 -- ---- the kinds
 
 module _ (W D : List ℕ) (a n : ℕ) (vs cs : List ℕ) where
-  pub move-as : {s t : Simple} {r : Step} {ws ds : List ℕ} → s ≡ t → Moves (simpleMove W D t a n vs cs) r ws ds → Moves (simpleMove W D s a n vs cs) r ws ds
+  pub move-as : {s t : Simple} {r : Step} {W′ ws ds : List ℕ} → s ≡ t → Moves (simpleMove W D t a n vs cs) r W′ ws ds → Moves (simpleMove W D s a n vs cs) r W′ ws ds
   move-as e m = rw e m
 
-  pub moves-literal : (x k : ℕ) → Moves (simpleMove W D (Literal x k) a n vs cs) (Go n) (set vs x k) cs
-  unfolding simpleMove failing stepUnless changedUnless valuesAfter cellsAfter
-  moves-literal x k = record { said = refl; values = refl; cells = refl }
+  pub moves-literal : (x k : ℕ) → Moves (simpleMove W D (Literal x k) a n vs cs) (Go n) W (set vs x k) cs
+  unfolding simpleMove failing stepUnless changedUnless valuesAfter cellsAfter endsAfter
+  moves-literal x k = record { said = refl; ends = refl; values = refl; cells = refl }
 
-  pub moves-add-constant : (x y k w : ℕ) → w ≡ (value vs y + k) % 2 ^ 32 → Moves (simpleMove W D (AddConstant x y k) a n vs cs) (Go n) (set vs x w) cs
-  unfolding simpleMove failing stepUnless changedUnless valuesAfter cellsAfter
-  moves-add-constant x y k w e = record { said = refl; values = ap (set vs x) e; cells = refl }
+  pub moves-add-constant : (x y k w : ℕ) → w ≡ (value vs y + k) % 2 ^ 32 → Moves (simpleMove W D (AddConstant x y k) a n vs cs) (Go n) W (set vs x w) cs
+  unfolding simpleMove failing stepUnless changedUnless valuesAfter cellsAfter endsAfter
+  moves-add-constant x y k w e = record { said = refl; ends = refl; values = ap (set vs x) e; cells = refl }
 
-  pub moves-arithmetic : (x y z op w : ℕ) → w ≡ combined op (value vs y) (value vs z) → Moves (simpleMove W D (Arithmetic x y z op) a n vs cs) (Go n) (set vs x w) cs
-  unfolding simpleMove failing stepUnless changedUnless valuesAfter cellsAfter
-  moves-arithmetic x y z op w e = record { said = refl; values = ap (set vs x) e; cells = refl }
+  pub moves-arithmetic : (x y z op w : ℕ) → w ≡ combined op (value vs y) (value vs z) → Moves (simpleMove W D (Arithmetic x y z op) a n vs cs) (Go n) W (set vs x w) cs
+  unfolding simpleMove failing stepUnless changedUnless valuesAfter cellsAfter endsAfter
+  moves-arithmetic x y z op w e = record { said = refl; ends = refl; values = ap (set vs x) e; cells = refl }
 
-  pub moves-null : (p : ℕ) → Moves (simpleMove W D (Null p) a n vs cs) (Go n) (set vs p 0) cs
-  unfolding simpleMove failing stepUnless changedUnless valuesAfter cellsAfter
-  moves-null p = record { said = refl; values = refl; cells = refl }
+  pub moves-null : (p : ℕ) → Moves (simpleMove W D (Null p) a n vs cs) (Go n) W (set vs p 0) cs
+  unfolding simpleMove failing stepUnless changedUnless valuesAfter cellsAfter endsAfter
+  moves-null p = record { said = refl; ends = refl; values = refl; cells = refl }
 
-  pub moves-address : (p o : ℕ) → Moves (simpleMove W D (Address p o) a n vs cs) (Go n) (set vs p (getD D (2 * o) 0)) cs
-  unfolding simpleMove failing stepUnless changedUnless valuesAfter cellsAfter
-  moves-address p o = record { said = refl; values = refl; cells = refl }
+  pub moves-address : (p o : ℕ) → Moves (simpleMove W D (Address p o) a n vs cs) (Go n) W (set vs p (getD D (2 * o) 0)) cs
+  unfolding simpleMove failing stepUnless changedUnless valuesAfter cellsAfter endsAfter
+  moves-address p o = record { said = refl; ends = refl; values = refl; cells = refl }
 
-  pub moves-offset : (p q k : ℕ) (r : Step) (ws : List ℕ) → Assigns (offsetFailing vs q k) a n p (value vs q + k - bias) vs r ws → Moves (simpleMove W D (PointerOffset p q k) a n vs cs) r ws cs
-  unfolding simpleMove failing valuesAfter cellsAfter
-  moves-offset p q k r ws m = record { said = m .said; values = m .buffer; cells = unchanged _ cs }
+  pub moves-offset : (p q k : ℕ) (r : Step) (ws : List ℕ) → Assigns (offsetFailing vs q k) a n p (value vs q + k - bias) vs r ws → Moves (simpleMove W D (PointerOffset p q k) a n vs cs) r W ws cs
+  unfolding simpleMove failing valuesAfter cellsAfter endsAfter
+  moves-offset p q k r ws m = record { said = m .said; ends = unchanged _ W; values = m .buffer; cells = unchanged _ cs }
 
-  pub moves-index : (p q i : ℕ) (r : Step) (ws : List ℕ) → Assigns (indexFailing vs q i) a n p (value vs q + value vs i) vs r ws → Moves (simpleMove W D (PointerIndex p q i) a n vs cs) r ws cs
-  unfolding simpleMove failing valuesAfter cellsAfter
-  moves-index p q i r ws m = record { said = m .said; values = m .buffer; cells = unchanged _ cs }
+  pub moves-index : (p q i : ℕ) (r : Step) (ws : List ℕ) → Assigns (indexFailing vs q i) a n p (value vs q + value vs i) vs r ws → Moves (simpleMove W D (PointerIndex p q i) a n vs cs) r W ws cs
+  unfolding simpleMove failing valuesAfter cellsAfter endsAfter
+  moves-index p q i r ws m = record { said = m .said; ends = unchanged _ W; values = m .buffer; cells = unchanged _ cs }
 
   pub moves-load : (x p i k : ℕ) (r : Step) (ws : List ℕ) →
       Assigns (accessFailing (declaredIn W) vs p (address vs p i k)) a n x (getD cs (address vs p i k - bias) 0) vs r ws →
-      Moves (simpleMove W D (Load x p i k) a n vs cs) r ws cs
-  unfolding simpleMove failing valuesAfter cellsAfter
-  moves-load x p i k r ws m = record { said = m .said; values = m .buffer; cells = unchanged _ cs }
+      Moves (simpleMove W D (Load x p i k) a n vs cs) r W ws cs
+  unfolding simpleMove failing valuesAfter cellsAfter endsAfter
+  moves-load x p i k r ws m = record { said = m .said; ends = unchanged _ W; values = m .buffer; cells = unchanged _ cs }
 
   pub moves-store : (p i k x : ℕ) (r : Step) (ds : List ℕ) →
       Assigns (accessFailing (declaredIn W) vs p (address vs p i k)) a n (address vs p i k - bias) (value vs x) cs r ds →
-      Moves (simpleMove W D (Store p i k x) a n vs cs) r vs ds
-  unfolding simpleMove failing valuesAfter cellsAfter
-  moves-store p i k x r ds m = record { said = m .said; values = unchanged _ vs; cells = m .buffer }
+      Moves (simpleMove W D (Store p i k x) a n vs cs) r W vs ds
+  unfolding simpleMove failing valuesAfter cellsAfter endsAfter
+  moves-store p i k x r ds m = record { said = m .said; ends = unchanged _ W; values = unchanged _ vs; cells = m .buffer }
 
-  pub moves-check : (c : Condition) (r : Step) → r ≡ stepUnless (firstOf (not (conditionHolds vs c)) 1 none) a n → Moves (simpleMove W D (Test c) a n vs cs) r vs cs
-  unfolding simpleMove failing valuesAfter cellsAfter
-  moves-check c r e = record { said = e; values = unchanged _ vs; cells = unchanged _ cs }
+  pub moves-check : (c : Condition) (r : Step) → r ≡ stepUnless (firstOf (not (conditionHolds vs c)) 1 none) a n → Moves (simpleMove W D (Test c) a n vs cs) r W vs cs
+  unfolding simpleMove failing valuesAfter cellsAfter endsAfter
+  moves-check c r e = record { said = e; ends = unchanged _ W; values = unchanged _ vs; cells = unchanged _ cs }
+
+  pub moves-declare : (p q : ℕ) (r : Step) (W′ : List ℕ) → (r ≡ Go n) × (W′ ≡ copied 6 p q W) → Moves (simpleMove W D (Declare p q) a n vs cs) r W′ vs cs
+  unfolding simpleMove failing stepUnless changedUnless valuesAfter cellsAfter endsAfter
+  moves-declare p q r W′ e = record { said = e .0; ends = e .1; values = refl; cells = refl }

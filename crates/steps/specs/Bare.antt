@@ -1,16 +1,17 @@
 -- A step of the plain machine without origins, which is what the code does.
 use mathlib.Core.Bool.{cond}
-use Prim.Native.Nat.{ℕ, _+_, _-_, _*_, _%_, _^_, _<_, _≤_}
+use Prim.Native.Nat.{ℕ, _+_, _-_, _*_, _%_, _^_, _<_, _≤_, zero, suc}
 use mathlib.Core.Path.{_≡_}
 use mathlib.Core.List.{List}
 use lib.Dec.{eqb}
 use lib.IntN.{ℤ}
 use lib.ListN.{length, getD, set}
 use Rattle.sums.specs.Numbers.{bias}
+use Rattle.sections.specs.Sections.{statementStart}
 use Rattle.sections.specs.declared.Sections.{Sections}
 use Rattle.statements.specs.Statements.{statementAt}
 use Rattle.statements.specs.declared.Simple.{Simple}
-use Rattle.statements.specs.declared.Simple.the-variants.{Literal, AddConstant, Arithmetic, Null, Address, PointerOffset, PointerIndex, Load, Store, Check as Test}
+use Rattle.statements.specs.declared.Simple.the-variants.{Literal, AddConstant, Arithmetic, Null, Address, PointerOffset, PointerIndex, Load, Store, Check as Test, Declare}
 use Rattle.statements.specs.declared.Statement.{Statement}
 use Rattle.statements.specs.declared.Statement.the-variants.{Plain, If, While, Bundle}
 use Rattle.statements.specs.declared.StatementRead.the-variants.{Read}
@@ -35,6 +36,7 @@ valuesAfter D (PointerIndex p q i) vs cs = set vs p (value vs q + value vs i)
 valuesAfter D (Load x p i k) vs cs = set vs x (getD cs (address vs p i k - bias) 0)
 valuesAfter D (Store p i k x) vs cs = vs
 valuesAfter D (Test c) vs cs = vs
+valuesAfter D (Declare p r) vs cs = vs
 
 unfoldable pub cellsAfter : Simple → List ℕ → List ℕ → List ℕ
 cellsAfter (Literal x k) vs cs = cs
@@ -47,6 +49,26 @@ cellsAfter (PointerIndex p q i) vs cs = cs
 cellsAfter (Load x p i k) vs cs = cs
 cellsAfter (Store p i k x) vs cs = set cs (address vs p i k - bias) (value vs x)
 cellsAfter (Test c) vs cs = cs
+cellsAfter (Declare p r) vs cs = cs
+
+-- Point 2: the first n of the six numbers of the row r become those of the pointer p.
+unfoldable pub copied : ℕ → ℕ → ℕ → List ℕ → List ℕ
+copied zero p r W = W
+copied (suc n) p r W = set (copied n p r W) (6 * p + n) (getD W (96 + 6 * r + n) 0)
+
+-- The ends in force after a statement: "rows in force as laid-out ends".
+unfoldable pub endsAfter : Simple → List ℕ → List ℕ
+endsAfter (Literal x k) W = W
+endsAfter (AddConstant x y k) W = W
+endsAfter (Arithmetic x y z op) W = W
+endsAfter (Null p) W = W
+endsAfter (Address p o) W = W
+endsAfter (PointerOffset p q k) W = W
+endsAfter (PointerIndex p q i) W = W
+endsAfter (Load x p i k) W = W
+endsAfter (Store p i k x) W = W
+endsAfter (Test c) W = W
+endsAfter (Declare p r) W = copied 6 p r W
 
 -- ---- the checks of kinds 6 and 7, as in `failing`
 
@@ -58,14 +80,15 @@ indexFailing vs q i = arithmeticFailing (value vs q) (value vs q + value vs i + 
 
 -- ---- steps
 
--- What a step says, and the values and cells that it leaves.
+-- What a step says, and the ends in force, values and cells that it leaves.
 pub record Move : Type 0 where
   pub said : Step
+  pub ends : List ℕ
   pub values : List ℕ
   pub cells : List ℕ
 
-abbrev pub move : Step → List ℕ → List ℕ → Move
-move s vs cs = record { said = s; values = vs; cells = cs }
+abbrev pub move : Step → List ℕ → List ℕ → List ℕ → Move
+move s W vs cs = record { said = s; ends = W; values = vs; cells = cs }
 
 -- "The stopping statement changes nothing": a buffer before and after.
 unfoldable pub changedUnless : Failing → List ℕ → List ℕ → List ℕ
@@ -75,13 +98,13 @@ changedUnless (fails n) old new = old
 unfoldable pub simpleMove : List ℕ → List ℕ → Simple → ℕ → ℕ → List ℕ → List ℕ → Move
 simpleMove W D s a next vs cs =
     let f = failing (declaredIn W) vs s in
-    move (stepUnless f a next) (changedUnless f vs (valuesAfter D s vs cs)) (changedUnless f cs (cellsAfter s vs cs))
+    move (stepUnless f a next) (changedUnless f W (endsAfter s W)) (changedUnless f vs (valuesAfter D s vs cs)) (changedUnless f cs (cellsAfter s vs cs))
 
 unfoldable pub statementMove : List ℕ → List ℕ → Statement → ℕ → Successors → List ℕ → List ℕ → Move
 statementMove W D (Plain s) a n vs cs = simpleMove W D s a (n .next) vs cs
-statementMove W D (If c x y) a n vs cs = move (Go (cond (conditionHolds vs c) (n .next) (n .other))) vs cs
-statementMove W D (While c x) a n vs cs = move (Go (cond (conditionHolds vs c) (n .next) (n .other))) vs cs
-statementMove W D (Bundle x) a n vs cs = move (Go (n .next)) vs cs
+statementMove W D (If c x y) a n vs cs = move (Go (cond (conditionHolds vs c) (n .next) (n .other))) W vs cs
+statementMove W D (While c x) a n vs cs = move (Go (cond (conditionHolds vs c) (n .next) (n .other))) W vs cs
+statementMove W D (Bundle x) a n vs cs = move (Go (n .next)) W vs cs
 
 -- ---- what the code needs, so that no index is outside
 
@@ -100,6 +123,7 @@ InsideSimple W (PointerIndex p q i) vs cs = Unit {0}
 InsideSimple W (Load x p i k) vs cs = failing (declaredIn W) vs (Load x p i k) ≡ none → InCells (address vs p i k) cs
 InsideSimple W (Store p i k x) vs cs = failing (declaredIn W) vs (Store p i k x) ≡ none → InCells (address vs p i k) cs
 InsideSimple W (Test c) vs cs = Unit {0}
+InsideSimple W (Declare p r) vs cs = Unit {0}
 
 -- An access with no failing check is to a cell.
 abbrev pub Inside : List ℕ → Statement → List ℕ → List ℕ → Type 0
@@ -113,7 +137,7 @@ pub record Accessible (W : List ℕ) (x p i k : ℕ) (vs cs : List ℕ) : Type 0
   pub value : x < length vs
   pub pointer : p < 16
   pub constant : k < 2 ^ 34
-  pub ends : length W ≡ 96
+  pub ends : length W ≡ 480
   pub small : (n : ℕ) → getD W n 0 < 2 ^ 34
   pub inside : accessFailing (declaredIn W) vs p (address vs p i k) ≡ none → InCells (address vs p i k) cs
 
@@ -129,6 +153,7 @@ Operable W D (PointerIndex p q i) vs cs = (p < length vs) × (q < length vs) × 
 Operable W D (Load x p i k) vs cs = Accessible W x p i k vs cs
 Operable W D (Store p i k x) vs cs = Accessible W x p i k vs cs
 Operable W D (Test c) vs cs = c .offset < 2 ^ 32
+Operable W D (Declare p r) vs cs = (p < 16) × (r < 64) × (length W ≡ 480)
 
 -- The statement a reads, and its access is inside.
 pub record Ready (T : List ℤ) (h : Sections) (W : List ℕ) (a : ℕ) (vs cs : List ℕ) : Type 0 where
@@ -138,8 +163,8 @@ pub record Ready (T : List ℤ) (h : Sections) (W : List ℕ) (a : ℕ) (vs cs :
 
 -- The slices are long enough, and the ends small enough that no sum wraps.
 pub record Prepared (T : List ℤ) (h : Sections) (W D S vs : List ℕ) : Type 0 where
-  pub table : 6 + h .objects + 8 * h .variables + 7 * h .statements ≤ length T
-  pub ends : length W ≡ 96
+  pub table : statementStart h (h .statements) ≤ length T
+  pub ends : length W ≡ 480
   pub small : (i : ℕ) → getD W i 0 < 2 ^ 34
   pub directory : 2 * h .objects ≤ length D
   pub successors : 2 * h .statements ≤ length S
@@ -154,8 +179,9 @@ module _ (T : List ℤ) (h : Sections) (W D S : List ℕ) where
 -- ---- what the code gives back
 
 -- A step of the code is the move m.
-pub record Moves (m : Move) (r : Step) (vs cs : List ℕ) : Type 0 where
+pub record Moves (m : Move) (r : Step) (W vs cs : List ℕ) : Type 0 where
   pub said : r ≡ m .said
+  pub ends : W ≡ m .ends
   pub values : vs ≡ m .values
   pub cells : cs ≡ m .cells
 

@@ -14,7 +14,7 @@ use Rattle.statements.specs.Statements.{statementAt}
 use Rattle.statements.specs.Typed.{SimpleTyped, AccessTyped}
 use Rattle.statements.specs.StatementLaws.{read-typed, read-limits}
 use Rattle.statements.specs.declared.Simple.{Simple}
-use Rattle.statements.specs.declared.Simple.the-variants.{Literal, AddConstant, Arithmetic, Null, Address, PointerOffset, PointerIndex, Load, Store, Check as Test}
+use Rattle.statements.specs.declared.Simple.the-variants.{Literal, AddConstant, Arithmetic, Null, Address, PointerOffset, PointerIndex, Load, Store, Check as Test, Declare}
 use Rattle.statements.specs.declared.Statement.{Statement}
 use Rattle.statements.specs.declared.Statement.the-variants.{Plain, If, While, Bundle}
 use Rattle.statements.specs.declared.StatementRead.the-variants.{Read}
@@ -54,6 +54,7 @@ module _ (T : List ℤ) (h : Sections) (W D S vs cs : List ℕ) (few : Limits h)
   operable (Load x p i k) t n = accessible x p i k t n
   operable (Store p i k x) t n = accessible x p i k t n
   operable (Test c) t n = offset-small t
+  operable (Declare p r) t n = (omega (arith, t .pointer .below, few .variables), omega (arith, t .row, few .rows), P .ends)
 
 -- A statement that is ready.
 module _ (T : List ℤ) (h : Sections) (W : List ℕ) (a : ℕ) (vs cs : List ℕ) where
@@ -75,7 +76,7 @@ module _ (T : List ℤ) (h : Sections) (W : List ℕ) (a : ℕ) (vs cs : List �
 pub ready-start : {T : List ℤ} {h : Sections} {W D S vs cs : List ℕ} {a : ℕ} → Prepared T h W D S vs → Ready T h W a vs cs → decodeStart h a + 7 ≤ length T
 ready-start {T} {h} {W} {D} {S} {vs} {cs} {a} p r =
     let l = read-limits T h a (r .statement) (r .reads) in
-    omega (arith, p .table, l .0 .objects, l .0 .variables, l .0 .statements, l .1)
+    omega (arith, p .table, l .0 .start, l .0 .objects, l .0 .variables, l .0 .statements, l .1)
 
 -- A step whose statement is decoded as s.
 module _ (T : List ℤ) (h : Sections) (W D S : List ℕ) (a : ℕ) (vs cs : List ℕ) where
@@ -84,21 +85,21 @@ module _ (T : List ℤ) (h : Sections) (W D S : List ℕ) (a : ℕ) (vs cs : Lis
       let g = ready-reads T h W a vs cs (Plain s) r e in
       operable T h W D S vs cs (read-limits T h a (Plain s) (g .0) .0) p s (read-typed T h a (Plain s) (g .0)) (g .1)
 
-  pub bare-plain : (s : Simple) (n : ℕ) (r : Step) (ws ds : List ℕ) → decodedAt T h a ≡ Plain s → n ≡ getD S (2 * a) 0 →
-      Moves (simpleMove W D s a n vs cs) r ws ds → Moves (bareMove T h W D S a vs cs) r ws ds
+  pub bare-plain : (s : Simple) (n : ℕ) (r : Step) (W′ ws ds : List ℕ) → decodedAt T h a ≡ Plain s → n ≡ getD S (2 * a) 0 →
+      Moves (simpleMove W D s a n vs cs) r W′ ws ds → Moves (bareMove T h W D S a vs cs) r W′ ws ds
   unfolding bareMove statementMove
-  bare-plain s n r ws ds e g m = rw e (rw g at m)
+  bare-plain s n r W′ ws ds e g m = rw e (rw g at m)
 
   pub bare-if : (c : Condition) (x y b n o : ℕ) → decodedAt T h a ≡ If c x y → b ≡ cond (conditionHolds vs c) n o → n ≡ getD S (2 * a) 0 → o ≡ getD S (2 * a + 1) 0 →
-      Moves (bareMove T h W D S a vs cs) (Go b) vs cs
+      Moves (bareMove T h W D S a vs cs) (Go b) W vs cs
   unfolding bareMove statementMove
-  bare-if c x y b n o e g p q = rw e (record { said = ap Go (rw (p, q) at g); values = refl; cells = refl })
+  bare-if c x y b n o e g p q = rw e (record { said = ap Go (rw (p, q) at g); ends = refl; values = refl; cells = refl })
 
   pub bare-while : (c : Condition) (x b n o : ℕ) → decodedAt T h a ≡ While c x → b ≡ cond (conditionHolds vs c) n o → n ≡ getD S (2 * a) 0 → o ≡ getD S (2 * a + 1) 0 →
-      Moves (bareMove T h W D S a vs cs) (Go b) vs cs
+      Moves (bareMove T h W D S a vs cs) (Go b) W vs cs
   unfolding bareMove statementMove
-  bare-while c x b n o e g p q = rw e (record { said = ap Go (rw (p, q) at g); values = refl; cells = refl })
+  bare-while c x b n o e g p q = rw e (record { said = ap Go (rw (p, q) at g); ends = refl; values = refl; cells = refl })
 
-  pub bare-bundle : (x n : ℕ) → decodedAt T h a ≡ Bundle x → n ≡ getD S (2 * a) 0 → Moves (bareMove T h W D S a vs cs) (Go n) vs cs
+  pub bare-bundle : (x n : ℕ) → decodedAt T h a ≡ Bundle x → n ≡ getD S (2 * a) 0 → Moves (bareMove T h W D S a vs cs) (Go n) W vs cs
   unfolding bareMove statementMove
-  bare-bundle x n e p = rw e (record { said = ap Go p; values = refl; cells = refl })
+  bare-bundle x n e p = rw e (record { said = ap Go p; ends = refl; values = refl; cells = refl })

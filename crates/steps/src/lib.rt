@@ -1,6 +1,6 @@
 // One step of a run: what it leaves, and the statement due after it.
 mod numbers; // numbers.rt: sums and products
-mod simple; // simple.rt: the step of kinds 1 to 10
+mod simple; // simple.rt: the step of kinds 1 to 10 and 14
 
 use checks::Step;
 use checks::condition_holds;
@@ -40,7 +40,7 @@ fn branch(values: &[u32], c: Condition, next: usize, other: usize) -> usize
 pub fn advance(
     table: &[i32],
     sections: Sections,
-    ends: &[u64],
+    ends: &mut [u64],
     directory: &[u32],
     successors: &[u32],
     at: usize,
@@ -49,7 +49,7 @@ pub fn advance(
 ) -> Step
     requires { ⌜ Prepared (now table) sections (now ends) (now directory) (now successors) (now values) ⌝ }
     requires { ⌜ Ready (now table) sections (now ends) at (now values) (now cells) ⌝ }
-    ensures { λ r. ⌜ Moves (bareMove (now (table .entry)) sections (now (ends .entry)) (now (directory .entry)) (now (successors .entry)) at (now (values .entry)) (now (cells .entry))) r (now (values .exit)) (now (cells .exit)) ⌝ }
+    ensures { λ r. ⌜ Moves (bareMove (now (table .entry)) sections (now (ends .entry)) (now (directory .entry)) (now (successors .entry)) at (now (values .entry)) (now (cells .entry))) r (now (ends .exit)) (now (values .exit)) (now (cells .exit)) ⌝ }
 {
     let next = successor(successors, 2 * at);
     let s = decode_statement(table, sections, at);

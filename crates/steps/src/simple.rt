@@ -1,4 +1,4 @@
-// The step of a statement of kinds 1 to 10.
+// The step of a statement of kinds 1 to 10 and 14.
 use crate::numbers::add_constant;
 use crate::numbers::combine;
 use checks::Step;
@@ -9,12 +9,14 @@ use machine::value_at;
 use machine::wide;
 use statements::Simple;
 use sums::BIAS;
+ghost use mathlib.Core.Path.{_≡_};
 ghost use Prim.Native.Nat.{_+_, _-_, _^_, _<_};
 ghost use lib.ListN.{length, getD};
 ghost use Rattle.sums.specs.Numbers.{bias};
 ghost use Rattle.machine.specs.Machine.{value, address, arithmeticFailing, accessFailing};
 ghost use Rattle.checks.specs.Checked.{declaredIn};
-ghost use Rattle.steps.specs.Bare.{offsetFailing, indexFailing, Accessible, Operable, simpleMove, Assigns, Moves};
+ghost use Rattle.checks.specs.declared.Step.the-variants.{Go};
+ghost use Rattle.steps.specs.Bare.{offsetFailing, indexFailing, copied, Accessible, Operable, simpleMove, Assigns, Moves};
 
 // Kinds 6 and 7: the target takes the sum, which has the bias, unless check 4 or 5 fails.
 fn assign_pointer(
@@ -123,9 +125,22 @@ fn store(
     said
 }
 
-// Kinds 1 to 10.
+// Kind 14: the six numbers of the row become those of the pointer.
+fn declare(ends: &mut [u64], next: usize, pointer: usize, row: usize) -> Step
+    requires { ⌜ (pointer < 16) × (row < 64) × (length (now ends) ≡ 480) ⌝ }
+    ensures { λ r. ⌜ (r ≡ Go next) × (now (ends .exit) ≡ copied 6 pointer row (now (ends .entry))) ⌝ }
+{
+    let mut j = 0;
+    while j < 6 {
+        ends[6 * pointer + j] = ends[96 + 6 * row + j];
+        j += 1;
+    }
+    Step::Go(next)
+}
+
+// Kinds 1 to 10 and 14.
 pub(crate) fn advance_simple(
-    ends: &[u64],
+    ends: &mut [u64],
     directory: &[u32],
     at: usize,
     next: usize,
@@ -134,7 +149,7 @@ pub(crate) fn advance_simple(
     cells: &mut [u32],
 ) -> Step
     requires { ⌜ Operable (now ends) (now directory) s (now values) (now cells) ⌝ }
-    ensures { λ r. ⌜ Moves (simpleMove (now (ends .entry)) (now (directory .entry)) s at next (now (values .entry)) (now (cells .entry))) r (now (values .exit)) (now (cells .exit)) ⌝ }
+    ensures { λ r. ⌜ Moves (simpleMove (now (ends .entry)) (now (directory .entry)) s at next (now (values .entry)) (now (cells .entry))) r (now (ends .exit)) (now (values .exit)) (now (cells .exit)) ⌝ }
 {
     match s {
         Simple::Literal { target, value } => {
@@ -209,5 +224,6 @@ pub(crate) fn advance_simple(
             cells,
         ),
         Simple::Check { condition } => check_condition(values, at, next, condition),
+        Simple::Declare { pointer, row } => declare(ends, next, pointer, row),
     }
 }

@@ -11,27 +11,31 @@ use native.Mathlib.Omega.{arith}
 use Rattle.refusals.specs.declared.Refusal.{Refusal}
 use Rattle.refusals.specs.declared.Refusal.the-variants.{Length, Directory, ObjectLength, VariableRecord, StatementRecord}
 use Rattle.words.specs.Words.{word}
-use Rattle.sections.specs.Sections.{inLimits, Limits}
+use Rattle.sections.specs.Sections.{inLimits, Limits, variablesStart, statementsStart, tableEnd}
 use Rattle.sections.specs.SectionsLaws.{both, limits}
 use Rattle.sections.specs.declared.Sections.{Sections}
 use Rattle.statements.specs.Statements.{statementAt}
 use Rattle.statements.specs.declared.Statement.{Statement}
 use Rattle.statements.specs.declared.StatementRead.{StatementRead}
 use Rattle.statements.specs.declared.StatementRead.the-variants as statement
-use Rattle.variables.specs.Variables.{variableAt, objectAt}
+use Rattle.variables.specs.Variables.{variableAt, objectAt, rowAt}
+use Rattle.variables.specs.declared.End.{End}
+use Rattle.variables.specs.declared.RowRead.{RowRead}
 use Rattle.variables.specs.declared.Variable.{Variable}
 use Rattle.variables.specs.declared.VariableRead.{VariableRead}
 use Rattle.variables.specs.declared.VariableRead.the-variants as variable
-use Rattle.table.specs.Form.{lengthRight, isNumber, sectionsOf, directoryRight, objectRight, isVariableRead, variableReads, isStatementRead, statementReads, lowestObject, lowestVariable, lowestStatement, itemsForm, formOf}
+use Rattle.table.specs.Form.{lengthRight, isNumber, sectionsOf, directoryRight, objectRight, isVariableRead, variableReads, isStatementRead, statementReads, lowestObject, lowestVariable, lowestStatement, itemsForm, formOf, fourthRight, isRowRead, rowReads, lowestRow}
 use Rattle.table.specs.Searches.{holds-below}
 use Rattle.table.specs.declared.Form.{Form}
 use Rattle.table.specs.declared.Form.the-variants.{WellFormed, Refused}
+use Rattle.variables.specs.declared.RowRead.the-variants as row
 
 pub record Formed (table : List ℤ) (h : Sections) : Type 0 where
   pub limits : Limits h
-  pub long : length table ≡ 6 + h .objects + 8 * h .variables + 7 * h .statements
+  pub long : length table ≡ tableEnd h
   pub objects : (o : ℕ) → o < h .objects → (1 ≤ objectAt table h o) × (objectAt table h o ≤ 1000000)
   pub variables : (v : ℕ) → v < h .variables → (x : Variable) × (variableAt table h v ≡ variable.Read x)
+  pub rows : (r : ℕ) → r < h .rows → (l u : End) × (rowAt table h r ≡ row.Read l u)
   pub statements : (a : ℕ) → a < h .statements → (s : Statement) × (statementAt table h a ≡ statement.Read s)
 
 -- The last of two forms is well formed, and the first is a refusal.
@@ -51,27 +55,37 @@ statement-read : (r : StatementRead) → isStatementRead r ≡ true → (s : Sta
 statement-read (statement.Read s) e = (s, refl)
 statement-read statement.Unread e = let z : _≡_ {A = ℕ} 0 1 = cc in absurd (omega arith)
 
+row-read : (r : RowRead) → isRowRead r ≡ true → (l u : End) × (r ≡ row.Read l u)
+row-read (row.Read l u) e = (l, u, refl)
+row-read row.Unread e = let z : _≡_ {A = ℕ} 0 1 = cc in absurd (omega arith)
+
 object-length : (table : List ℤ) (h : Sections) (o : ℕ) → objectRight table h o ≡ true → (1 ≤ objectAt table h o) × (objectAt table h o ≤ 1000000)
 unfolding objectRight
 object-length table h o e =
     let p = both (leb 1 (objectAt table h o)) (leb (objectAt table h o) 1000000) e in
     (leb-true 1 (objectAt table h o) (p .0), leb-true (objectAt table h o) 1000000 (p .1))
 
+-- The first test of the directory.
+pub directory-limits : (table : List ℤ) (h : Sections) → directoryRight table h ≡ true → inLimits h ≡ true
+unfolding directoryRight
+directory-limits table h e = both (inLimits h) _ e .0
+
 -- The last test of the directory: the last section ends the table.
-directory-long : (table : List ℤ) (h : Sections) → directoryRight table h ≡ true → Limits h × (length table ≡ 6 + h .objects + 8 * h .variables + 7 * h .statements)
+directory-long : (table : List ℤ) (h : Sections) → directoryRight table h ≡ true → Limits h × (length table ≡ tableEnd h)
 unfolding directoryRight
 directory-long table h e =
-    let words = isNumber 6 (word table 0) && isNumber (h .objects) (word table 1) && isNumber (6 + h .objects) (word table 2) && isNumber (8 * h .variables) (word table 3) && isNumber (6 + h .objects + 8 * h .variables) (word table 4) && isNumber (7 * h .statements) (word table 5) in
-    let ends = eqb (length table) (6 + h .objects + 8 * h .variables + 7 * h .statements) in
+    let words = isNumber (h .start) (word table 0) && isNumber (h .objects) (word table 1) && isNumber (variablesStart h) (word table 2) && isNumber (8 * h .variables) (word table 3) && isNumber (statementsStart h) (word table 4) && isNumber (7 * h .statements) (word table 5) && fourthRight table h in
+    let ends = eqb (length table) (tableEnd h) in
     let p = both (inLimits h) (words && ends) e in
-    (limits h (p .0), eqb-true (length table) (6 + h .objects + 8 * h .variables + 7 * h .statements) (both words ends (p .1) .1))
+    (limits h (p .0), eqb-true (length table) (tableEnd h) (both words ends (p .1) .1))
 
 items-formed : (table : List ℤ) (g h : Sections) → directoryRight table g ≡ true → itemsForm table g ≡ WellFormed h → (g ≡ h) × Formed table g
-unfolding itemsForm lowestObject lowestVariable lowestStatement variableReads statementReads
+unfolding itemsForm lowestObject lowestVariable lowestRow lowestStatement variableReads rowReads statementReads
 items-formed table g h d e =
     let o = passes (ltb (lowestObject table g) (g .objects)) (ObjectLength (lowestObject table g)) _ h e in
     let v = passes (ltb (lowestVariable table g) (g .variables)) (VariableRecord (lowestVariable table g)) _ h (o .1) in
-    let s = passes (ltb (lowestStatement table g) (g .statements)) (StatementRecord (lowestStatement table g)) (WellFormed g) h (v .1) in
+    let w = passes (ltb (lowestRow table g) (g .rows)) (VariableRecord (g .variables + lowestRow table g)) _ h (v .1) in
+    let s = passes (ltb (lowestStatement table g) (g .statements)) (StatementRecord (lowestStatement table g)) (WellFormed g) h (w .1) in
     let same : WellFormed g ≡ WellFormed h = s .1 in
     let l = directory-long table g d in (
       cc,
@@ -80,6 +94,7 @@ items-formed table g h d e =
         long = l .1;
         objects = λ i b. object-length table g i (holds-below (objectRight table g) (g .objects) (ltb-false (lowestObject table g) (g .objects) (o .0)) i b);
         variables = λ i b. variable-read (variableAt table g i) (holds-below (variableReads table g) (g .variables) (ltb-false (lowestVariable table g) (g .variables) (v .0)) i b);
+        rows = λ i b. row-read (rowAt table g i) (holds-below (rowReads table g) (g .rows) (ltb-false (lowestRow table g) (g .rows) (w .0)) i b);
         statements = λ i b. statement-read (statementAt table g i) (holds-below (statementReads table g) (g .statements) (ltb-false (lowestStatement table g) (g .statements) (s .0)) i b);
       },
     )

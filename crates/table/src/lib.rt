@@ -6,23 +6,21 @@ use sections::in_limits;
 use statements::StatementRead;
 use statements::read_statement;
 use sums::BIAS;
+use variables::RowRead;
 use variables::VariableRead;
 use variables::read_object;
+use variables::read_row;
 use variables::read_variable;
 use words::word;
 ghost use mathlib.Core.Path.{_≡_};
-ghost use Rattle.table.specs.Form.{lengthRight, isNumber, sectionsOf, directoryRight, objectRight, variableReads, statementReads, lowestObject, lowestVariable, lowestStatement, itemsForm, formOf};
+ghost use mathlib.Core.Bool.{true};
+ghost use Rattle.sections.specs.Sections.{inLimits};
+ghost use Rattle.table.specs.Form.{isNumber, fourPairs, lengthRight, sectionsOf, fourthRight, directoryRight, objectRight, variableReads, rowReads, statementReads, lowestObject, lowestVariable, lowestRow, lowestStatement, itemsForm, formOf};
 
 // What causes 1 to 5 say of a table.
 pub enum Form {
     WellFormed(Sections),
     Refused(Refusal),
-}
-
-fn length_right(table: &[i32]) -> bool
-    ensures { λ r. ⌜ r ≡ lengthRight (now (table .entry)) ⌝ }
-{
-    (6 <= table.len()) & (table.len() <= 7318)
 }
 
 // The word is the number n.
@@ -32,17 +30,57 @@ fn is_number(n: usize, w: u64) -> bool
     (BIAS <= w) & (plain(w) == n)
 }
 
+// Whether there is a fourth pair, that of the rows.
+fn four_pairs(table: &[i32]) -> bool
+    ensures { λ r. ⌜ r ≡ fourPairs (now (table .entry)) ⌝ }
+{
+    is_number(8, word(table, 0))
+}
+
+fn length_right(table: &[i32]) -> bool
+    ensures { λ r. ⌜ r ≡ lengthRight (now (table .entry)) ⌝ }
+{
+    if four_pairs(table) {
+        return (6 <= table.len()) & (table.len() <= 7704);
+    }
+    (6 <= table.len()) & (table.len() <= 7318)
+}
+
 fn sections_of(table: &[i32]) -> Sections
     ensures { λ r. ⌜ r ≡ sectionsOf (now (table .entry)) ⌝ }
 {
+    let objects = plain(word(table, 1));
+    let variables = plain(word(table, 3)) / 8;
+    let statements = plain(word(table, 5)) / 7;
+    if four_pairs(table) {
+        return Sections {
+            start: 8,
+            objects: objects,
+            variables: variables,
+            statements: statements,
+            rows: plain(word(table, 7)) / 6,
+        };
+    }
     Sections {
-        objects: plain(word(table, 1)),
-        variables: plain(word(table, 3)) / 8,
-        statements: plain(word(table, 5)) / 7,
+        start: 6,
+        objects: objects,
+        variables: variables,
+        statements: statements,
+        rows: 0,
     }
 }
 
-// The six words are the ones that these sections have, and the last section ends the table.
+// The fourth pair is the one of these sections, where there is one.
+fn fourth_right(table: &[i32], sections: Sections) -> bool
+    requires { ⌜ inLimits sections ≡ true ⌝ }
+    ensures { λ r. ⌜ r ≡ fourthRight (now (table .entry)) sections ⌝ }
+{
+    let rows = sections.start + sections.objects + 8 * sections.variables + 7 * sections.statements;
+    (sections.start == 6)
+        | (is_number(rows, word(table, 6)) & is_number(6 * sections.rows, word(table, 7)))
+}
+
+// The pairs are the ones that these sections have, and the last section ends the table.
 fn directory_right(table: &[i32], sections: Sections) -> bool
     ensures { λ r. ⌜ r ≡ directoryRight (now (table .entry)) sections ⌝ }
 {
@@ -53,15 +91,16 @@ fn directory_right(table: &[i32], sections: Sections) -> bool
     let objects = sections.objects;
     let variables = 8 * sections.variables;
     let statements = 7 * sections.statements;
-    let second = 6 + objects;
+    let second = sections.start + objects;
     let third = second + variables;
-    let end = third + statements;
-    is_number(6, word(table, 0))
+    let end = third + statements + 6 * sections.rows;
+    is_number(sections.start, word(table, 0))
         & is_number(objects, word(table, 1))
         & is_number(second, word(table, 2))
         & is_number(variables, word(table, 3))
         & is_number(third, word(table, 4))
         & is_number(statements, word(table, 5))
+        & fourth_right(table, sections)
         & (table.len() == end)
 }
 
@@ -77,6 +116,16 @@ fn variable_reads(table: &[i32], sections: Sections, v: usize) -> bool
 {
     let read = read_variable(table, sections, v);
     let VariableRead::Read(_) = read else {
+        return false;
+    };
+    true
+}
+
+fn row_reads(table: &[i32], sections: Sections, r: usize) -> bool
+    ensures { λ x. ⌜ x ≡ rowReads (now (table .entry)) sections r ⌝ }
+{
+    let read = read_row(table, sections, r);
+    let RowRead::Read { lower: _, upper: _ } = read else {
         return false;
     };
     true
@@ -121,6 +170,20 @@ fn lowest_variable(table: &[i32], sections: Sections) -> usize
     i
 }
 
+fn lowest_row(table: &[i32], sections: Sections) -> usize
+    ensures { λ r. ⌜ r ≡ lowestRow (now (table .entry)) sections ⌝ }
+{
+    let n = sections.rows;
+    let mut i = 0;
+    while i < n {
+        if !row_reads(table, sections, i) {
+            return i;
+        }
+        i += 1;
+    }
+    i
+}
+
 fn lowest_statement(table: &[i32], sections: Sections) -> usize
     ensures { λ r. ⌜ r ≡ lowestStatement (now (table .entry)) sections ⌝ }
 {
@@ -137,6 +200,7 @@ fn lowest_statement(table: &[i32], sections: Sections) -> usize
 
 // Causes 3 to 5.
 fn items_form(table: &[i32], sections: Sections) -> Form
+    requires { ⌜ inLimits sections ≡ true ⌝ }
     ensures { λ r. ⌜ r ≡ itemsForm (now (table .entry)) sections ⌝ }
 {
     let object = lowest_object(table, sections);
@@ -146,6 +210,10 @@ fn items_form(table: &[i32], sections: Sections) -> Form
     let variable = lowest_variable(table, sections);
     if variable < sections.variables {
         return Form::Refused(Refusal::VariableRecord(variable));
+    }
+    let row = lowest_row(table, sections);
+    if row < sections.rows {
+        return Form::Refused(Refusal::VariableRecord(sections.variables + row));
     }
     let statement = lowest_statement(table, sections);
     if statement < sections.statements {

@@ -1,7 +1,7 @@
 -- Declared bounds that an effect touches: they have to be shown again.
 use Prim.Native.Nat.{ℕ, zero, suc, _+_}
 use mathlib.Core.Bool.{Bool, true, false, not, _&&_, _||_}
-use mathlib.Core.List.{List}
+use mathlib.Core.List.{List, []}
 use lib.ListN.{getD}
 use Rattle.arrays.specs.Tabulate.{tabulate}
 use Rattle.rules.specs.BoundsRules.{isPointer, declared}
@@ -9,6 +9,14 @@ use Rattle.rules.specs.declared.Environment.{Environment}
 use Rattle.rules.specs.declared.Effect.{Effect}
 use Rattle.rules.specs.declared.Effect.the-variants.{Forget}
 use Rattle.stays.specs.Stays.{stays, changedBy, replacedBy}
+use Rattle.touched.specs.declared.Seen.{Seen}
+
+-- What is seen, as an environment, and what is seen of one.
+abbrev pub seenAs : Seen → Environment
+seenAs s = record { pointers = s .pointers; declared = s .declared; lengths = []; rows = [] }
+
+abbrev pub seenOf : Environment → Seen
+seenOf E = record { pointers = E .pointers; declared = E .declared }
 
 -- The declared bounds of p have to be shown again after the effect.
 unfoldable pub touchedAt : Environment → Effect → ℕ → Bool

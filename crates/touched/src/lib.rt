@@ -1,23 +1,29 @@
 // Whether an effect touches declared bounds: only those have to be shown again.
 use lookups::is_pointer;
+use rules::Bounds;
 use rules::Effect;
-use rules::Environment;
 use stays::changed_by;
 use stays::left_alone;
 use stays::replaced_by;
 ghost use mathlib.Core.Path.{_≡_};
 ghost use mathlib.Core.Bool.{true, false};
 ghost use lib.ListN.{getD};
-ghost use Rattle.touched.specs.Touched.{touched, namedIn, touches};
+ghost use Rattle.touched.specs.Touched.{seenAs, touched, namedIn, touches};
 
-// For each variable, whether some pointer's declared bounds name it; for 17, whether some are not known. Made once, since an environment is large to pass.
+// What is asked for each statement: which variables are pointers, and the declared bounds in force. An environment, with its 64 rows, is large to pass.
+pub struct Seen {
+    pub pointers: [bool; 17],
+    pub declared: [Bounds; 16],
+}
+
+// For each variable, whether some pointer's declared bounds name it; for 17, whether some are not known.
 pub struct Named {
     pub each: [bool; 18],
 }
 
 // Some pointer's declared bounds have to be shown again after the effect; where none have, all stay shown with any facts.
-fn spoils(environment: Environment, effect: Effect) -> bool
-    ensures { λ r. ⌜ r ≡ touched environment effect ⌝ }
+fn spoils(environment: Seen, effect: Effect) -> bool
+    ensures { λ r. ⌜ r ≡ touched (seenAs environment) effect ⌝ }
 {
     let changed = changed_by(effect);
     let replaced = replaced_by(effect);
@@ -31,8 +37,8 @@ fn spoils(environment: Environment, effect: Effect) -> bool
     false
 }
 
-pub fn named_in(environment: Environment) -> Named
-    ensures { λ r. ⌜ r .each ≡ namedIn environment ⌝ }
+pub fn named_in(environment: Seen) -> Named
+    ensures { λ r. ⌜ r .each ≡ namedIn (seenAs environment) ⌝ }
 {
     let mut named = Named { each: [false; 18] };
     for v in 0..18 {

@@ -22,6 +22,11 @@ pub record PointerTyped (table : List ℤ) (h : Sections) (v : ℕ) (low high : 
   pub lower : EndTyped table h low
   pub upper : EndTyped table h high
 
+-- A row's ends.
+pub record RowTyped (table : List ℤ) (h : Sections) (low high : End) : Type 0 where
+  pub lower : EndTyped table h low
+  pub upper : EndTyped table h high
+
 abbrev pub VariableTyped : List ℤ → Sections → ℕ → Variable → Type 0
 VariableTyped table h v Integer = integerAt table h v ≡ true
 VariableTyped table h v (Pointer lower upper) = PointerTyped table h v lower upper

@@ -4,21 +4,24 @@ use mathlib.Core.Path.{_≡_, refl, ap, _∙_}
 use mathlib.Core.Bool.{Bool, true, false, _&&_, cond}
 use mathlib.Core.List.{List}
 use lib.IntN.{ℤ}
-use lib.Dec.{eqb}
+use lib.Dec.{eqb, ltb}
 use native.Mathlib.Omega.{arith}
 use Rattle.sums.specs.Numbers.{bias}
 use Rattle.fields.specs.Fields.{isZero, isConstant}
-use Rattle.sections.specs.Sections.{isVariable, variableStart, kindAt, integerAt, pointerAt, namesPointer, namesIndex, Limits}
+use Rattle.sections.specs.Sections.{isVariable, variableStart, kindAt, integerAt, pointerAt, namesPointer, namesIndex, Limits, inLimits, rowStart}
 use Rattle.sections.specs.SectionsLaws.{both, variable-limits}
 use Rattle.sections.specs.NameLaws.{constant-small, pointer-named, index-named}
 use Rattle.sections.specs.declared.Sections.{Sections}
-use Rattle.variables.specs.Variables.{variableWordsAt, endZero, endRight, endOf, integerRecord, pointerRecord, variableOf, variableAt}
-use Rattle.variables.specs.Typed.{EndTyped, PointerTyped, VariableTyped}
+use Rattle.variables.specs.Variables.{variableWordsAt, endZero, endRight, endOf, integerRecord, pointerRecord, variableOf, variableAt, rowWordsAt, rowOf, rowAt}
+use Rattle.variables.specs.Typed.{EndTyped, PointerTyped, VariableTyped, RowTyped}
 use Rattle.variables.specs.declared.Variable.{Variable}
 use Rattle.variables.specs.declared.Variable.the-variants.{Integer, Pointer}
 use Rattle.variables.specs.declared.VariableRead.{VariableRead}
 use Rattle.variables.specs.declared.VariableRead.the-variants.{Read, Unread}
+use Rattle.variables.specs.declared.RowRead.{RowRead}
 use Rattle.variables.specs.declared.EndWords.{EndWords}
+use Rattle.variables.specs.declared.End.{End}
+use Rattle.variables.specs.declared.RowRead.the-variants as row
 
 module _ (table : List ℤ) (h : Sections) where
   abbrev TypedRead : ℕ → VariableRead → Type 0
@@ -82,6 +85,28 @@ module _ (table : List ℤ) (h : Sections) where
       go false k = tt
 
 -- A variable that was read is an integer, or a pointer whose ends name existing variables of the right kinds with constants in range.
+-- A row that was read: what its ends name.
+module _ (table : List ℤ) (h : Sections) where
+  abbrev TypedRow : RowRead → Type 0
+  TypedRow (row.Read l u) = RowTyped table h l u
+  TypedRow row.Unread = Unit {0}
+
+  row-typed : (r : ℕ) → TypedRow (rowAt table h r)
+  unfolding rowAt rowOf
+  row-typed r =
+      let w = rowWordsAt table (rowStart h r) in
+      go (inLimits h && ltb r (h .rows)) (endRight table h (w .lower)) (endRight table h (w .upper)) (end-typed table h (w .lower)) (end-typed table h (w .upper))
+    where
+      go : (a b c : Bool) {l u : End} → (b ≡ true → EndTyped table h l) → (c ≡ true → EndTyped table h u)
+          → TypedRow (cond a (cond (b && c) (row.Read l u) row.Unread) row.Unread)
+      go true true true p q = record { lower = p refl; upper = q refl }
+      go true true false p q = tt
+      go true false c p q = tt
+      go false b c p q = tt
+
+pub row-read-typed : (table : List ℤ) (h : Sections) (r : ℕ) (l u : End) → rowAt table h r ≡ row.Read l u → RowTyped table h l u
+row-read-typed table h r l u e = rw e at (row-typed table h r)
+
 pub variable-read-typed : (table : List ℤ) (h : Sections) (v : ℕ) (x : Variable) → variableAt table h v ≡ Read x → VariableTyped table h v x
 variable-read-typed table h v x e = rw e at (variable-typed table h v)
 

@@ -1,20 +1,23 @@
 -- What the record of a variable reads as, and the length of an object.
 use Prim.Native.Nat.{ℕ, _+_}
-use mathlib.Core.Bool.{Bool, true, false, _&&_, cond}
+use mathlib.Core.Bool.{Bool, _&&_, cond}
 use mathlib.Core.List.{List}
 use lib.IntN.{ℤ}
 use lib.Dec.{ltb, eqb}
 use Rattle.sums.specs.Numbers.{bias}
 use Rattle.words.specs.Words.{word}
 use Rattle.fields.specs.Fields.{plain, indexOf, isZero, isConstant}
-use Rattle.sections.specs.Sections.{inLimits, isVariable, objectStart, variableStart, namesPointer, namesIndex}
+use Rattle.sections.specs.Sections.{inLimits, isVariable, objectStart, variableStart, namesPointer, namesIndex, rowStart}
 use Rattle.sections.specs.declared.Sections.{Sections}
 use Rattle.variables.specs.declared.End.{End}
 use Rattle.variables.specs.declared.Variable.the-variants.{Integer, Pointer}
 use Rattle.variables.specs.declared.VariableRead.{VariableRead}
 use Rattle.variables.specs.declared.VariableRead.the-variants.{Read, Unread}
+use Rattle.variables.specs.declared.RowRead.{RowRead}
 use Rattle.variables.specs.declared.EndWords.{EndWords}
+use Rattle.variables.specs.declared.RowWords.{RowWords}
 use Rattle.variables.specs.declared.VariableWords.{VariableWords}
+use Rattle.variables.specs.declared.RowRead.the-variants as row
 
 -- "An end is three words."
 unfoldable pub endWordsAt : List ℤ → ℕ → EndWords
@@ -49,6 +52,17 @@ variableOf table h w =
 unfoldable pub variableAt : List ℤ → Sections → ℕ → VariableRead
 variableAt table h v = cond (isVariable h v) (variableOf table h (variableWordsAt table (variableStart h v))) Unread
 
+-- Point 2: "bounds rows of six words, two ends each". Its ends are tested as a variable's are.
+unfoldable pub rowWordsAt : List ℤ → ℕ → RowWords
+rowWordsAt table i = record { lower = endWordsAt table i; upper = endWordsAt table (i + 3) }
+
+unfoldable pub rowOf : List ℤ → Sections → RowWords → RowRead
+rowOf table h w = cond (endRight table h (w .lower) && endRight table h (w .upper)) (row.Read (endOf (w .lower)) (endOf (w .upper))) row.Unread
+
+-- The row of a number; a number that no row has does not read.
+unfoldable pub rowAt : List ℤ → Sections → ℕ → RowRead
+rowAt table h r = cond (inLimits h && ltb r (h .rows)) (rowOf table h (rowWordsAt table (rowStart h r))) row.Unread
+
 -- "Objects: one word each, its length in cells": 0 for a negative word, and for a number that no object has.
 unfoldable pub objectAt : List ℤ → Sections → ℕ → ℕ
-objectAt table h o = cond (inLimits h && ltb o (h .objects)) (plain (word table (objectStart o))) 0
+objectAt table h o = cond (inLimits h && ltb o (h .objects)) (plain (word table (objectStart h o))) 0

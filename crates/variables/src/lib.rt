@@ -11,7 +11,7 @@ use sums::BIAS;
 use words::word;
 ghost use mathlib.Core.Path.{_≡_};
 ghost use Prim.Native.Nat.{_<_};
-ghost use Rattle.variables.specs.Variables.{endWordsAt, endRight, endZero, endOf, variableWordsAt, integerRecord, pointerRecord, variableOf, variableAt, objectAt};
+ghost use Rattle.variables.specs.Variables.{endWordsAt, endRight, endZero, endOf, variableWordsAt, integerRecord, pointerRecord, variableOf, variableAt, rowWordsAt, rowOf, rowAt, objectAt};
 
 // An end of declared bounds: pointer + integer + constant. A missing integer is 16, the number that stands for zero. The constant is biased.
 pub struct End {
@@ -30,6 +30,12 @@ pub enum VariableRead {
     Unread,
 }
 
+// A bounds row: the two ends that a kind 14 declares.
+pub enum RowRead {
+    Read { lower: End, upper: End },
+    Unread,
+}
+
 // The three words of an end.
 struct EndWords {
     pointer: u64,
@@ -41,6 +47,12 @@ struct EndWords {
 struct VariableWords {
     kind: u64,
     second: u64,
+    lower: EndWords,
+    upper: EndWords,
+}
+
+// The six words of a bounds row.
+struct RowWords {
     lower: EndWords,
     upper: EndWords,
 }
@@ -122,6 +134,43 @@ fn variable_of(table: &[i32], sections: Sections, w: VariableWords) -> VariableR
     VariableRead::Unread
 }
 
+fn row_words_at(table: &[i32], start: usize) -> RowWords
+    requires { ⌜ start < 65000 ⌝ }
+    ensures { λ r. ⌜ r ≡ rowWordsAt (now (table .entry)) start ⌝ }
+{
+    RowWords {
+        lower: end_words_at(table, start),
+        upper: end_words_at(table, start + 3),
+    }
+}
+
+fn row_of(table: &[i32], sections: Sections, w: RowWords) -> RowRead
+    ensures { λ r. ⌜ r ≡ rowOf (now (table .entry)) sections w ⌝ }
+{
+    if end_right(table, sections, w.lower) & end_right(table, sections, w.upper) {
+        return RowRead::Read {
+            lower: end_of(w.lower),
+            upper: end_of(w.upper),
+        };
+    }
+    RowRead::Unread
+}
+
+// The row of a number; a row that the sections do not have is unread.
+pub fn read_row(table: &[i32], sections: Sections, r: usize) -> RowRead
+    ensures { λ x. ⌜ x ≡ rowAt (now (table .entry)) sections r ⌝ }
+{
+    if in_limits(sections) & (r < sections.rows) {
+        let start = sections.start
+            + sections.objects
+            + 8 * sections.variables
+            + 7 * sections.statements
+            + 6 * r;
+        return row_of(table, sections, row_words_at(table, start));
+    }
+    RowRead::Unread
+}
+
 // The record of a variable; a variable that the sections do not have is unread.
 pub fn read_variable(table: &[i32], sections: Sections, v: usize) -> VariableRead
     ensures { λ r. ⌜ r ≡ variableAt (now (table .entry)) sections v ⌝ }
@@ -130,7 +179,7 @@ pub fn read_variable(table: &[i32], sections: Sections, v: usize) -> VariableRea
         return variable_of(
             table,
             sections,
-            variable_words_at(table, 6 + sections.objects + 8 * v),
+            variable_words_at(table, sections.start + sections.objects + 8 * v),
         );
     }
     VariableRead::Unread
@@ -141,7 +190,7 @@ pub fn read_object(table: &[i32], sections: Sections, o: usize) -> u64
     ensures { λ r. ⌜ r ≡ objectAt (now (table .entry)) sections o ⌝ }
 {
     if in_limits(sections) & (o < sections.objects) {
-        return plain(word(table, 6 + o)) as u64;
+        return plain(word(table, sections.start + o)) as u64;
     }
     0
 }

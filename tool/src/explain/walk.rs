@@ -1,7 +1,7 @@
 //! The second implementation's walk over a routine, looked on: what is known where it ends, and which statement moved or lost each end.
 
 use oracle::answer::CheckAnswer;
-use oracle::checker::{watch, Known, KnownBounds, Observer};
+use oracle::checker::{watch, Known, KnownBounds, Observer, Rows};
 use oracle::facts::Facts;
 use oracle::table::decode;
 
@@ -82,7 +82,7 @@ impl Recorder {
 }
 
 impl Observer for Recorder {
-    fn before(&mut self, statement: usize, facts: &Facts, known: &Known) {
+    fn before(&mut self, statement: usize, facts: &Facts, _: &Rows, known: &Known) {
         if statement >= self.bundle_end {
             self.changed.fill([None; 2]);
         }
@@ -96,7 +96,7 @@ impl Observer for Recorder {
         self.before = Some(moment);
     }
 
-    fn after(&mut self, statement: usize, facts: &Facts, known: &Known) {
+    fn after(&mut self, statement: usize, facts: &Facts, _: &Rows, known: &Known) {
         if !self.bundles[statement] {
             self.compare(statement, known);
         }

@@ -8,12 +8,13 @@ use Rattle.arrays.specs.TabulateLaws.{length-under}
 use Rattle.rules.specs.BoundsRules.{known}
 use Rattle.rules.specs.Stored.{boundsAfter}
 use Rattle.transfer.specs.TransferLaws.{source-below, effect-known}
+use Rattle.touched.specs.Touched.{seenAs}
 use Rattle.declared.specs.ShownLaws.{Passed, passed-none, passed-more, passed-missed, passed-all, unasked, asked-shown, asked-missed}
 use Rattle.declared.proofs.check_effect.Statement.{statement}
 use Rattle.declared.proofs.check_effect.Tie as tie
 
 abbrev Inv-loop : tie.InvT-loop
-Inv-loop facts effect at environment from source p₀ p = Passed environment facts (boundsAfter effect (environment .declared)) p
+Inv-loop facts effect at environment from source p₀ p = Passed (seenAs environment) facts (boundsAfter effect (environment .declared)) p
 
 abbrev μ-loop : tie.MeasureT-loop
 μ-loop facts effect at environment from source p₀ p = 16 - p

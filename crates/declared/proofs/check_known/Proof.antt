@@ -6,12 +6,13 @@ use mathlib.Core.Logic.{⊎-elim}
 use Rattle.arrays.specs.TabulateLaws.{length-under}
 use Rattle.rules.specs.BoundsRules.{known}
 use Rattle.stays.specs.StaysLaws.{stored, stored-known}
+use Rattle.touched.specs.Touched.{seenAs}
 use Rattle.declared.specs.ShownLaws.{Passed, passed-none, passed-more, passed-missed, passed-all, unasked, asked-shown, asked-missed}
 use Rattle.declared.proofs.check_known.Statement.{statement}
 use Rattle.declared.proofs.check_known.Tie as tie
 
 abbrev Inv-loop : tie.InvT-loop
-Inv-loop facts at environment known p₀ p = Passed environment facts (known .each) p
+Inv-loop facts at environment known p₀ p = Passed (seenAs environment) facts (known .each) p
 
 abbrev μ-loop : tie.MeasureT-loop
 μ-loop facts at environment known p₀ p = 16 - p

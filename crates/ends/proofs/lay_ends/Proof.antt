@@ -1,31 +1,27 @@
 -- `ends::lay_ends` meets its contract.
-use Prim.Native.Nat.{_-_, _/_, _%_}
-use mathlib.Core.Path.{_≡_, ap, _∙_}
-use native.Mathlib.Omega.{arith}
+use Prim.Native.Nat.{_-_}
+use mathlib.Core.Path.{_∙_}
 use borrow.Author.Needs.{needs}
-use lib.ListN.{length, getD}
-use Rattle.arrays.specs.TabulateLaws.{any-default, Filled, filled-none, filled-more, filled-whole, length-under}
-use Rattle.rules.specs.BoundsRules.{nothingKnown}
-use Rattle.rules.specs.declared.Bounds.{Bounds}
-use Rattle.ends.specs.Ends.{boundsNumber, endsOf}
+use Rattle.ends.specs.EndsLaws.{joined, ends-laid}
+use Rattle.arrays.specs.TabulateLaws.{Filled, filled-none, filled-more, filled-whole}
 use Rattle.ends.proofs.lay_ends.Statement.{statement}
 use Rattle.ends.proofs.lay_ends.Tie as tie
 
 abbrev Inv-loop : tie.InvT-loop
-Inv-loop declared ends₀ i₀ ends i = Filled ends ends₀ 96 (λ n. boundsNumber (getD declared (n / 6) nothingKnown) (n % 6)) i
+Inv-loop own laid ends₀ i₀ ends i = Filled ends ends₀ 480 (joined own laid) i
 
 abbrev μ-loop : tie.MeasureT-loop
-μ-loop declared ends₀ i₀ ends i = 96 - i
+μ-loop own laid ends₀ i₀ ends i = 480 - i
 
 pub lay-ends-spec : {M : Type 1} → statement M
-unfolding endsOf
 lay-ends-spec =
     tie.close
     (tie.spec
     Inv-loop μ-loop
+    (λ c κs. search needs) (λ c κs. search needs)
     (λ c. filled-none _ _ _ (search needs))
+    (λ c. search needs) (λ c. search needs) (λ c. search needs) (λ c. search needs)
     (λ c. search needs)
-    (λ c. let n : length (c .before .before .before .args .environment .declared) ≡ 16 = search (length-under, needs) in omega (arith, c .loop-test .taken))
     (λ c κs. search needs) (λ c. search needs) (λ c. search needs) (λ c. search needs) (λ c. search needs)
-    (λ c. let n : length (c .before .before .before .before .before .args .environment .declared) ≡ 16 = search (length-under, needs) in filled-more (c .before .before .before .loop .inv) (search needs) (c .bounds-number .ensures ∙ ap (λ (x : Bounds). boundsNumber x (c .before .before .before .loop .i % 6)) (any-default (c .before .before .before .before .before .args .environment .declared) (c .before .before .before .loop .i / 6) _ _ (omega (arith, c .before .before .loop-test .taken)))))
-    (λ c. filled-whole (c .before .loop .inv) (c .loop-test .left)))
+    (λ c. filled-more (c .before .before .loop .inv) (search needs) (c .one-of .ensures))
+    (λ c. filled-whole (c .before .loop .inv) (c .loop-test .left) ∙ rw (c .before .before .before .lay-own .ensures, c .before .before .lay-rows .ensures) (ends-laid (c .before .before .before .before .args .environment))))

@@ -3,12 +3,12 @@ use borrow.Author.Needs.{needs}
 use Prim.Native.Nat.{_-_}
 use Rattle.arrays.specs.TabulateLaws.{Filled, filled-none, filled-more, filled-whole}
 use Rattle.rules.specs.declared.Effect.the-variants.{Forget}
-use Rattle.touched.specs.Touched.{touched, namedIn}
+use Rattle.touched.specs.Touched.{touched, namedIn, seenAs}
 use Rattle.touched.proofs.named_in.Statement.{statement}
 use Rattle.touched.proofs.named_in.Tie as tie
 
 abbrev Inv-loop : tie.InvT-loop
-Inv-loop environment named₀ v₀ named v = Filled (named .each) (named₀ .each) 18 (λ n. touched environment (Forget n)) v
+Inv-loop environment named₀ v₀ named v = Filled (named .each) (named₀ .each) 18 (λ n. touched (seenAs environment) (Forget n)) v
 
 abbrev μ-loop : tie.MeasureT-loop
 μ-loop environment named₀ v₀ named v = 18 - v

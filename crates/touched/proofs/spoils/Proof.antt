@@ -6,12 +6,13 @@ use Rattle.arrays.specs.TabulateLaws.{length-under}
 use Rattle.rules.specs.declared.Effect.{Effect}
 use Rattle.stays.specs.Stays.{changedBy, replacedBy}
 use Rattle.stays.specs.StaysLaws.{stays-read}
+use Rattle.touched.specs.Touched.{seenAs}
 use Rattle.touched.specs.TouchedLaws.{asked, Spared, spared-none, spared-more, spared-touched, spared-all}
 use Rattle.touched.proofs.spoils.Statement.{statement}
 use Rattle.touched.proofs.spoils.Tie as tie
 
 abbrev Inv-loop : tie.InvT-loop
-Inv-loop environment changed replaced p₀ p = (e : Effect) → changed ≡ changedBy e → replaced ≡ replacedBy e → Spared environment e p
+Inv-loop environment changed replaced p₀ p = (e : Effect) → changed ≡ changedBy e → replaced ≡ replacedBy e → Spared (seenAs environment) e p
 
 abbrev μ-loop : tie.MeasureT-loop
 μ-loop environment changed replaced p₀ p = 16 - p

@@ -1,7 +1,7 @@
 -- `steps::simple::advance_simple` meets its contract.
 use native.Mathlib.Omega.{arith}
 use borrow.Author.Needs.{needs}
-use Rattle.steps.specs.AdvanceLaws.{move-as, moves-literal, moves-add-constant, moves-arithmetic, moves-null, moves-address, moves-offset, moves-index, moves-load, moves-store, moves-check}
+use Rattle.steps.specs.AdvanceLaws.{move-as, moves-literal, moves-add-constant, moves-arithmetic, moves-null, moves-address, moves-offset, moves-index, moves-load, moves-store, moves-check, moves-declare}
 use Rattle.steps.proofs.simple.advance_simple.Statement.{statement}
 use Rattle.steps.proofs.simple.advance_simple.Tie as tie
 
@@ -41,11 +41,13 @@ advance-simple-spec =
     (λ c. search needs)
     (λ c κs. (rw (c .before .before .s7 .given .1) at (c .before .before .before .before .before .before .before .before .pre)))
     (λ c. search needs)
-    (λ c κs. (rw (c .before .before .before .s8 .given .1) at (c .before .before .before .before .before .before .before .before .before .pre)))
+    (λ c κs. (rw (c .before .before .before .before .s8 .given .1) at (c .before .before .before .before .before .before .before .before .before .before .pre)))
     (λ c. search needs)
-    (λ c κs. (rw (c .before .before .before .s9 .given .1) at (c .before .before .before .before .before .before .before .before .before .pre)))
+    (λ c κs. (rw (c .before .before .before .before .s9 .given .1) at (c .before .before .before .before .before .before .before .before .before .before .pre)))
     (λ c. search needs)
     (λ c κs. (rw (c .before .before .s10 .given .1) at (c .before .before .before .before .before .before .before .before .pre)))
+    (λ c. search needs)
+    (λ c κs. (rw (c .before .before .s11 .given .1) at (c .before .before .before .before .before .before .before .before .pre)))
     (λ c. search needs)
     (λ c. move-as _ _ _ _ _ _ (c .before .s .given .1) (moves-literal _ _ _ _ _ _ _ _))
     (λ c. search needs)
@@ -60,9 +62,11 @@ advance-simple-spec =
     (λ c. move-as _ _ _ _ _ _ (c .before .before .before .before .before .s6 .given .1) (moves-offset _ _ _ _ _ _ _ _ _ _ _ (c .before .before .offset-pointer .ensures)))
     (λ c. search needs)
     (λ c. move-as _ _ _ _ _ _ (c .before .before .before .before .before .s7 .given .1) (moves-index _ _ _ _ _ _ _ _ _ _ _ (c .before .before .index-pointer .ensures)))
-    (λ c. search needs) (λ c. search needs)
-    (λ c. move-as _ _ _ _ _ _ (c .before .before .before .before .before .before .s8 .given .1) (moves-load _ _ _ _ _ _ _ _ _ _ _ _ (c .before .before .load .ensures)))
-    (λ c. search needs) (λ c. search needs)
-    (λ c. move-as _ _ _ _ _ _ (c .before .before .before .before .before .before .s9 .given .1) (moves-store _ _ _ _ _ _ _ _ _ _ _ _ (c .before .before .store .ensures)))
+    (λ c. search needs) (λ c. search needs) (λ c. search needs)
+    (λ c. move-as _ _ _ _ _ _ (c .before .before .before .before .before .before .before .s8 .given .1) (moves-load _ _ _ _ _ _ _ _ _ _ _ _ (c .before .before .load .ensures)))
+    (λ c. search needs) (λ c. search needs) (λ c. search needs)
+    (λ c. move-as _ _ _ _ _ _ (c .before .before .before .before .before .before .before .s9 .given .1) (moves-store _ _ _ _ _ _ _ _ _ _ _ _ (c .before .before .store .ensures)))
     (λ c. search needs)
-    (λ c. move-as _ _ _ _ _ _ (c .before .before .before .s10 .given .1) (moves-check _ _ _ _ _ _ _ _ (c .check-condition .ensures))))
+    (λ c. move-as _ _ _ _ _ _ (c .before .before .before .s10 .given .1) (moves-check _ _ _ _ _ _ _ _ (c .check-condition .ensures)))
+    (λ c. search needs)
+    (λ c. move-as _ _ _ _ _ _ (c .before .before .before .before .before .s11 .given .1) (moves-declare _ _ _ _ _ _ _ _ _ _ (c .before .before .declare .ensures))))

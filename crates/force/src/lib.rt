@@ -1,0 +1,150 @@
+// The rows in force and what they put in force: the bounds that each pointer declares, and the variables that these name.
+use bounds::KnownBounds;
+use bounds::bounds_after;
+use declared::check_known;
+use declared::check_row;
+use facts::FactSet;
+use lookups::Rows;
+use lookups::in_force;
+use rules::Effect;
+use rules::Environment;
+use rules::Verdict;
+use rules::read_environment;
+use sections::Sections;
+use touched::Named;
+use touched::Seen;
+use touched::named_in;
+ghost use Prim.Native.Nat.{_+_, _<_};
+ghost use mathlib.Core.Path.{_≡_};
+ghost use lib.ListN.{set};
+ghost use Rattle.rules.specs.BoundsRules.{ownRows, inForce};
+ghost use Rattle.rules.specs.Rules.{sameRows};
+ghost use Rattle.rules.specs.Verdict.{environmentOf};
+ghost use Rattle.touched.specs.Touched.{seenOf};
+ghost use Rattle.force.specs.Force.{Framed, Forced, DeclaresRow};
+
+// What a statement's walk needs of what the table declares, whatever the rows: which variables are pointers, and the lengths of the objects.
+pub struct Frame {
+    pub pointers: [bool; 17],
+    pub lengths: [u64; 16],
+}
+
+// The rows in force, what is seen of the environment in force, and the variables that its declared bounds name.
+pub struct Force {
+    pub rows: Rows,
+    pub seen: Seen,
+    pub named: Named,
+}
+
+// The same rows are in force.
+pub fn same_rows(a: Rows, b: Rows) -> bool
+    ensures { λ r. ⌜ r ≡ sameRows (a .each) (b .each) ⌝ }
+{
+    let mut p = 0;
+    while p < 16 {
+        if a.each[p] != b.each[p] {
+            return false;
+        }
+        p += 1;
+    }
+    true
+}
+
+pub fn frame_of(environment: Environment) -> Frame
+    ensures { λ r. ⌜ Framed environment r ⌝ }
+{
+    let pointers = environment.pointers;
+    let lengths = environment.lengths;
+    Frame { pointers, lengths }
+}
+
+// What is seen where the rows are in force.
+pub fn seen_in(environment: Environment, rows: Rows) -> Seen
+    ensures { λ r. ⌜ r ≡ seenOf (inForce environment (rows .each)) ⌝ }
+{
+    let inside = in_force(environment, rows);
+    let pointers = inside.pointers;
+    let declared = inside.declared;
+    Seen { pointers, declared }
+}
+
+// What the rows put in force.
+fn force_in(environment: Environment, rows: Rows) -> Force
+    ensures { λ r. ⌜ Forced environment (rows .each) r ⌝ }
+{
+    let seen = seen_in(environment, rows);
+    Force {
+        rows,
+        seen,
+        named: named_in(seen),
+    }
+}
+
+// At entry each pointer's own bound is in force, as the table declares it.
+pub fn own_force(environment: Environment) -> Force
+    ensures { λ r. ⌜ Forced environment ownRows r ⌝ }
+{
+    let pointers = environment.pointers;
+    let declared = environment.declared;
+    let seen = Seen { pointers, declared };
+    Force {
+        rows: Rows { each: [0; 16] },
+        seen,
+        named: named_in(seen),
+    }
+}
+
+// What other rows put in force. What the table declares is read anew: rows change rarely, and 64 rows are large to pass.
+pub fn force_of(table: &[i32], sections: Sections, rows: Rows) -> Force
+    ensures { λ r. ⌜ Forced (environmentOf (now (table .entry)) sections) (rows .each) r ⌝ }
+{
+    force_in(read_environment(table, sections), rows)
+}
+
+// The row of a kind 14 comes into force.
+pub fn with_row(rows: Rows, pointer: usize, row: usize) -> Rows
+    requires { ⌜ (pointer < 16) × (row < 64) ⌝ }
+    ensures { λ r. ⌜ r .each ≡ set (rows .each) pointer (row + 1) ⌝ }
+{
+    let mut each = rows.each;
+    each[pointer] = row + 1;
+    Rows { each }
+}
+
+// The verdict on a kind 14 outside a bundle, and what is in force after it.
+pub struct Declared {
+    pub verdict: Verdict,
+    pub force: Force,
+}
+
+pub fn declare_row(
+    table: &[i32],
+    sections: Sections,
+    force: Force,
+    facts: FactSet,
+    pointer: usize,
+    row: usize,
+    at: usize,
+) -> Declared
+    requires { ⌜ Forced (environmentOf (now table) sections) (force .rows .each) force × (pointer < 16) × (row < 64) ⌝ }
+    ensures { λ r. ⌜ DeclaresRow (environmentOf (now (table .entry)) sections) facts (force .rows .each) pointer row at r ⌝ }
+{
+    let seen = force.seen;
+    let declared = seen.declared;
+    let known = KnownBounds { each: declared };
+    let environment = read_environment(table, sections);
+    let own = check_row(environment, facts, known, pointer, row, at);
+    let Verdict::Accepted = own else {
+        return Declared {
+            verdict: own,
+            force,
+        };
+    };
+    let rows = with_row(force.rows, pointer, row);
+    let after = force_in(environment, rows);
+    let verdict = check_known(after.seen, facts, bounds_after(Effect::Keep, known), at);
+    Declared {
+        verdict,
+        force: after,
+    }
+}

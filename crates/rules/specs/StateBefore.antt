@@ -1,0 +1,43 @@
+-- What the walk hands on to a statement as it comes to it: the facts are what point 11 calls the statement's facts.
+use Prim.Native.Nat.{ℕ, _+_}
+use mathlib.Core.Bool.{cond}
+use mathlib.Core.List.{List, [], _∷_}
+use lib.Dec.{ltb, eqb}
+use lib.IntN.{ℤ}
+use lib.ListN.{length}
+use Rattle.sections.specs.declared.Sections.{Sections}
+use Rattle.conditions.specs.Negation.{negatedOf}
+use Rattle.statements.specs.declared.Simple.{Simple}
+use Rattle.blocks.specs.Tree.{Block, nil, plain, branch, loop, bundle, unread}
+use Rattle.flow.specs.Shape.{size}
+use Rattle.flow.specs.Targets.{targetsFrom}
+use Rattle.rules.specs.FactSets.{FactSets}
+use Rattle.rules.specs.States.{State}
+use Rattle.rules.specs.Rules.{stateAfter, assumed, atHead, bundleAfter, sidesJoined, blockAfter}
+use Rattle.rules.specs.declared.Environment.{Environment}
+
+module _ (S : FactSets) where
+  open FactSets S using (Facts)
+
+  -- Before statement d, of a bundle's statements from number a on.
+  unfoldable pub lineBefore : ℕ → List Simple → State Facts → ℕ → State Facts
+  lineBefore a [] w d = w
+  lineBefore a (s ∷ ss) w d = cond (eqb d a) w (lineBefore (a + 1) ss (stateAfter S s w) d)
+
+  module _ (T : List ℤ) (h : Sections) (E : Environment) where
+    -- Before statement d of a block that is entered with the state w.
+    unfoldable pub stateBefore : Block → State Facts → ℕ → State Facts
+    stateBefore nil w d = w
+    stateBefore (plain a s r) w d = cond (eqb d a) w (stateBefore r (stateAfter S s w) d)
+    stateBefore (branch a c t e r) w d =
+        cond (eqb d a) w
+        (cond (ltb d (a + 1 + size t)) (stateBefore t (assumed S w c) d)
+        (cond (ltb d (a + 1 + size t + size e)) (stateBefore e (assumed S w (negatedOf c)) d)
+        (stateBefore r (sidesJoined S T h E (blockAfter S T h E t (assumed S w c)) (blockAfter S T h E e (assumed S w (negatedOf c)))) d)))
+    stateBefore (loop a c n t r) w d =
+        cond (eqb d a) w
+        (cond (ltb d (a + 1 + size t)) (stateBefore t (assumed S (atHead S (targetsFrom T h (a + 1) n) w) c) d)
+        (stateBefore r (assumed S (atHead S (targetsFrom T h (a + 1) n) w) (negatedOf c)) d))
+    stateBefore (bundle a ss r) w d =
+        cond (eqb d a) w (cond (ltb d (a + 1 + length ss)) (lineBefore (a + 1) ss w d) (stateBefore r (bundleAfter S ss w) d))
+    stateBefore (unread a) w d = w

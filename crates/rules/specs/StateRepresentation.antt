@@ -1,0 +1,58 @@
+-- What the walk hands on by the store represents what it hands on by the paper's chains: the facts do, and the rows in force are the same.
+use Prim.Native.Nat.{ℕ}
+use mathlib.Core.Path.{_≡_, refl, ap}
+use mathlib.Core.Bool.{Bool, true, false, cond}
+use lib.IntN.{ℤ}
+use mathlib.Core.List.{List}
+use Rattle.facts.specs.declared.FactSet.{FactSet}
+use Rattle.chains.specs.Facts.{Variables}
+use Rattle.chains.specs.History.{History}
+use Rattle.sections.specs.Sections.{Limits}
+use Rattle.sections.specs.declared.Sections.{Sections}
+use Rattle.conditions.specs.Negation.{negatedOf}
+use Rattle.conditions.specs.Typed.{Sides}
+use Rattle.conditions.specs.declared.Condition.{Condition}
+use Rattle.statements.specs.Typed.{SimpleTyped}
+use Rattle.statements.specs.declared.Simple.{Simple}
+use Rattle.flow.specs.Targets.{targetsFrom}
+use Rattle.rules.specs.States.{State}
+use Rattle.rules.specs.BoundsRules.{rowsAfter}
+use Rattle.rules.specs.Rules.{newState, stateAfter, assumed, atHead, sidesJoined}
+use Rattle.rules.specs.Verdict.{environmentOf}
+use Rattle.rules.specs.Stored.{store}
+use Rattle.rules.specs.ByChains.{Decider, Decides, byChains, variables}
+use Rattle.rules.specs.Representation.{Represents, represents-new, represents-join, condition-represented, negated-represented, after-represented, body-represented}
+
+pub record StateRepresents (vars : Variables) (U : State History) (W : State FactSet) : Type 0 where
+  pub represents : Represents vars (U .facts) (W .facts)
+  pub rows : U .rows ≡ W .rows
+
+pub either : {vars : Variables} (b : Bool) {U U′ : State History} {W W′ : State FactSet} → StateRepresents vars U W → StateRepresents vars U′ W′
+    → StateRepresents vars (cond b U U′) (cond b W W′)
+either true t u = t
+either false t u = u
+
+pub new-represented : (vars : Variables) (q : Decider) → StateRepresents vars (newState (byChains q)) (newState store)
+new-represented vars q = record { represents = represents-new vars; rows = refl }
+
+module _ (T : List ℤ) (h : Sections) (w : Limits h) (q : Decider) (right : Decides (variables T h w) q) where
+  abbrev vars : Variables
+  vars = variables T h w
+
+  pub meets : {U U′ : State History} {W W′ : State FactSet} → StateRepresents vars U W → StateRepresents vars U′ W′
+      → StateRepresents vars (sidesJoined (byChains q) T h (environmentOf T h) U U′) (sidesJoined store T h (environmentOf T h) W W′)
+  meets i j = record { represents = represents-join vars (i .represents) (j .represents); rows = i .rows }
+
+  module _ {U : State History} {W : State FactSet} (t : StateRepresents vars U W) where
+    pub state-after : (s : Simple) → SimpleTyped T h s → StateRepresents vars (stateAfter (byChains q) s U) (stateAfter store s W)
+    state-after s y = record { represents = after-represented T h w q right (t .represents) s y; rows = ap (rowsAfter s) (t .rows) }
+
+    pub state-assumed : (c : Condition) → Sides T h (c .left) (c .right) (c .offset) → StateRepresents vars (assumed (byChains q) U c) (assumed store W c)
+    state-assumed c s = record { represents = condition-represented T h w q right (t .represents) c s; rows = t .rows }
+
+    pub state-negated : (c : Condition) → Sides T h (c .left) (c .right) (c .offset)
+        → StateRepresents vars (assumed (byChains q) U (negatedOf c)) (assumed store W (negatedOf c))
+    state-negated c s = record { represents = negated-represented T h w q right (t .represents) c s; rows = t .rows }
+
+    pub state-at-head : (a n : ℕ) → StateRepresents vars (atHead (byChains q) (targetsFrom T h a n) U) (atHead store (targetsFrom T h a n) W)
+    state-at-head a n = record { represents = body-represented T h w q right (t .represents) a n; rows = t .rows }

@@ -1,0 +1,69 @@
+-- A step keeps the ends as long as they were, and small.
+use Prim.Native.Nat.{ℕ, zero, suc, _+_, _*_, _^_, _<_}
+use mathlib.Core.Path.{_≡_, refl}
+use mathlib.Core.List.{List, [], _∷_}
+use lib.IntN.{ℤ}
+use lib.ListN.{length, getD, set}
+use Rattle.sections.specs.declared.Sections.{Sections}
+use Rattle.statements.specs.declared.Simple.{Simple}
+use Rattle.statements.specs.declared.Simple.the-variants.{Literal, AddConstant, Arithmetic, Null, Address, PointerOffset, PointerIndex, Load, Store, Check, Declare}
+use Rattle.statements.specs.declared.Statement.{Statement}
+use Rattle.statements.specs.declared.Statement.the-variants.{Plain, If, While, Bundle}
+use Rattle.decode.specs.Decode.{decodedAt}
+use Rattle.flow.specs.Flow.{Successors}
+use Rattle.flow.specs.Shape.{entriesAt}
+use Rattle.machine.specs.Machine.{Failing, none, fails, failing}
+use Rattle.checks.specs.Checked.{declaredIn}
+use Rattle.checks.specs.declared.Step.{Step}
+use Rattle.steps.specs.Bare.{copied, endsAfter, changedUnless, simpleMove, statementMove, bareMove, Moves}
+use Rattle.steps.specs.CopiedLaws.{copied-long}
+
+-- The ends W′ are as long as W, and small where W is.
+pub record EndsKept (W W′ : List ℕ) : Type 0 where
+  pub long : length W′ ≡ length W
+  pub small : ((i : ℕ) → getD W i 0 < 2 ^ 34) → (i : ℕ) → getD W′ i 0 < 2 ^ 34
+
+set-small : (l : List ℕ) (j v : ℕ) → v < 2 ^ 34 → ((i : ℕ) → getD l i 0 < 2 ^ 34) → (i : ℕ) → getD (set l j v) i 0 < 2 ^ 34
+set-small [] j v b f i = f i
+set-small (x ∷ l) zero v b f zero = b
+set-small (x ∷ l) zero v b f (suc i) = f (suc i)
+set-small (x ∷ l) (suc j) v b f zero = f zero
+set-small (x ∷ l) (suc j) v b f (suc i) = set-small l j v b (λ k. f (suc k)) i
+
+copied-small : (n p r : ℕ) (W : List ℕ) → ((i : ℕ) → getD W i 0 < 2 ^ 34) → (i : ℕ) → getD (copied n p r W) i 0 < 2 ^ 34
+unfolding copied
+copied-small zero p r W f i = f i
+copied-small (suc n) p r W f i = set-small (copied n p r W) (6 * p + n) (getD W (96 + 6 * r + n) 0) (f (96 + 6 * r + n)) (copied-small n p r W f) i
+
+same-kept : (W : List ℕ) → EndsKept W W
+same-kept W = record { long = refl; small = λ f. f }
+
+after-kept : (s : Simple) (W : List ℕ) → EndsKept W (endsAfter s W)
+unfolding endsAfter
+after-kept (Literal x k) W = same-kept W
+after-kept (AddConstant x y k) W = same-kept W
+after-kept (Arithmetic x y z op) W = same-kept W
+after-kept (Null p) W = same-kept W
+after-kept (Address p o) W = same-kept W
+after-kept (PointerOffset p q k) W = same-kept W
+after-kept (PointerIndex p q i) W = same-kept W
+after-kept (Load x p i k) W = same-kept W
+after-kept (Store p i k x) W = same-kept W
+after-kept (Check c) W = same-kept W
+after-kept (Declare p r) W = record { long = copied-long p r W 6; small = copied-small 6 p r W }
+
+unless-kept : (f : Failing) (W W′ : List ℕ) → EndsKept W W′ → EndsKept W (changedUnless f W W′)
+unfolding changedUnless
+unless-kept none W W′ k = k
+unless-kept (fails n) W W′ k = same-kept W
+
+statement-kept : (W D : List ℕ) (s : Statement) (a : ℕ) (n : Successors) (vs cs : List ℕ) → EndsKept W (statementMove W D s a n vs cs .ends)
+unfolding statementMove simpleMove
+statement-kept W D (Plain s) a n vs cs = unless-kept (failing (declaredIn W) vs s) W (endsAfter s W) (after-kept s W)
+statement-kept W D (If c x y) a n vs cs = same-kept W
+statement-kept W D (While c x) a n vs cs = same-kept W
+statement-kept W D (Bundle x) a n vs cs = same-kept W
+
+pub move-kept : (T : List ℤ) (h : Sections) (W D S : List ℕ) (a : ℕ) (vs cs : List ℕ) {r : Step} {W′ ws ds : List ℕ} → Moves (bareMove T h W D S a vs cs) r W′ ws ds → EndsKept W W′
+unfolding bareMove
+move-kept T h W D S a vs cs m = rw (m .ends) (statement-kept W D (decodedAt T h a) a (entriesAt S a) vs cs)
