@@ -34,11 +34,13 @@ fn with_zero(printer: &Printer, facts: &Facts, v: i32) -> Vec<String> {
     if least == most && !(least == 0 && printer.table.is_pointer(v)) {
         return vec![format!("{} == {least}", printer.name(v))];
     }
-    // What follows from a fact with another variable and that variable's range is said by that fact.
-    let others = || (0..printer.table.variables.len()).filter(|&y| y != v as usize);
-    let follows_below = || others().any(|y| facts.sum(ZERO, y) == 0 && facts.sum(y, v as usize) == -least);
-    let follows_above =
-        || others().any(|y| facts.sum(y, ZERO) == GREATEST && facts.sum(v as usize, y) == most - GREATEST);
+    // What follows from a fact with another variable and that variable's range is said by that fact, where it is listed.
+    let node = v as usize;
+    let others = || (0..printer.table.variables.len()).filter(|&y| y != node);
+    let below = |y: usize| facts.sum(ZERO, y) == 0 && facts.sum(y, node) == -least;
+    let above = |y: usize| facts.sum(y, ZERO) == GREATEST && facts.sum(node, y) == most - GREATEST;
+    let follows_below = || others().any(|y| below(y) && is_listed(printer, facts, y as i32, v));
+    let follows_above = || others().any(|y| above(y) && is_listed(printer, facts, v, y as i32));
     let mut shown = Vec::new();
     if least > 0 && !follows_below() {
         shown.push(printer.fact(-1, v, -least));
@@ -49,16 +51,19 @@ fn with_zero(printer: &Printer, facts: &Facts, v: i32) -> Vec<String> {
     shown
 }
 
+/// Whether x <= y + k is a fact of its own: over two of a sort, and more than what the two are known to be beside zero.
+fn is_listed(printer: &Printer, facts: &Facts, x: i32, y: i32) -> bool {
+    let (a, b) = (x as usize, y as usize);
+    let same_sort = printer.table.is_pointer(x) == printer.table.is_pointer(y);
+    same_sort && facts.sum(a, b) < facts.sum(a, ZERO) + facts.sum(ZERO, b)
+}
+
 /// `x <= y + k`, or once `x == y + k` where both ways hold.
 fn between(printer: &Printer, facts: &Facts, x: i32, y: i32) -> Option<String> {
-    if printer.table.is_pointer(x) != printer.table.is_pointer(y) {
+    if !is_listed(printer, facts, x, y) {
         return None;
     }
-    let (a, b) = (x as usize, y as usize);
-    let (there, back) = (facts.sum(a, b), facts.sum(b, a));
-    if there >= facts.sum(a, ZERO) + facts.sum(ZERO, b) {
-        return None;
-    }
+    let (there, back) = (facts.sum(x as usize, y as usize), facts.sum(y as usize, x as usize));
     if there + back > 0 {
         return Some(printer.fact(x, y, there));
     }
