@@ -3,6 +3,10 @@
    A routine is a table of 32-bit words (docs/FORMAT.md; the command `mizzengrape` makes tables from Checked C text). mizzengrape_check answers whether the
    rules accept it; mizzengrape_run runs an accepted one on memory that the caller lends.
 
+   Tables. A table begins with pairs of offset and length: objects, variables, statements; the first offset is 6, and the table has at most 7,318 words. A
+   first offset of 8 means a fourth pair and section, bounds rows of six words behind the statements: bounds that statements of kind 14 declare for a
+   pointer. Such a table has at most 64 rows and 7,704 words.
+
    Calls. Every slice is a pointer and a length in elements. Nothing is kept after a call, and nothing is allocated. There are two ways in:
    - mizzengrape_check and mizzengrape_run are the proved functions. Their caller promises of each slice that its pointer is not null (also where the
      length is 0), is aligned to four bytes and has that many elements of memory behind it; and that a slice that is written overlaps no other.
@@ -18,7 +22,7 @@
    - values: one word for each variable, an integer or an address. All may be 0: integers are 0 then and pointers null.
    - origins: one word for each variable. For an integer and for a null pointer it is 0; for another pointer the number of the object that it belongs to,
      plus 1. (Where objects touch, the address alone does not tell which one a pointer at their border belongs to.) The bounds that are declared for the
-     pointer must lie in that object, by the values lent.
+     pointer in its own record must lie in that object, by the values lent.
    - limit: how many steps the run may take. 0 is a limit too: the run is then done at once, in a table without statements, or spent.
 
    What a run leaves. cells and values are written, nothing else; a refused run writes neither. After a run that is done, spent or stopped, values holds each
@@ -57,18 +61,20 @@ static inline const char *mizzengrape_version(void)
 /* Refusals, with the paper's numbers: answer[0] of a check, answer[1] of a run that is refused. In brackets their place. */
 typedef enum mizzengrape_refusal {
     MIZZENGRAPE_ACCEPTED = 0,
-    MIZZENGRAPE_REFUSED_LENGTH = 1,      /* [0] the table has fewer than 6 or more than 7,318 words */
+    MIZZENGRAPE_REFUSED_LENGTH = 1,      /* [0] the table has fewer than 6 or more than 7,318 words; 7,704 where its first word is 8 */
     MIZZENGRAPE_REFUSED_DIRECTORY = 2,   /* [0] its sections do not lie one behind the other, or hold too many or too few records */
     MIZZENGRAPE_REFUSED_OBJECT = 3,      /* [object] its length is not 1 to 1,000,000 */
-    MIZZENGRAPE_REFUSED_VARIABLE = 4,    /* [variable] its record is wrong */
+    MIZZENGRAPE_REFUSED_VARIABLE = 4,    /* [variable, or number of variables plus row] its record is wrong */
     MIZZENGRAPE_REFUSED_STATEMENT = 5,   /* [statement] its record is wrong: kind, a field, what a field names */
     MIZZENGRAPE_REFUSED_BLOCK = 6,       /* [statement] a block past its parent's end, too deep, or a bundle's count or contents */
     /* 7 is unused. */
-    MIZZENGRAPE_REFUSED_BOUNDS = 8,      /* [statement] declared bounds are not shown after it; the answer's last word is the lowest such pointer */
+    MIZZENGRAPE_REFUSED_BOUNDS = 8,      /* [statement] declared bounds are not shown after it, or a kind 14's row at it; the answer's last word is the
+                                            lowest such pointer, of a kind 14 its own */
     MIZZENGRAPE_REFUSED_ACCESS = 9,      /* [statement] an access in a bundle whose pointer's bounds are not shown there */
     MIZZENGRAPE_REFUSED_MEMORY = 10,     /* [pair or 0] the memory is too large, or the directory does not fit it or the table */
     MIZZENGRAPE_REFUSED_VALUES = 11,     /* [0] not one value and one origin for each variable */
-    MIZZENGRAPE_REFUSED_ENTRY = 12       /* [variable] an origin is wrong, or the bounds are untrue at entry */
+    MIZZENGRAPE_REFUSED_ENTRY = 12,      /* [variable] an origin is wrong, or the bounds are untrue at entry */
+    MIZZENGRAPE_REFUSED_ROWS = 13        /* [if or while] its two sides, or head and end of its body, leave different rows in force */
 } mizzengrape_refusal;
 
 /* How a run ended: answer[0] of a run. */
@@ -89,15 +95,15 @@ typedef enum mizzengrape_stop {
 } mizzengrape_stop;
 
 /* Checks a routine table. The answer's words, the others stay:
-     answer[0]  0 accepted, else the number of the refusal, 1 to 9 (7 is unused)
+     answer[0]  0 accepted, else the number of the refusal, 1 to 9 (7 is unused) or 13
      answer[1]  0 accepted, else the refusal's place
-     answer[2]  for refusal 8 the lowest pointer variable whose declared bounds are not shown there, else 0
+     answer[2]  for refusal 8 the lowest pointer variable whose declared bounds are not shown there, of a kind 14 its own; else 0
    True; or false, and nothing written, where answer_len is below 3. */
 bool mizzengrape_check(const int32_t *table, size_t table_len, uint32_t *answer, size_t answer_len);
 
 /* Runs a routine table on lent cells and values, limit steps at most. The answer's words, the others stay:
      answer[0]       0 done    1 spent     2 stopped    3 refused
-     answer[1]       steps     steps       steps        number of the refusal, 1 to 12
+     answer[1]       steps     steps       steps        number of the refusal, 1 to 13
      answer[2]       0         statement   statement    its place
      answer[3]       0         0           check 1..5   for refusal 8 the pointer variable as for a check, else 0
    Each statement begun is a step; a while is one at each test, a bundle's head is one, and so is a statement that stops the run. The statement of a spent

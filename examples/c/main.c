@@ -25,6 +25,18 @@ static const int32_t raised[] = {
     2, 1, 1, 1, 0, 0, 0,        /* 0: rows := rows + 1 */
 };
 
+/* The two sides of an if declare different bounds of row. A first offset of 8: bounds rows follow the statements. */
+static const int32_t differing[] = {
+    8, 0, 8, 16, 24, 21, 45, 12,
+    1, 0, 0, -1, 0, 0, 1, 0,    /* variable 0: row, array_ptr with count(rows) */
+    0, 0, 0, 0, 0, 0, 0, 0,     /* variable 1: rows */
+    11, 1, 4, 1, 0, 1, 1,       /* 0: if rows == 0 */
+    14, 0, 0, 0, 0, 0, 0,       /* 1:   where row : count(0) */
+    14, 0, 1, 0, 0, 0, 0,       /* 2: else where row : count(rows) */
+    0, -1, 0, 0, -1, 0,         /* row 0: count(0) */
+    0, -1, 0, 0, 1, 0,          /* row 1: count(rows) */
+};
+
 static const uint32_t directory[] = {1, 2, 3, 2};
 static const uint32_t origins[] = {1, 0, 0};
 static uint32_t cells[] = {0, 0, 0, 201, 0};
@@ -88,6 +100,7 @@ int main(void)
 {
     check("the routine", routine, LENGTH(routine), 3);
     check("the count raised first", raised, LENGTH(raised), 3);
+    check("bounds that differ", differing, LENGTH(differing), 3);
     for (uint32_t boat = 101; boat <= 103; boat++) {
         char what[16];
         snprintf(what, sizeof what, "boat %u", (unsigned)boat);

@@ -4,7 +4,6 @@ use crate::map::RoutineMap;
 use crate::names::Names;
 use crate::table::{DirectoryFault, Table};
 
-pub const MAX_WORDS: usize = 7_318;
 pub const MAX_OBJECTS: usize = 16;
 pub const MAX_VARIABLES: usize = 16;
 pub const MAX_STATEMENTS: usize = 1_024;
@@ -16,6 +15,15 @@ pub const MAX_DEPTH: usize = 6;
 pub const MAX_BUNDLE: i32 = 16;
 
 pub const SECTIONS: [&str; 4] = ["objects", "variables", "statements", "bounds rows"];
+
+/// The words of a table at most: one whose first word is 8 has room for bounds rows.
+pub fn max_words(words: &[i32]) -> usize {
+    if words.first() == Some(&8) {
+        7_704
+    } else {
+        7_318
+    }
+}
 
 /// How many fields each kind of statement has; kind 0 is none.
 const FIELDS: [usize; 16] = [0, 2, 3, 4, 1, 2, 3, 3, 4, 4, 4, 6, 5, 1, 2, 6];
@@ -138,12 +146,10 @@ impl<'a> Form<'a> {
 
     /// Cause 4, of a bounds row.
     pub fn row(&self, row: usize) -> Reason {
-        let Some(record) = self.table.rows.as_ref().and_then(|rows| rows.get(row)) else {
-            return wrong("no such row");
-        };
-        let names = &self.names.routines[self.routine].rows;
-        let name = names.get(row).map_or_else(|| format!("row {row}"), |name| format!("bound `{name}`"));
-        self.ends(record, 0, &name)
+        let Some(record) = self.table.row(row) else { return wrong("no such row") };
+        // A text shows which bounds are meant: they may have no name.
+        let owner = if self.map.is_some() { "these bounds".to_string() } else { format!("row {row}") };
+        self.ends(&record, 0, &owner)
     }
 
     fn ends(&self, words: &[i32], first: usize, owner: &str) -> Reason {
@@ -220,6 +226,9 @@ impl<'a> Form<'a> {
                 'i' => (word == -1 || self.is_integer(word), "integer"),
                 'v' => (word == -1 || self.kind(word).is_some(), "variable"),
                 'o' => ((0..self.objects.len() as i32).contains(&word), "object"),
+                'r' if self.table.rows.is_none() => {
+                    return wrong("this table has no bounds rows: its first offset is 6");
+                }
                 'r' => ((0..self.row_count() as i32).contains(&word), "bounds row"),
                 'k' if word.unsigned_abs() > MAX_CONSTANT as u32 => {
                     return wrong(format!("the constant {word} is beyond 65,536"));

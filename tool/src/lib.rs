@@ -11,6 +11,7 @@ pub mod names;
 mod parser;
 pub mod printer;
 pub mod program;
+mod rows;
 pub mod table;
 pub mod tokens;
 mod tree;

@@ -78,11 +78,28 @@ impl Table {
     /// The table with one more statement before another, in its block.
     pub fn with_before(&self, statement: usize, record: [i32; STATEMENT_WORDS]) -> Table {
         let mut table = self.clone();
+        table.grow_around(statement);
+        table.statements.insert(statement, record);
+        table
+    }
+
+    /// The table with one more statement at the end of an if's block: field 5 counts the then block, field 6 the else block.
+    pub fn with_last(&self, head: usize, field: usize, record: [i32; STATEMENT_WORDS]) -> Table {
+        let mut table = self.clone();
+        table.grow_around(head);
+        let counts = self.statements[head][5..=field].iter().sum::<i32>();
+        table.statements[head][field] += 1;
+        table.statements.insert(head + 1 + counts as usize, record);
+        table
+    }
+
+    /// Counts one more statement in every block that a statement stands in.
+    fn grow_around(&mut self, statement: usize) {
         for head in 0..statement {
-            let words = &mut table.statements[head];
             if statement >= head + self.extent(head) {
                 continue;
             }
+            let words = &mut self.statements[head];
             let field = match words[0] {
                 13 => 1,
                 11 if statement > head + words[5] as usize => 6,
@@ -90,8 +107,16 @@ impl Table {
             };
             words[field] += 1;
         }
-        table.statements.insert(statement, record);
-        table
+    }
+
+    /// The bounds that a pointer is declared with.
+    pub fn own_bounds(&self, pointer: usize) -> [i32; ROW_WORDS] {
+        let [_, _, ends @ ..] = self.variables[pointer];
+        ends
+    }
+
+    pub fn row(&self, row: usize) -> Option<[i32; ROW_WORDS]> {
+        self.rows.as_ref()?.get(row).copied()
     }
 
     /// Cells in an element of a pointer.
@@ -122,42 +147,4 @@ impl Table {
 
 fn records<const N: usize>(words: &[i32]) -> Vec<[i32; N]> {
     words.chunks_exact(N).map(|record| record.try_into().expect("chunks of that size")).collect()
-}
-
-/// The row in force for each variable before a statement, -1 for its own bound. Both sides of an if and a while's head and end leave the
-/// same rows in an accepted routine, so one walk down to the statement tells them.
-pub fn rows_in_force(table: &Table, statement: usize) -> Vec<i32> {
-    let mut rows = vec![-1; table.variables.len()];
-    walk_rows(table, 0, table.statements.len(), statement, &mut rows);
-    rows
-}
-
-/// Whether the statement was met between start and end.
-fn walk_rows(table: &Table, start: usize, end: usize, wanted: usize, rows: &mut Vec<i32>) -> bool {
-    let mut s = start;
-    while s < end.min(wanted) {
-        let record = &table.statements[s];
-        let next = s + table.extent(s);
-        let middle = if record[0] == 11 { s + 1 + record[5] as usize } else { next };
-        let before = rows.clone();
-        if record[0] == 14 {
-            rows[record[1] as usize] = record[2];
-        } else if walk_rows(table, s + 1, middle, wanted, rows) {
-            return true;
-        }
-        if middle < next && wanted >= middle && wanted < next {
-            *rows = before;
-            return walk_rows(table, middle, next, wanted, rows);
-        }
-        s = next;
-    }
-    wanted >= start && wanted < end
-}
-
-/// The six words of the bounds in force for a pointer.
-pub fn bounds_in_force(table: &Table, pointer: i32, rows: &[i32]) -> [i32; ROW_WORDS] {
-    let own = &table.variables[pointer as usize][2..];
-    let row = usize::try_from(rows[pointer as usize]).ok();
-    let row = row.and_then(|row| table.rows.as_ref()?.get(row));
-    row.copied().unwrap_or_else(|| own.try_into().expect("six words behind the first two"))
 }

@@ -68,7 +68,7 @@ fn explain_prints_the_page() {
         let arguments: Vec<String> = ["explain"].iter().chain(words).map(|word| word.to_string()).collect();
         call(&arguments)
     };
-    for number in (1..=12).filter(|&number| number != 7) {
+    for number in (1..=13).filter(|&number| number != 7) {
         let page = explain(&[&number.to_string()]);
         assert!(page.out.starts_with(&format!("Refusal {number}: ")), "{number}");
         assert!(page.out.matches("Refusal ").count() == 1 && !page.out.contains("```"), "{}", page.out);
@@ -76,7 +76,7 @@ fn explain_prints_the_page() {
     for number in 1..=5 {
         assert!(explain(&["stop", &number.to_string()]).out.starts_with(&format!("Stop {number}: ")));
     }
-    assert_eq!(explain(&["13"]), Output::wrong("error: there is no refusal 13\n".to_string()));
+    assert_eq!(explain(&["14"]), Output::wrong("error: there is no refusal 14\n".to_string()));
 }
 
 /// As `check` prints them, diagnostics first; those of forms that the library does not have yet come later.
@@ -110,9 +110,13 @@ fn the_explainer_agrees_on_all_vectors() {
             assert!(output.status <= 1, "{line}\n{}", output.err);
             assert!(output.status == 0 || output.err.contains("error: refused "), "{line}\n{}", output.err);
             if output.out.starts_with("refused 8") || output.out.starts_with("refused 9") {
-                assert!(output.err.contains("note: declared here: "), "{}", output.err);
+                let declared = ["note: declared here: ", "note: declared before: "];
+                assert!(declared.iter().any(|note| output.err.contains(note)), "{}", output.err);
                 let reasons = ["note: not shown: ", " end was lost at line "];
                 assert!(reasons.iter().any(|reason| output.err.contains(reason)), "{}", output.err);
+            }
+            if output.out.starts_with("refused 13") {
+                assert!(output.err.contains("has other bounds a"), "{}", output.err);
             }
             count += 1;
         }

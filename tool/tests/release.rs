@@ -16,6 +16,7 @@ fn one_version_everywhere() {
     for (name, number) in ["MAJOR", "MINOR", "PATCH"].iter().zip(version.split('.')) {
         assert!(header.contains(&format!("#define MIZZENGRAPE_VERSION_{name} {number}\n")), "{name}");
     }
-    let newest = read("CHANGELOG.md").lines().find_map(|line| line.strip_prefix("## ").map(str::to_string));
-    assert_eq!(newest, Some(version));
+    let changes = read("CHANGELOG.md");
+    let mut headings = changes.lines().filter_map(|line| line.strip_prefix("## "));
+    assert_eq!(headings.find(|heading| *heading != "Unreleased"), Some(version.as_str()));
 }

@@ -9,7 +9,7 @@ use std::fmt;
 pub struct Refusal {
     /// The paper's number, 1 to 13.
     pub number: u32,
-    /// Object, variable, statement or pair, by the number; 0 where there is none.
+    /// Object, variable (a bounds row counts on behind the variables), statement or pair, by the number; 0 where there is none.
     pub place: u32,
     /// For refusal 8 the lowest pointer variable whose declared bounds are not shown there; at a kind 14 its own pointer.
     pub pointer: Option<u32>,

@@ -22,6 +22,34 @@ fn wrong_tables_are_refused() {
     assert_eq!(check(&[0; 7319]), Verdict::Refused(refused(1, 0)));
 }
 
+/// A table with bounds rows, which begins with 8, may be longer.
+#[test]
+fn tables_with_rows_are_longer() {
+    let mut table = vec![0; 7705];
+    table[0] = 8;
+    assert_eq!(check(&table), Verdict::Refused(refused(1, 0)));
+    assert_eq!(check(&table[..7704]), Verdict::Refused(refused(2, 0)));
+}
+
+/// if n == 0, p has row 0, else row 1; variables p with count(n), n; rows count(0), count(n).
+#[rustfmt::skip]
+const DIFFERING: [i32; 57] = [
+    8, 0, 8, 16, 24, 21, 45, 12, 1, 0, 0, -1, 0, 0, 1, 0, 0, 0, 0, 0, 0, 0, 0, 0,
+    11, 1, 4, 1, 0, 1, 1, 14, 0, 0, 0, 0, 0, 0, 14, 0, 1, 0, 0, 0, 0, 0, -1, 0, 0, -1, 0, 0, -1, 0, 0, 1, 0,
+];
+
+#[test]
+fn rows_are_checked() {
+    assert_eq!(check(&DIFFERING), Verdict::Refused(refused(13, 0)));
+    let mut table = DIFFERING;
+    // Both sides take row 0.
+    table[40] = 0;
+    assert_eq!(check(&table), Verdict::Accepted);
+    // Row 1, behind two variables, names an integer as its pointer.
+    table[51] = 1;
+    assert_eq!(check(&table), Verdict::Refused(refused(4, 3)));
+}
+
 #[test]
 fn refusal_8_has_its_pointer() {
     let mut table = ROUTINE;

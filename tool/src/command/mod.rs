@@ -2,6 +2,7 @@
 
 mod arguments;
 mod asm;
+mod changes;
 mod check;
 mod dis;
 mod explain;

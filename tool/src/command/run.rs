@@ -1,6 +1,7 @@
 //! `mizzengrape run` and `mizzengrape trace`: a routine with an image, by the proved library.
 
 use super::arguments::{Arguments, Usage};
+use super::changes::{changes, Point};
 use super::{Output, DONE, REFUSED, SPENT, STOPPED};
 use crate::diagnostics::{Pos, Source};
 use crate::explain::{self, stops};
@@ -153,7 +154,9 @@ impl Session {
                 format!("{outcome}\nvalues:{}\ncells:{}\n", listed(&lent.values), listed(&lent.cells));
             return Ok(output);
         }
-        let changes = self.changes(&self.image.lent, &lent)?;
+        let printer = self.printer()?;
+        let start = Point { lent: &self.image.lent, due: 0 };
+        let changes = changes(&printer, start, Point::of(&printer, &outcome, &lent));
         let nothing = if changes.is_empty() { "; nothing changed" } else { "" };
         output.out = format!("{}{nothing}\n", end_line(&outcome));
         changes.iter().for_each(|change| output.out.push_str(&format!("{change}\n")));
@@ -169,7 +172,8 @@ impl Session {
         while step <= last && step <= self.image.lent.allowance {
             let Outcome::Spent { statement, .. } = outcome else { break };
             let (after, next) = self.after(step)?;
-            lines.push_str(&self.step_line(step, statement as usize, &before, &after)?);
+            let point = Point { lent: &before, due: statement as usize };
+            lines.push_str(&self.step_line(step, point, Point::of(&self.printer()?, &next, &after))?);
             (before, outcome) = (after, next);
             step = step.saturating_add(1);
         }
@@ -244,32 +248,9 @@ impl Session {
         Ok(output)
     }
 
-    /// `row: 4 -> 5` and `first[3] (cell 4): 0 -> 77`.
-    fn changes(&self, before: &Lent, after: &Lent) -> Result<Vec<String>, String> {
-        let printer = self.printer()?;
-        let values = before.values.iter().zip(&after.values).enumerate().filter(|(_, (old, new))| old != new);
-        let values = values.map(|(v, (old, new))| format!("{}: {old} -> {new}", printer.name(v as i32)));
-        let cells = before.cells.iter().zip(&after.cells).enumerate().filter(|(_, (old, new))| old != new);
-        let cells = cells.map(|(cell, (old, new))| format!("{}: {old} -> {new}", self.cell(&printer, cell)));
-        Ok(values.chain(cells).collect())
-    }
-
-    /// A cell by its object and its number.
-    fn cell(&self, printer: &Printer, cell: usize) -> String {
-        let inside = |pair: &[u32]| {
-            let index = cell.checked_sub(pair[0] as usize)?;
-            (index < pair[1] as usize).then_some(index)
-        };
-        let mut pairs = self.image.lent.directory.chunks_exact(2).enumerate();
-        match pairs.find_map(|(object, pair)| inside(pair).map(|index| (object, index))) {
-            Some((object, index)) => format!("{}[{index}] (cell {cell})", printer.object_name(object as i32)),
-            None => format!("cell {cell}"),
-        }
-    }
-
     /// A line of a trace; its columns are as wide as the routine's longest place and statement.
-    fn step_line(&self, step: u32, statement: usize, before: &Lent, after: &Lent) -> Result<String, String> {
-        let printer = self.printer()?;
+    fn step_line(&self, step: u32, before: Point, after: Point) -> Result<String, String> {
+        let (printer, statement) = (self.printer()?, before.due);
         let shown = |s: usize| match printer.table.statements[s][0] {
             11..=13 => printer.statement(s),
             _ => format!("{};", printer.statement(s)),
@@ -279,7 +260,7 @@ impl Session {
         let widest = positions.iter().map(|at| place(*at).len()).max().unwrap_or(0);
         let longest = (0..printer.table.statements.len()).map(|s| shown(s).len()).max().unwrap_or(0);
         let digits = printer.table.statements.len().saturating_sub(1).to_string().len();
-        let changes = self.changes(before, after)?.join(", ");
+        let changes = changes(&printer, before, after).join(", ");
         let (place, text) = (place(self.position(statement)?), shown(statement));
         let line = format!(
             "#{step} {place:<widest$}  {statement:>digits$} {text:<width$}{changes}",

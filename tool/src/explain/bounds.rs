@@ -1,10 +1,11 @@
 //! Refusals 8 and 9: which inequality between declared and known ends is not shown, and what moved or lost the known end.
 
 use super::facts::note;
-use super::walk::{walk, Moment, Walk};
-use super::{Explanation, Place};
+use super::walk::{Moment, Walk};
+use super::{advice, Explanation, Place};
 use crate::library::Refusal;
-use crate::table::{bounds_in_force, rows_in_force};
+use crate::rows::InForce;
+use crate::tree::Relation;
 use oracle::checker::{KnownEnd, Value};
 use oracle::facts::{node_or_zero, Facts, GREATEST};
 
@@ -53,14 +54,15 @@ pub fn not_shown_for_access(place: &Place, seen: &Walk, refusal: &Refusal) -> Ex
 /// Where the bounds were declared, what is not shown of them, what is known.
 fn notes(place: &Place, moment: &Moment, pointer: usize, explanation: &mut Explanation) {
     let printer = &place.printer;
-    let p = pointer as i32;
-    let rows = rows_in_force(printer.table, moment.statement);
-    let declared = match rows[pointer] {
-        -1 => printer.declared(p),
-        row => printer.row(p, row),
+    // A where statement stands at the refused line itself: what it replaces is declared elsewhere.
+    let is_where = printer.table.statements[moment.statement][0] == 14;
+    let (when, rows) = match is_where {
+        true => ("before", InForce::before(printer.table, moment.statement)),
+        false => ("here", moment.rows(printer.table)),
     };
-    let note_declared = format!("note: declared here: {} : {declared}", printer.name(p));
-    explanation.notes.push((place.declaration(pointer, rows[pointer]), note_declared));
+    let bounds = place.in_force(&rows, pointer);
+    let note_declared = format!("note: declared {when}: {} : {bounds}", printer.name(pointer as i32));
+    explanation.notes.push((place.declaration(&rows, pointer), note_declared));
     let mut variables = Vec::new();
     for side in unshown(place, moment, pointer) {
         variables.extend(side.variables());
@@ -78,7 +80,7 @@ struct Side {
 
 fn unshown(place: &Place, moment: &Moment, pointer: usize) -> Vec<Side> {
     let table = place.printer.table;
-    let [q, n, k, r, m, j] = bounds_in_force(table, pointer as i32, &rows_in_force(table, moment.statement));
+    let [q, n, k, r, m, j] = moment.rows(table).bounds(table, pointer);
     let value = |q: i32, n: i32, k: i32| Value {
         pointer: q as u8,
         integer: u8::try_from(n).ok(),
@@ -91,13 +93,36 @@ fn unshown(place: &Place, moment: &Moment, pointer: usize) -> Vec<Side> {
 }
 
 impl Side {
+    /// The two ends, the one that has to be at most the other first; none for an unknown end.
+    fn ordered(&self) -> Option<(Value, Value)> {
+        let known = self.known?;
+        Some(if self.upper { (self.declared, known) } else { (known, self.declared) })
+    }
+
     /// How far the inequality is from being shown, in cells; none for an unknown end.
     fn missing(&self, facts: &Facts) -> Option<i64> {
-        let known = self.known?;
-        let (a, b) = if self.upper { (self.declared, known) } else { (known, self.declared) };
+        let (a, b) = self.ordered()?;
         let pointers = facts.sum(usize::from(a.pointer), usize::from(b.pointer));
         let integers = facts.sum(node_or_zero(a.integer), node_or_zero(b.integer));
         Some((pointers + integers + a.constant - b.constant).max(0))
+    }
+
+    /// A condition on integers that would show the inequality.
+    fn lacking(&self, facts: &Facts) -> Option<[i32; 4]> {
+        let (a, b) = self.ordered()?;
+        // a's integer has to be at most b's and this.
+        let room = b.constant - a.constant - facts.sum(usize::from(a.pointer), usize::from(b.pointer));
+        let literal = |value: i64| u32::try_from(value).ok().map(|value| value as i32);
+        let [below, above] = [a.integer, b.integer].map(|variable| variable.map(i32::from));
+        match (below, above) {
+            (None, Some(m)) if (-UNRELATED..0).contains(&room) => {
+                Some([m, Relation::GreaterEqual as i32, 1, literal(-room)?])
+            }
+            (Some(n), None) => Some([n, Relation::LessEqual as i32, 1, literal(room)?]),
+            (Some(n), Some(m)) if room == 0 && n != m => Some([n, Relation::LessEqual as i32, 0, m]),
+            (Some(n), Some(m)) if room == -1 && n != m => Some([n, Relation::Less as i32, 0, m]),
+            _ => None,
+        }
     }
 
     fn variables(&self) -> Vec<i32> {
@@ -152,17 +177,14 @@ fn may_wrap(place: &Place, s: usize) -> Option<(i32, i64)> {
     (kind == 2 && x == y && k != 0).then_some((x, i64::from(k)))
 }
 
-/// A check that is all that is missing before n := n - k: tried out, so that the advice is certain.
+/// A check that is all that is missing: n >= k before n := n - k, or the order of two integers before the refused statement.
 fn help(place: &Place, moment: &Moment, pointer: usize) -> Option<String> {
-    let mut lost = moment.changed[pointer].into_iter().flatten();
-    let (s, n, k) = lost.find_map(|s| may_wrap(place, s).filter(|(_, k)| *k < 0).map(|(n, k)| (s, n, -k)))?;
-    let table = place.printer.table;
-    let repaired = table.with_before(s, [10, n, 1, 1, k as i32, 0, 0]);
-    let further = match walk(&repaired.words(), None).answer {
-        Ok(()) => true,
-        Err(refusal) => refusal.cause >= 7 && refusal.place as usize > moment.statement + 1,
-    };
-    let line = place.statement(s)?.line;
-    further
-        .then(|| format!("help: write dynamic_check({} >= {k}); before line {line}", place.printer.name(n)))
+    let refused = moment.statement;
+    let wrapping = |s: usize| may_wrap(place, s).filter(|(_, k)| *k < 0).map(|(n, k)| (s, n, -k));
+    let lost = moment.changed[pointer].into_iter().flatten().find_map(wrapping);
+    if let Some((s, n, k)) = lost {
+        return advice::check_before(place, s, [n, Relation::GreaterEqual as i32, 1, k as i32], refused);
+    }
+    let lacking = unshown(place, moment, pointer).into_iter().filter_map(|side| side.lacking(&moment.facts));
+    lacking.into_iter().find_map(|condition| advice::check_before(place, refused, condition, refused))
 }

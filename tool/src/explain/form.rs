@@ -2,7 +2,7 @@
 
 use super::Explanation;
 use crate::diagnostics::Pos;
-use crate::form::{directory_reason, Form, MAX_OBJECTS, MAX_STATEMENTS, MAX_VARIABLES, MAX_WORDS};
+use crate::form::{directory_reason, max_words, Form, MAX_OBJECTS, MAX_ROWS, MAX_STATEMENTS, MAX_VARIABLES};
 use crate::library::Refusal;
 use crate::map::{Map, RoutineMap};
 use crate::names::Names;
@@ -17,7 +17,7 @@ pub fn explain(program: &Program, refusal: &Refusal) -> Explanation {
     if refusal.number == 1 {
         let sentence = match program.ragged {
             Some(bytes) => format!("the file's {bytes} bytes are no whole words"),
-            None => format!("the table has {} words; it may have 6 to {MAX_WORDS}", words.len()),
+            None => format!("the table has {} words; it may have 6 to {}", words.len(), max_words(words)),
         };
         return Explanation { at, sentence, notes: Vec::new() };
     }
@@ -57,8 +57,7 @@ fn reason(form: &Form, refusal: &Refusal) -> (String, Vec<i32>) {
         4 if place < table.variables.len() => (form.variable(place).err(), table.variables[place].to_vec()),
         4 => {
             let row = place - table.variables.len();
-            let record = table.rows.as_ref().and_then(|rows| rows.get(row));
-            (form.row(row).err(), record.map_or(Vec::new(), |record| record.to_vec()))
+            (form.row(row).err(), table.row(row).map_or(Vec::new(), |record| record.to_vec()))
         }
         _ => {
             let record = table.statements.get(place);
@@ -76,15 +75,11 @@ fn reason(form: &Form, refusal: &Refusal) -> (String, Vec<i32>) {
 fn not_yet(table: &Table, refusal: &Refusal) -> String {
     let place = refusal.place;
     let what = match refusal.number {
-        2 => "bounds declared at statements",
         3 => "terminated objects",
         4 if table.variables.get(place).is_some_and(|record| record[0] == 2) => "nt_array_ptr",
         4 => "elements of several cells",
-        5 => match table.statements.get(place) {
-            Some(record) if record[0] == 14 => "where statements",
-            _ => "calls",
-        },
-        _ => "such blocks",
+        5 => "calls",
+        _ => "such tables",
     };
     format!("this library has no {what}")
 }
@@ -95,10 +90,9 @@ fn position(map: &Map, routine: usize, refusal: &Refusal) -> Option<Pos> {
     let RoutineMap { name, variables, statements, rows, .. } = map.routines.get(routine)?;
     let found = match refusal.number {
         2 => {
-            let many =
-                [(&map.objects, MAX_OBJECTS), (variables, MAX_VARIABLES), (statements, MAX_STATEMENTS)];
-            let first_too_many = many.into_iter().find_map(|(positions, most)| positions.get(most));
-            first_too_many.or(rows.first())
+            let counted = [(&map.objects, MAX_OBJECTS), (variables, MAX_VARIABLES)];
+            let counted = counted.into_iter().chain([(statements, MAX_STATEMENTS), (rows, MAX_ROWS)]);
+            counted.into_iter().find_map(|(positions, most)| positions.get(most))
         }
         3 => map.objects.get(place),
         4 => variables.get(place).or_else(|| rows.get(place.checked_sub(variables.len())?)),

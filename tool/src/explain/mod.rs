@@ -1,10 +1,12 @@
 //! Why a routine is refused, at its line. The library decides; the second implementation's walk explains.
 
+mod advice;
 mod bounds;
 mod entry;
 mod facts;
 mod form;
 pub mod pages;
+mod rows;
 mod state;
 pub mod stops;
 mod values;
@@ -16,6 +18,7 @@ use crate::library::{steps, Lent, Outcome, Refusal, Verdict};
 use crate::map::RoutineMap;
 use crate::printer::Printer;
 use crate::program::{Program, Text};
+use crate::rows::InForce;
 use oracle::answer::{CheckAnswer, RunInput};
 pub use state::state;
 use walk::Walk;
@@ -77,16 +80,25 @@ impl<'a> Place<'a> {
         self.map.statements.get(s).copied()
     }
 
-    /// Where a pointer's bounds in force are declared: at its declaration, or at the row.
-    fn declaration(&self, variable: usize, row: i32) -> Option<Pos> {
-        let row = usize::try_from(row).ok().and_then(|row| self.map.rows.get(row));
-        row.or_else(|| self.map.variables.get(variable)).copied()
+    /// Where a pointer's bounds in force are declared: at a where statement, or at its declaration.
+    fn declaration(&self, rows: &InForce, pointer: usize) -> Option<Pos> {
+        let at_where = rows.statement(pointer).and_then(|s| self.statement(s));
+        at_where.or_else(|| self.map.variables.get(pointer).copied())
+    }
+
+    /// The bounds in force of a pointer.
+    fn in_force(&self, rows: &InForce, pointer: usize) -> String {
+        self.printer.bounds(pointer as i32, rows.bounds(self.printer.table, pointer))
+    }
+
+    /// `line 8`; of a statement that has no line, its number.
+    fn line(&self, s: usize) -> String {
+        self.statement(s).map_or_else(|| format!("statement {s}"), |at| format!("line {}", at.line))
     }
 
     /// `line 8: rows = rows + 1`.
     fn line_and_text(&self, s: usize) -> String {
-        let text = self.printer.statement(s);
-        self.statement(s).map_or_else(|| text.clone(), |at| format!("line {}: {text}", at.line))
+        format!("{}: {}", self.line(s), self.printer.statement(s))
     }
 }
 
@@ -130,6 +142,7 @@ impl Second {
         Some(match refusal.number {
             8 => bounds::not_shown(&place, seen, refusal),
             9 => bounds::not_shown_for_access(&place, seen, refusal),
+            13 => rows::differ(&place, refusal),
             number => {
                 let sentence = format!("`mizzengrape explain {number}` tells what it means");
                 Explanation { at: place.statement(refusal.place), sentence, notes: Vec::new() }

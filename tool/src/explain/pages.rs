@@ -6,7 +6,7 @@ const MANUAL: &str = include_str!("../../../docs/FORMAT.md");
 pub fn page(heading: &str) -> Option<String> {
     let start = MANUAL.find(&format!("### {heading}: "))?;
     let part = &MANUAL[start..];
-    let end = part[1..].find("\n#").map_or(part.len(), |end| end + 2);
+    let end = part[1..].find("\n##").map_or(part.len(), |end| end + 2);
     let mut page = String::new();
     let mut example = false;
     for line in part[..end].trim_start_matches("### ").trim_end().lines() {

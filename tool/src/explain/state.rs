@@ -4,7 +4,6 @@ use super::facts::known;
 use super::walk::{walk, Moment};
 use super::Place;
 use crate::program::Program;
-use crate::table::rows_in_force;
 use oracle::checker::{KnownEnd, Value};
 
 /// The state before a statement of a routine, in lines; or why there is none.
@@ -33,15 +32,15 @@ pub fn state(program: &Program, (routine, statement): (usize, usize), short: boo
 /// The bounds of a pointer: as declared, and as known where that is something else.
 fn bounds(place: &Place, moment: &Moment, p: i32) -> String {
     let printer = &place.printer;
-    let (name, row) = (printer.name(p), rows_in_force(printer.table, moment.statement)[p as usize]);
-    let declared = match row {
-        -1 => printer.declared(p),
-        row => format!("{} (row {row})", printer.row(p, row)),
-    };
-    let mut lines = format!("declared: {name} : {declared}\n");
-    let Some(known) = moment.known.of(p as usize) else { return lines };
+    let (pointer, rows) = (p as usize, moment.rows(printer.table));
+    let mut lines = format!("declared: {} : {}", printer.name(p), place.in_force(&rows, pointer));
+    if let Some(s) = rows.statement(pointer) {
+        lines.push_str(&format!(" (row {}, {})", rows.row(printer.table, pointer), place.line(s)));
+    }
+    lines.push('\n');
+    let Some(known) = moment.known.of(pointer) else { return lines };
     let ends = [("lower", known.lower), ("upper", known.upper)];
-    for ((which, end), by) in ends.into_iter().zip(moment.changed[p as usize]) {
+    for ((which, end), by) in ends.into_iter().zip(moment.changed[pointer]) {
         if let Some(s) = by {
             let end = shown(place, p, end);
             lines.push_str(&format!("known {which} end: {end} ({})\n", place.line_and_text(s)));

@@ -3,7 +3,7 @@
 use super::values::end;
 use crate::library::Check;
 use crate::printer::Printer;
-use crate::table::{bounds_in_force, rows_in_force};
+use crate::rows::InForce;
 
 /// What the failing check of a statement says.
 pub fn sentence(printer: &Printer, statement: usize, check: Check, values: &[u32]) -> String {
@@ -51,13 +51,32 @@ fn condition_false(printer: &Printer, statement: usize, values: &[u32]) -> Strin
 fn out_of_bounds(printer: &Printer, statement: usize, values: &[u32]) -> String {
     let table = printer.table;
     let (p, i, k) = accessed(&table.statements[statement]);
-    let size = table.size(p);
-    let address = end([p, i, k], size, values).value;
-    let [q, n, lower, r, m, upper] = bounds_in_force(table, p, &rows_in_force(table, statement));
-    let (low, high) = (end([q, n, lower], size, values).value, end([r, m, upper], size, values).value);
+    let address = end([p, i, k], table.size(p), values).value;
+    let rows = InForce::before(table, statement);
+    let [low, high] = ends(printer, p, &rows, values);
     let included = if table.is_terminated(p) { "included" } else { "not included" };
     let (cell, name) = (printer.cell(p, i, k), printer.name(p));
+    let now = match rows.statement(p as usize) {
+        Some(_) => format!(", now {},", printer.bounds(p, rows.bounds(table, p as usize))),
+        None => String::new(),
+    };
     format!(
-        "`{cell}` is cell {address}; the bounds of `{name}` are cells {low} up to {high}, {high} {included}"
+        "`{cell}` is cell {address}; the bounds of `{name}`{now} are cells {low} up to {high}, {high} {included}"
     )
+}
+
+/// The values of the ends in force.
+fn ends(printer: &Printer, p: i32, rows: &InForce, values: &[u32]) -> [i64; 2] {
+    let [q, n, k, r, m, j] = rows.bounds(printer.table, p as usize);
+    let size = printer.table.size(p);
+    [[q, n, k], [r, m, j]].map(|words| end(words, size, values).value)
+}
+
+/// `cells 5 to 8`: what the bounds in force let an access reach.
+pub fn cells_of(printer: &Printer, p: i32, rows: &InForce, values: &[u32]) -> String {
+    match ends(printer, p, rows, values) {
+        [low, high] if low + 1 == high => format!("cell {low}"),
+        [low, high] if low < high => format!("cells {low} to {}", high - 1),
+        _ => "no cell".to_string(),
+    }
 }

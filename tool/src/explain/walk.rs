@@ -1,5 +1,7 @@
 //! The second implementation's walk over a routine, looked on: what is known where it ends, and which statement moved or lost each end.
 
+use crate::rows::InForce;
+use crate::table::Table;
 use oracle::answer::CheckAnswer;
 use oracle::checker::{watch, Known, KnownBounds, Observer, Rows};
 use oracle::facts::Facts;
@@ -9,10 +11,24 @@ use oracle::table::decode;
 #[derive(Clone, Debug)]
 pub struct Moment {
     pub statement: usize,
+    /// Whether the statement is behind, with its blocks.
+    is_after: bool,
     pub facts: Facts,
     pub known: Known,
     /// For each variable the statements that changed its known lower and upper end since they were the declared ones.
     pub changed: Vec<[Option<usize>; 2]>,
+}
+
+impl Moment {
+    /// The rows in force at that moment; behind a kind 14 its own row is.
+    pub fn rows(&self, table: &Table) -> InForce {
+        let (s, rows) = (self.statement, InForce::before(table, self.statement));
+        if self.is_after {
+            rows.after(table, s, s + table.extent(s))
+        } else {
+            rows
+        }
+    }
 }
 
 /// What was seen of a walk, up to its end or up to its refusal.
@@ -60,8 +76,9 @@ struct Recorder {
 }
 
 impl Recorder {
-    fn moment(&self, statement: usize, facts: &Facts, known: &Known) -> Moment {
-        Moment { statement, facts: facts.clone(), known: known.clone(), changed: self.changed.clone() }
+    fn moment(&self, statement: usize, is_after: bool, facts: &Facts, known: &Known) -> Moment {
+        let (facts, known, changed) = (facts.clone(), known.clone(), self.changed.clone());
+        Moment { statement, is_after, facts, known, changed }
     }
 
     /// Which ends a statement changed.
@@ -89,7 +106,7 @@ impl Observer for Recorder {
         if self.bundles[statement] {
             self.bundle_end = statement + self.sizes[statement];
         }
-        let moment = self.moment(statement, facts, known);
+        let moment = self.moment(statement, false, facts, known);
         if self.wanted == Some(statement) {
             self.asked = Some(moment.clone());
         }
@@ -100,6 +117,6 @@ impl Observer for Recorder {
         if !self.bundles[statement] {
             self.compare(statement, known);
         }
-        self.after = Some(self.moment(statement, facts, known));
+        self.after = Some(self.moment(statement, true, facts, known));
     }
 }

@@ -76,8 +76,7 @@ impl Printer<'_> {
 
     /// The bounds that a pointer is declared with.
     pub fn declared(&self, p: i32) -> String {
-        let record = &self.table.variables[p as usize];
-        self.bounds(p, record[2..].try_into().expect("six words behind the first two"))
+        self.bounds(p, self.table.own_bounds(p as usize))
     }
 
     /// `p[i + k]`, or `p[i + m][c]` where elements are rows.

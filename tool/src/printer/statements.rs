@@ -89,6 +89,17 @@ impl Printer<'_> {
         self.bounds(p, rows[row as usize])
     }
 
+    /// A row as one writes it anew: by its bounds, which name the lowest row with these words, else by its name.
+    pub fn row_to_write(&self, p: i32, row: i32) -> String {
+        let rows = self.table.rows.as_deref().unwrap_or(&[]);
+        let row = row as usize;
+        if rows[..row].contains(&rows[row]) {
+            self.row_name(row).to_string()
+        } else {
+            self.bounds(p, rows[row])
+        }
+    }
+
     /// `x = f(a, b)`; an argument left out before others is void.
     fn call(&self, s: usize) -> String {
         let [_, callee, result, arguments @ ..] = &self.table.statements[s];
