@@ -8,59 +8,60 @@ use lib.IntN.{ℤ}
 use lib.ListN.{length}
 use Rattle.refusals.specs.Refusals.{number, place, pointer}
 use Rattle.refusals.specs.declared.Refusal.{Refusal}
-use Rattle.rules.specs.Verdict.{verdictOf}
+use Rattle.rules.specs.Verdict.{Reading, verdictReads, firstReads}
 use Rattle.rules.specs.ByChains.{chainFaults, Judged}
 use Rattle.rules.specs.Decidable.{decided}
 use Rattle.rules.specs.declared.Verdict.{Verdict}
 use Rattle.rules.specs.declared.Verdict.the-variants as verdict
 use Rattle.stops.specs.Checks.{checkNumber, checkStatement}
-use Rattle.interpreter.specs.Claim.{RunJudged}
+use Rattle.interpreter.specs.Claim.{Lent, RunJudged}
+use Rattle.stops.specs.Answers.{reads}
 use Rattle.stops.specs.declared.Check.{Check}
 use Rattle.stops.specs.declared.Outcome.{Outcome}
 use Rattle.stops.specs.declared.Outcome.the-variants.{Done, Spent, Stopped, Refused}
-use Rattle.exports.specs.Words.{wordOf, putThree, putFour, verdictWords, outcomeWords, CheckAnswer, RunWords}
+use Rattle.exports.specs.Words.{wordOf, putThree, putFour, verdictWords, answerWords, CheckAnswer, RunWords}
 
 module _ (w : List ℕ) {w′ : List ℕ} where
-  pub accepted-words : {v : Verdict} → v ≡ verdict.Accepted → w′ ≡ putThree w 0 0 0 → w′ ≡ verdictWords v w
+  pub accepted-words : {v : Verdict} → v ≡ verdict.Accepted → w′ ≡ putThree w 0 0 0 → w′ ≡ verdictWords (verdictReads v) w
   unfolding verdictWords
   accepted-words e p = rw e p
 
   pub refused-words : {v : Verdict} {r : Refusal} {n a b p q : ℕ} → v ≡ verdict.Refused r → n ≡ number r → a ≡ place r → b ≡ wordOf a → p ≡ pointer r → q ≡ wordOf p
-      → w′ ≡ putThree w n b q → w′ ≡ verdictWords v w
+      → w′ ≡ putThree w n b q → w′ ≡ verdictWords (verdictReads v) w
   unfolding verdictWords
   refused-words e en ea eb ep eq s = rw (e, ← en, ← ea, ← ep, ← eb, ← eq) s
 
-  pub done-words : {o : Outcome} {n : ℕ} → o ≡ Done n → w′ ≡ putFour w 0 n 0 0 → w′ ≡ outcomeWords o w
-  unfolding outcomeWords
+  pub done-words : {o : Outcome} {n : ℕ} → o ≡ Done n → w′ ≡ putFour w 0 n 0 0 → w′ ≡ answerWords (reads o) w
+  unfolding answerWords
   done-words e p = rw e p
 
-  pub spent-words : {o : Outcome} {n a b : ℕ} → o ≡ Spent n a → b ≡ wordOf a → w′ ≡ putFour w 1 n b 0 → w′ ≡ outcomeWords o w
-  unfolding outcomeWords
+  pub spent-words : {o : Outcome} {n a b : ℕ} → o ≡ Spent n a → b ≡ wordOf a → w′ ≡ putFour w 1 n b 0 → w′ ≡ answerWords (reads o) w
+  unfolding answerWords
   spent-words e eb p = rw (e, ← eb) p
 
-  pub stopped-words : {o : Outcome} {c : Check} {n a b k : ℕ} → o ≡ Stopped n c → a ≡ checkStatement c → b ≡ wordOf a → k ≡ checkNumber c → w′ ≡ putFour w 2 n b k → w′ ≡ outcomeWords o w
-  unfolding outcomeWords
+  pub stopped-words : {o : Outcome} {c : Check} {n a b k : ℕ} → o ≡ Stopped n c → a ≡ checkStatement c → b ≡ wordOf a → k ≡ checkNumber c → w′ ≡ putFour w 2 n b k → w′ ≡ answerWords (reads o) w
+  unfolding answerWords
   stopped-words e ea eb ek p = rw (e, ← ea, ← eb, ← ek) p
 
   pub not-begun-words : {o : Outcome} {r : Refusal} {n a b p q : ℕ} → o ≡ Refused r → n ≡ number r → a ≡ place r → b ≡ wordOf a → p ≡ pointer r → q ≡ wordOf p
-      → w′ ≡ putFour w 3 n b q → w′ ≡ outcomeWords o w
-  unfolding outcomeWords
+      → w′ ≡ putFour w 3 n b q → w′ ≡ answerWords (reads o) w
+  unfolding answerWords
   not-begun-words e en ea eb ep eq s = rw (e, ← en, ← ea, ← ep, ← eb, ← eq) s
 
 pub no-room : {T : List ℤ} {w : List ℕ} → length w < 3 → CheckAnswer T w false w
 no-room {T} {w} h = record { room = sym (lt-leb 3 (length w) h); words = rw (lt-leb 3 (length w) h) refl }
 
-pub checked-words : {T : List ℤ} {w w′ : List ℕ} (v : Verdict) → 3 ≤ length w → Judged T v → w′ ≡ verdictWords v w → CheckAnswer T w true w′
+pub checked-words : {T : List ℤ} {w w′ : List ℕ} (v : Verdict) → 3 ≤ length w → Judged T v → w′ ≡ verdictWords (verdictReads v) w → CheckAnswer T w true w′
 unfolding Judged
 checked-words {T} {w} {w′} v h a e =
     record {
       room = sym (le-leb 3 (length w) h);
-      words = rw (le-leb 3 (length w) h) (decided T (λ d. w′ ≡ verdictWords (verdictOf (chainFaults d T)) w) (λ d c. e ∙ ap (λ (x : Verdict). verdictWords x w) (a .by-each d c)));
+      words = rw (le-leb 3 (length w) h) (decided T (λ d. w′ ≡ verdictWords (firstReads (chainFaults d T)) w) (λ d c. e ∙ ap (λ (x : Reading). verdictWords x w) (a .by-each d c .reads)));
     }
 
-pub no-room-to-run : {T : List ℤ} {D cs vs os w : List ℕ} {limit : ℕ} → length w < 4 → RunWords T D cs vs os limit w false vs cs w
+pub no-room-to-run : {l : Lent} {w : List ℕ} {limit : ℕ} → length w < 4 → RunWords l limit w false (l .values) (l .cells) w
 no-room-to-run {w = w} h = record { room = sym (lt-leb 4 (length w) h); words = rw (lt-leb 4 (length w) h) (refl, refl, refl) }
 
-pub ran-words : {T : List ℤ} {D cs vs os w vs′ cs′ w′ : List ℕ} {limit : ℕ} (o : Outcome) → 4 ≤ length w → RunJudged T D cs vs os limit o vs′ cs′ → w′ ≡ outcomeWords o w
-    → RunWords T D cs vs os limit w true vs′ cs′ w′
+pub ran-words : {l : Lent} {w vs cs w′ : List ℕ} {limit : ℕ} (o : Outcome) → 4 ≤ length w → RunJudged l limit (record { answer = o; values = vs; cells = cs }) → w′ ≡ answerWords (reads o) w
+    → RunWords l limit w true vs cs w′
 ran-words {w = w} o h a e = record { room = sym (le-leb 4 (length w) h); words = rw (le-leb 4 (length w) h) (o, a, e) }

@@ -6,15 +6,12 @@ use mathlib.Core.List.{List}
 use lib.Dec.{leb}
 use lib.IntN.{ℤ}
 use lib.ListN.{length, set}
-use Rattle.refusals.specs.Refusals.{number, place, pointer}
-use Rattle.rules.specs.Verdict.{verdictOf}
+use Rattle.rules.specs.Verdict.{Reading, firstReads}
+use Rattle.rules.specs.Verdict as reading
 use Rattle.rules.specs.ByChains.{Decided, chainFaults}
-use Rattle.rules.specs.declared.Verdict.{Verdict}
-use Rattle.rules.specs.declared.Verdict.the-variants as verdict
-use Rattle.stops.specs.Checks.{checkNumber, checkStatement}
-use Rattle.interpreter.specs.Claim.{RunJudged}
+use Rattle.stops.specs.Answers.{Answer, done, spent, stopped, refused, reads}
+use Rattle.interpreter.specs.Claim.{Lent, RunJudged}
 use Rattle.stops.specs.declared.Outcome.{Outcome}
-use Rattle.stops.specs.declared.Outcome.the-variants.{Done, Spent, Stopped, Refused}
 
 abbrev pub wordOf : ℕ → ℕ
 wordOf n = n % 2 ^ 32
@@ -25,21 +22,21 @@ putThree w a b c = set (set (set w 0 a) 1 b) 2 c
 abbrev pub putFour : List ℕ → ℕ → ℕ → ℕ → ℕ → List ℕ
 putFour w a b c d = set (putThree w a b c) 3 d
 
--- 0 for accepted, else the refusal's number; its place; the pointer of refusal 8, else 0. The words behind stay.
-unfoldable pub verdictWords : Verdict → List ℕ → List ℕ
-verdictWords verdict.Accepted w = putThree w 0 0 0
-verdictWords (verdict.Refused r) w = putThree w (number r) (wordOf (place r)) (wordOf (pointer r))
+-- What a verdict reads as: 0 for accepted, else the refusal's number; its place; its pointer. The words behind stay.
+unfoldable pub verdictWords : Reading → List ℕ → List ℕ
+verdictWords reading.accepted w = putThree w 0 0 0
+verdictWords (reading.refused n a p) w = putThree w n (wordOf a) (wordOf p)
 
--- 0 done: steps. 1 spent: steps, statement. 2 stopped: steps, statement, check. 3 refused: number, place, pointer. The words behind stay.
-unfoldable pub outcomeWords : Outcome → List ℕ → List ℕ
-outcomeWords (Done n) w = putFour w 0 n 0 0
-outcomeWords (Spent n a) w = putFour w 1 n (wordOf a) 0
-outcomeWords (Stopped n c) w = putFour w 2 n (wordOf (checkStatement c)) (checkNumber c)
-outcomeWords (Refused r) w = putFour w 3 (number r) (wordOf (place r)) (wordOf (pointer r))
+-- What an answer reads as. 0 done: steps. 1 spent: steps, statement. 2 stopped: steps, statement, check. 3 refused: number, place, pointer.
+unfoldable pub answerWords : Answer → List ℕ → List ℕ
+answerWords (done n) w = putFour w 0 n 0 0
+answerWords (spent n a) w = putFour w 1 n (wordOf a) 0
+answerWords (stopped n a k) w = putFour w 2 n (wordOf a) k
+answerWords (refused n a p) w = putFour w 3 n (wordOf a) (wordOf p)
 
--- Where there is room for an answer, the words of the verdict on the table, by the paper's chains; else nothing is written.
+-- Where there is room for an answer, the words of what the first fault of the table reads as, by the paper's chains; else nothing is written.
 abbrev pub checkedIf : Bool → List ℤ → List ℕ → List ℕ → Type 0
-checkedIf true T w w′ = Decided T (λ d. w′ ≡ verdictWords (verdictOf (chainFaults d T)) w)
+checkedIf true T w w′ = Decided T (λ d. w′ ≡ verdictWords (firstReads (chainFaults d T)) w)
 checkedIf false T w w′ = w′ ≡ w
 
 pub record CheckAnswer (T : List ℤ) (w : List ℕ) (r : Bool) (w′ : List ℕ) : Type 0 where
@@ -47,10 +44,11 @@ pub record CheckAnswer (T : List ℤ) (w : List ℕ) (r : Bool) (w′ : List ℕ
   pub words : checkedIf (leb 3 (length w)) T w w′
 
 -- Where there is room for an answer, the words of an outcome for which, with the values and cells then, the claim about a run holds; else nothing is written.
-abbrev pub ranIf : Bool → List ℤ → List ℕ → List ℕ → List ℕ → List ℕ → ℕ → List ℕ → List ℕ → List ℕ → List ℕ → Type 0
-ranIf true T D cs vs os limit w vs′ cs′ w′ = (o : Outcome) × RunJudged T D cs vs os limit o vs′ cs′ × (w′ ≡ outcomeWords o w)
-ranIf false T D cs vs os limit w vs′ cs′ w′ = (vs′ ≡ vs) × (cs′ ≡ cs) × (w′ ≡ w)
+abbrev pub ranIf : Bool → Lent → ℕ → List ℕ → List ℕ → List ℕ → List ℕ → Type 0
+ranIf true l limit w vs cs w′ = (o : Outcome) × RunJudged l limit (record { answer = o; values = vs; cells = cs }) × (w′ ≡ answerWords (reads o) w)
+ranIf false l limit w vs cs w′ = (vs ≡ l .values) × (cs ≡ l .cells) × (w′ ≡ w)
 
-pub record RunWords (T : List ℤ) (D cs vs os : List ℕ) (limit : ℕ) (w : List ℕ) (r : Bool) (vs′ cs′ w′ : List ℕ) : Type 0 where
+-- w are the words behind which the answer is written; vs, cs and w′ what values, cells and words hold then.
+pub record RunWords (l : Lent) (limit : ℕ) (w : List ℕ) (r : Bool) (vs cs w′ : List ℕ) : Type 0 where
   pub room : r ≡ leb 4 (length w)
-  pub words : ranIf (leb 4 (length w)) T D cs vs os limit w vs′ cs′ w′
+  pub words : ranIf (leb 4 (length w)) l limit w vs cs w′

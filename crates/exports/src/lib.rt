@@ -6,7 +6,9 @@ use stops::check_statement;
 ghost use mathlib.Core.Path.{_≡_};
 ghost use Prim.Native.Nat.{_≤_};
 ghost use lib.ListN.{length};
-ghost use Rattle.exports.specs.Words.{wordOf, putThree, putFour, verdictWords, outcomeWords, CheckAnswer, RunWords};
+ghost use Rattle.rules.specs.Verdict.{verdictReads};
+ghost use Rattle.stops.specs.Answers.{reads};
+ghost use Rattle.exports.specs.Words.{wordOf, putThree, putFour, verdictWords, answerWords, CheckAnswer, RunWords};
 
 // A number as an answer word. Statements, objects and variables are few, so that the remainder is the number.
 fn word_of(n: usize) -> u32
@@ -36,7 +38,7 @@ fn put_four(answer: &mut [u32], a: u32, b: u32, c: u32, d: u32)
 
 fn put_verdict(answer: &mut [u32], verdict: Verdict)
     requires { ⌜ 3 ≤ length (now answer) ⌝ }
-    ensures { λ _. ⌜ now (answer .exit) ≡ verdictWords verdict (now (answer .entry)) ⌝ }
+    ensures { λ _. ⌜ now (answer .exit) ≡ verdictWords (verdictReads verdict) (now (answer .entry)) ⌝ }
 {
     match verdict {
         Verdict::Accepted => {
@@ -53,7 +55,7 @@ fn put_verdict(answer: &mut [u32], verdict: Verdict)
 
 fn put_outcome(answer: &mut [u32], outcome: Outcome)
     requires { ⌜ 4 ≤ length (now answer) ⌝ }
-    ensures { λ _. ⌜ now (answer .exit) ≡ outcomeWords outcome (now (answer .entry)) ⌝ }
+    ensures { λ _. ⌜ now (answer .exit) ≡ answerWords (reads outcome) (now (answer .entry)) ⌝ }
 {
     match outcome {
         Outcome::Done { steps } => {
@@ -101,7 +103,7 @@ pub extern "C" fn mizzengrape_run(
     limit: u32,
     answer: &mut [u32],
 ) -> bool
-    ensures { λ r. ⌜ RunWords (now (table .entry)) (now (directory .entry)) (now (cells .entry)) (now (values .entry)) (now (origins .entry)) limit (now (answer .entry)) r (now (values .exit)) (now (cells .exit)) (now (answer .exit)) ⌝ }
+    ensures { λ r. ⌜ RunWords (record { table = now (table .entry); directory = now (directory .entry); cells = now (cells .entry); values = now (values .entry); origins = now (origins .entry) }) limit (now (answer .entry)) r (now (values .exit)) (now (cells .exit)) (now (answer .exit)) ⌝ }
 {
     if answer.len() < 4 {
         return false;

@@ -15,7 +15,7 @@ use Rattle.table.specs.Form.{lengthRight, formOf, fourPairs}
 use Rattle.rules.specs.FactSets.{FactSets}
 use Rattle.rules.specs.Verdict.{faults, verdictOf}
 use Rattle.rules.specs.ByChains.{byChains, Judged}
-use Rattle.rules.specs.Decidable.{decided}
+use Rattle.rules.specs.Decidable.{decided, says}
 use Rattle.rules.specs.declared.Verdict.{Verdict}
 use Rattle.rules.specs.declared.Verdict.the-variants.{Refused}
 use Rattle.encoding.specs.Words.{wordAt}
@@ -37,15 +37,15 @@ faults-long S T h = rw (above-both (fourPairs T) (length T) h, and-false (leb 6 
 
 pub odd-refused : (bytes : List ℕ) → (length bytes % 4 ≡ 0 → ⊥) → FileJudged bytes (Refused Length)
 unfolding FileJudged fileFaults verdictOf
-odd-refused bytes n = decided _ _ (λ d r. rw (ne-eqb (length bytes % 4) 0 n) refl)
+odd-refused bytes n = decided _ _ (λ d r. says _ _ (rw (ne-eqb (length bytes % 4) 0 n) refl))
 
 pub long-refused : (bytes : List ℕ) → length bytes % 4 ≡ 0 → 7704 < length bytes / 4 → FileJudged bytes (Refused Length)
 unfolding FileJudged fileFaults verdictOf wordsOf
 long-refused bytes e h =
-    decided _ _ (λ d r. rw (
+    decided _ _ (λ d r. says _ _ (rw (
       eq-eqb (length bytes % 4) 0 e,
       faults-long (byChains d) (tabulate (length bytes / 4) (λ i. wordAt bytes (4 * i))) (rw (length-tabulate (length bytes / 4) (λ i. wordAt bytes (4 * i))) h),
-    ) refl)
+    ) refl))
 
 pub file-answered : (bytes : List ℕ) {table old : List ℤ} {count : ℕ} (v : Verdict) → length bytes % 4 ≡ 0 → length bytes / 4 ≤ length old → WordsRead bytes old count table
     → Judged (take count table) v → FileJudged bytes v

@@ -1,6 +1,5 @@
 -- "The verdict program reads a file on standard input": the verdict on a file's bytes.
 use Prim.Native.Nat.{ℕ, _*_, _/_, _%_}
-use mathlib.Core.Path.{_≡_}
 use mathlib.Core.Bool.{cond}
 use mathlib.Core.List.{List, [], _∷_}
 use lib.Dec.{eqb}
@@ -9,7 +8,7 @@ use lib.ListN.{length}
 use Rattle.arrays.specs.Tabulate.{tabulate}
 use Rattle.refusals.specs.declared.Refusal.{Refusal}
 use Rattle.refusals.specs.declared.Refusal.the-variants.{Length}
-use Rattle.rules.specs.Verdict.{faults, verdictOf}
+use Rattle.rules.specs.Verdict.{faults, Says}
 use Rattle.rules.specs.FactSets.{FactSets}
 use Rattle.rules.specs.ByChains.{byChains, Decided}
 use Rattle.rules.specs.declared.Verdict.{Verdict}
@@ -25,4 +24,4 @@ fileFaults S bytes = cond (eqb (length bytes % 4) 0) (faults S (wordsOf bytes)) 
 
 -- THE VERDICT ON A FILE, by the paper's chains of the facts of its table: it answers the first fault.
 unfoldable pub FileJudged : List ℕ → Verdict → Type 0
-FileJudged bytes v = Decided (wordsOf bytes) (λ d. v ≡ verdictOf (fileFaults (byChains d) bytes))
+FileJudged bytes v = Decided (wordsOf bytes) (λ d. Says (fileFaults (byChains d) bytes) v)

@@ -1,18 +1,17 @@
--- THE CLAIM about a run, for each input: the three demands on `run`, and demand 3 as one record about every point.
+-- THE CLAIM about a run, for each input: the three demands on `run`, demand 3 as one record about every point. Document 01, "The demands" and "Running".
 -- The proof begins at `run-claim` in ClaimLaws.
 use Prim.Native.Nat.{ℕ, _+_, _≤_, _<_}
 use mathlib.Core.Path.{_≡_}
 use mathlib.Core.Logic.{_≢_, _↔_}
-use mathlib.Core.Bool.{true, false}
+use mathlib.Core.Bool.{true, false, cond}
 use mathlib.Core.List.{List, [], _∷_}
+use lib.Dec.{ltb}
 use lib.IntN.{ℤ}
 use lib.ListN.{getD}
+use Rattle.refusals.specs.Refusals.{number, place, pointer}
 use Rattle.refusals.specs.declared.Refusal.{Refusal}
 use Rattle.sections.specs.declared.Sections.{Sections}
 use Rattle.statements.specs.Statements.{statementAt}
-use Rattle.statements.specs.declared.Statement.the-variants.{Plain, If, While, Bundle}
-use Rattle.statements.specs.declared.StatementRead.{StatementRead}
-use Rattle.statements.specs.declared.StatementRead.the-variants.{Read, Unread}
 use Rattle.table.specs.Form.{sectionsOf, formOf}
 use Rattle.table.specs.declared.Form.{Form}
 use Rattle.table.specs.declared.Form.the-variants.{WellFormed, Refused}
@@ -23,95 +22,129 @@ use Rattle.rules.specs.Verdict.{environmentOf, faults}
 use Rattle.rules.specs.FactSets.{FactSets}
 use Rattle.rules.specs.ByChains.{byChains, Decided}
 use Rattle.rules.specs.declared.Environment.{Environment}
-use Rattle.machine.specs.Machine.{Failing, none, fails, failing, boundsTrue, inOrigin, going, stopped, stuck, Point, start, pointAfter}
+use Rattle.machine.specs.Machine.{Failing, none, fails, boundsTrue, Status, going, stopped, stuck, Point, halted, start, pointAfter}
+use Rattle.machine.specs.Points.{inBundle, failingAt, accessFrom, AccessInside, Outside}
 use Rattle.entry.specs.Entry.{entryRefusals}
-use Rattle.machine.specs.Points.{inBundle, Access, no-access, access, accessFrom, Outside}
-use Rattle.stops.specs.Checks.{checkNumber, checkStatement}
-use Rattle.stops.specs.declared.Check.{Check}
-use Rattle.interpreter.specs.Outcomes.{outcomeShown}
+use Rattle.stops.specs.Answers.{Answer, reads}
+use Rattle.stops.specs.Answers as says
 use Rattle.stops.specs.declared.Outcome.{Outcome}
-use Rattle.stops.specs.declared.Outcome.the-variants as outcome
+
+-- ---- what is lent and what is left
+-- What a call of `run` is lent.
+pub record Lent : Type 0 where
+  pub table : List ℤ
+  pub directory : List ℕ
+  pub cells : List ℕ
+  pub values : List ℕ
+  pub origins : List ℕ
+
+-- What it leaves: its answer, and what the two buffers hold that it may write. (Table, directory and origins are lent to be read.)
+pub record Left : Type 0 where
+  pub answer : Outcome
+  pub values : List ℕ
+  pub cells : List ℕ
 
 -- ---- what refuses a run
-
-abbrev pub entryFaults : Form → List ℤ → List ℕ → List ℕ → List ℕ → List ℕ → List Refusal
-entryFaults (Refused r) T D cs vs os = []
-entryFaults (WellFormed h) T D cs vs os = entryRefusals h (environmentOf T h) D cs vs os
+abbrev pub entryFaults : Form → Lent → List Refusal
+entryFaults (Refused r) l = []
+entryFaults (WellFormed h) l = entryRefusals h (environmentOf (l .table) h) (l .directory) (l .cells) (l .values) (l .origins)
 
 -- "A run checks the routine first, then 10 to 12": all faults in that order. "A run is begun when no cause refuses it."
-unfoldable pub runFaults : FactSets → List ℤ → List ℕ → List ℕ → List ℕ → List ℕ → List Refusal
-runFaults S T D cs vs os = also (faults S T) (entryFaults (formOf T) T D cs vs os)
+unfoldable pub runFaults : FactSets → Lent → List Refusal
+runFaults S l = also (faults S (l .table)) (entryFaults (formOf (l .table)) l)
+
+-- A refused run: its answer reads as that refusal's number, place and pointer; no cell and no value is changed.
+pub record NotBegun (f : Refusal) (l : Lent) (m : Left) : Type 0 where
+  pub answer : reads (m .answer) ≡ says.refused (number f) (place f) (pointer f)
+  pub values : m .values ≡ l .values
+  pub cells : m .cells ≡ l .cells
 
 -- ---- the points of a begun run
+-- How a run ends at a point: "done, spent (the allowance is used and a statement is due) or stopped".
+abbrev pub shownAs : Sections → Status → ℕ → ℕ → Answer
+shownAs h going steps due = cond (ltb due (h .statements)) (says.spent steps due) (says.done steps)
+shownAs h (stopped n) steps due = says.stopped steps due n
+shownAs h stuck steps due = says.done steps
 
--- "The point after t steps is where the same run with allowance t ends."
-abbrev pub pointOf : List ℤ → Sections → List ℕ → List ℕ → List ℕ → List ℕ → ℕ → Point
-pointOf T h D cs vs os t = pointAfter T h (environmentOf T h) D t (start T h (environmentOf T h) D cs vs os)
+-- Of what is lent, and the sections h of its table:
+module _ (l : Lent) (h : Sections) where
+  -- "Its points are the start and what each step leaves": the plain machine after t steps. (Where it has ended it stays.)
+  abbrev pub pointOf : ℕ → Point
+  pointOf t = pointAfter (l .table) h (environmentOf (l .table) h) (l .directory) t
+      (start (l .table) h (environmentOf (l .table) h) (l .directory) (l .cells) (l .values) (l .origins))
 
--- "a named check fails at the statement due": the first such check. Heads of blocks have none.
-abbrev pub failingAt : Environment → StatementRead → List ℕ → Failing
-failingAt E (Read (Plain s)) vs = failing E vs s
-failingAt E (Read (If c x y)) vs = none
-failingAt E (Read (While c x)) vs = none
-failingAt E (Read (Bundle x)) vs = none
-failingAt E Unread vs = none
+  -- Point 2: what is declared at the point after t steps, each pointer's row in force or its own bound.
+  abbrev pub declaredAt : ℕ → Environment
+  declaredAt t = inForce (environmentOf (l .table) h) (pointOf t .rows)
 
--- "Each cell read or written lay in the object that the pointer was derived from."
-abbrev pub AccessInside : List ℕ → Access → Type 0
-AccessInside D no-access = Unit {0}
-AccessInside D (access a origin) = inOrigin D origin a ≡ true
+  -- The run has not stopped before the point after t steps, and a statement is due there.
+  abbrev pub Due : ℕ → Type 0
+  Due t = (pointOf t .status ≡ going) × (pointOf t .due < h .statements)
 
--- What the run with the allowance t answers of its steps, statement and check.
-abbrev pub answerAt : Sections → Point → Outcome
-answerAt h P = outcomeShown h (P .status) (P .steps) (P .due)
+  -- The first check that fails at the statement due.
+  abbrev pub failingDue : ℕ → Failing
+  failingDue t = failingAt (declaredAt t) (statementAt (l .table) h (pointOf t .due)) (pointOf t .values)
 
--- DEMAND 3 at the point after t steps of a run with the allowance `limit`, which answers r.
-pub record AtPoint (T : List ℤ) (h : Sections) (E : Environment) (D : List ℕ) (point : ℕ → Point) (limit : ℕ) (r : Outcome) (t : ℕ) : Type 0 where
-  -- "Outside a bundle every declared bound is true." Declared is what is in force: the pointer's row, or its own.
-  pub bounds : inBundle (tree T h) (point t .due) ≡ false → (p : ℕ) → isPointer E p ≡ true → boundsTrue (inForce E (point t .rows)) D (point t .values) (point t .origins) p ≡ true
-  -- "Each cell read or written so far lay in the object that the pointer was derived from."
-  pub accesses : (s : ℕ) → s < t → AccessInside D (accessFrom T h E (point s .status) (point s))
-  -- No cell outside the objects has changed.
-  pub untouched : (i : ℕ) → Outside D (h .objects) i → getD (point t .cells) i 0 ≡ getD (point 0 .cells) i 0
-  -- The plain machine has a step wherever no check fails.
-  pub has-step : point t .status ≢ stuck
-  -- A run that goes on has made t steps.
-  pub counted : point t .status ≡ going → point t .due < h .statements → point t .steps ≡ t
-  -- "the run, unless it has stopped, has finished exactly when no statement is due"
-  pub finished : point t .status ≡ going → (r ≡ outcome.Done (point t .steps)) ↔ (h .statements ≤ point t .due)
-  -- "else it is spent exactly when its allowance is used"
-  pub spent : point t .status ≡ going → point t .due < h .statements → (r ≡ outcome.Spent (point t .steps) (point t .due)) ↔ (t ≡ limit)
-  -- "else its next step stops it exactly when a named check fails at the statement due,
-  pub stops : point t .status ≡ going → point t .due < h .statements → (n : ℕ)
-      → (point (t + 1) .status ≡ stopped n) ↔ (failingAt (inForce E (point t .rows)) (statementAt T h (point t .due)) (point t .values) ≡ fails n)
-  -- and it answers that statement and the first such check"
-  pub answers-check : point t .status ≡ going → point t .due < h .statements → t < limit → (c : Check)
-      → (r ≡ outcome.Stopped (point t .steps + 1) c) ↔ ((failingAt (inForce E (point t .rows)) (statementAt T h (point t .due)) (point t .values) ≡ fails (checkNumber c)) × (checkStatement c ≡ point t .due))
-  -- "The stopping statement is counted and changes nothing", and stays due.
-  pub stop-changes-nothing : point t .status ≡ going → (n : ℕ) → point (t + 1) .status ≡ stopped n
-      → (point (t + 1) .due ≡ point t .due) × (point (t + 1) .steps ≡ point t .steps + 1) × (point (t + 1) .values ≡ point t .values) × (point (t + 1) .cells ≡ point t .cells) × (point (t + 1) .origins ≡ point t .origins) × (point (t + 1) .rows ≡ point t .rows)
-  -- "and else it takes that step"
-  pub goes-on : point t .status ≡ going → point t .due < h .statements → failingAt (inForce E (point t .rows)) (statementAt T h (point t .due)) (point t .values) ≡ none
-      → (point (t + 1) .status ≡ going) × (point (t + 1) .steps ≡ point t .steps + 1)
+  -- "The point after t steps is where the same run with allowance t ends": what that run answers.
+  abbrev pub answerAt : ℕ → Answer
+  answerAt t = shownAs h (pointOf t .status) (pointOf t .steps) (pointOf t .due)
 
--- A begun run of a table with the sections h: it answers the plain machine's outcome, values and cells at its limit, and demand 3 holds at every point up to there.
-pub record Ran (T : List ℤ) (h : Sections) (D cs vs os : List ℕ) (limit : ℕ) (r : Outcome) (vs′ cs′ : List ℕ) : Type 0 where
-  pub answer : r ≡ answerAt h (pointOf T h D cs vs os limit)
-  pub values : vs′ ≡ pointOf T h D cs vs os limit .values
-  pub cells : cs′ ≡ pointOf T h D cs vs os limit .cells
-  pub every-point : (t : ℕ) → t ≤ limit → AtPoint T h (environmentOf T h) D (pointOf T h D cs vs os) limit r t
+  -- DEMAND 3 at the point after t steps of a run with the allowance `limit`, whose answer reads as `a`.
+  pub record AtPoint (limit : ℕ) (a : Answer) (t : ℕ) : Type 0 where
+    -- "Outside a bundle every declared bound is true."
+    pub bounds : inBundle (tree (l .table) h) (pointOf t .due) ≡ false
+        → (p : ℕ) → isPointer (declaredAt t) p ≡ true → boundsTrue (declaredAt t) (l .directory) (pointOf t .values) (pointOf t .origins) p ≡ true
+    -- "Each cell read or written so far lay in the object that the pointer was derived from."
+    pub accesses : (s : ℕ) → s < t → AccessInside (l .directory) (accessFrom (l .table) h (environmentOf (l .table) h) (pointOf s .status) (pointOf s))
+    -- No cell outside the objects has changed.
+    pub untouched : (i : ℕ) → Outside (l .directory) (h .objects) i → getD (pointOf t .cells) i 0 ≡ getD (l .cells) i 0
+    -- The plain machine has a step wherever no check fails.
+    pub has-step : pointOf t .status ≢ stuck
+    -- A run that goes on has made t steps.
+    pub counted : Due t → pointOf t .steps ≡ t
+    -- "the run, unless it has stopped, has finished exactly when no statement is due"
+    pub finished : pointOf t .status ≡ going → (a ≡ says.done (pointOf t .steps)) ↔ (h .statements ≤ pointOf t .due)
+    -- "else it is spent exactly when its allowance is used"
+    pub spent : Due t → (a ≡ says.spent (pointOf t .steps) (pointOf t .due)) ↔ (t ≡ limit)
+    -- "else its next step stops it exactly when a named check fails at the statement due,
+    pub stops : Due t → (n : ℕ) → (pointOf (t + 1) .status ≡ stopped n) ↔ (failingDue t ≡ fails n)
+    -- and it answers that statement and the first such check": number n.
+    pub answers-check : Due t → t < limit → (n s : ℕ)
+        → (a ≡ says.stopped (pointOf t .steps + 1) s n) ↔ ((failingDue t ≡ fails n) × (s ≡ pointOf t .due))
+    -- "The stopping statement is counted and changes nothing", and stays due.
+    pub stop-changes-nothing : pointOf t .status ≡ going → (n : ℕ) → pointOf (t + 1) .status ≡ stopped n → pointOf (t + 1) ≡ halted (pointOf t) n
+    -- "and else it takes that step"
+    pub goes-on : Due t → failingDue t ≡ none → (pointOf (t + 1) .status ≡ going) × (pointOf (t + 1) .steps ≡ pointOf t .steps + 1)
 
--- A refused run: the refusal is its answer, and no cell and no value is changed.
-pub record NotBegun (refusal : Refusal) (cs vs : List ℕ) (r : Outcome) (vs′ cs′ : List ℕ) : Type 0 where
-  pub answer : r ≡ outcome.Refused refusal
-  pub values : vs′ ≡ vs
-  pub cells : cs′ ≡ cs
+  -- "Its cells and values, the statement due and the steps it answers, a stopping one counted, are the plain machine's": what a run with the allowance t
+  -- answers and leaves.
+  pub record EndsAt (t : ℕ) (m : Left) : Type 0 where
+    pub answer : reads (m .answer) ≡ answerAt t
+    pub values : m .values ≡ pointOf t .values
+    pub cells : m .cells ≡ pointOf t .cells
 
--- What a run answers, given all faults of its input.
-unfoldable pub RunAnswer : List Refusal → List ℤ → List ℕ → List ℕ → List ℕ → List ℕ → ℕ → Outcome → List ℕ → List ℕ → Type 0
-RunAnswer [] T D cs vs os limit r vs′ cs′ = Ran T (sectionsOf T) D cs vs os limit r vs′ cs′
-RunAnswer (f ∷ fs) T D cs vs os limit r vs′ cs′ = NotBegun f cs vs r vs′ cs′
+  -- A begun run: what it answers and leaves, and demand 3 at every point up to there.
+  pub record Ran (limit : ℕ) (m : Left) : Type 0 where
+    pub ends : EndsAt limit m
+    pub every-point : (t : ℕ) → t ≤ limit → AtPoint limit (reads (m .answer)) t
 
--- THE CONTRACT OF `run`, for each input, by the paper's chains of the facts of its table.
-unfoldable pub RunJudged : List ℤ → List ℕ → List ℕ → List ℕ → List ℕ → ℕ → Outcome → List ℕ → List ℕ → Type 0
-RunJudged T D cs vs os limit r vs′ cs′ = Decided T (λ d. RunAnswer (runFaults (byChains d) T D cs vs os) T D cs vs os limit r vs′ cs′)
+-- ---- the promise
+-- What a run answers and leaves, given all faults of its input.
+unfoldable pub RunAnswer : List Refusal → Lent → ℕ → Left → Type 0
+RunAnswer [] l limit m = Ran l (sectionsOf (l .table)) limit m
+RunAnswer (f ∷ fs) l limit m = NotBegun f l m
+
+-- THE PROMISE OF `run`, for each input, by the paper's chains of the facts of its table.
+unfoldable pub RunJudged : Lent → ℕ → Left → Type 0
+RunJudged l limit m = Decided (l .table) (λ d. RunAnswer (runFaults (byChains d) l) l limit m)
+
+-- ---- the whole run
+-- "accepted at entry": no cause refuses the run.
+abbrev pub Begins : Lent → Type 0
+Begins l = Decided (l .table) (λ d. runFaults (byChains d) l ≡ [])
+
+-- THE CLAIM ABOUT A WHOLE RUN: let `call t` be what the call with the allowance t leaves, each lent the same. Then at every point of a run with any
+-- allowance the same run with the allowance t ends at that point, and demand 3 holds there. It is proved as `whole-run` in ClaimLaws.
+abbrev pub WholeRun : Type 0
+WholeRun = (l : Lent) (call : ℕ → Left) → Begins l → ((t : ℕ) → RunJudged l t (call t)) → (limit t : ℕ) → t ≤ limit
+    → EndsAt l (sectionsOf (l .table)) t (call t) × AtPoint l (sectionsOf (l .table)) limit (reads (call limit .answer)) t

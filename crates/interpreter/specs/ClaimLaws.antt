@@ -1,6 +1,6 @@
 -- The proof of the claim about a run: from the soundness theorem and from the agreement of the code's run with the plain machine.
 use Prim.Native.Nat.{ℕ, _+_, _-_, _*_, _≤_, _<_}
-use mathlib.Core.Path.{_≡_, refl, sym, ap, subst, _∙_}
+use mathlib.Core.Path.{_≡_, refl, sym, ap, ap₂, subst, _∙_}
 use mathlib.Core.Logic.{_≢_, _↔_, _⊎_, inl, inr}
 use mathlib.Core.Bool.{Bool, true, false, cond}
 use mathlib.Core.List.{List, [], _∷_}
@@ -19,7 +19,7 @@ use Rattle.table.specs.FormLaws.{well-formed}
 use Rattle.table.specs.declared.Form.{Form}
 use Rattle.table.specs.declared.Form.the-variants.{WellFormed, Refused}
 use Rattle.flow.specs.Flow.{tableFlow, written, Written}
-use Rattle.rules.specs.BoundsRules.{ownRows, inForce}
+use Rattle.rules.specs.BoundsRules.{ownRows}
 use Rattle.rules.specs.EnvironmentLaws.{environment-declares}
 use Rattle.rules.specs.AcceptedLaws.{clear, faults-clear}
 use Rattle.blocks.specs.Layout.{also}
@@ -27,17 +27,16 @@ use Rattle.rules.specs.Verdict.{environmentOf, verdictOf}
 use Rattle.rules.specs.Stored.{faults, store}
 use Rattle.rules.specs.declared.Verdict.the-variants as verdict
 use Rattle.rules.specs.declared.Environment.{Environment}
-use Rattle.statements.specs.Statements.{statementAt}
 use Rattle.machine.specs.Machine.{Status, going, stopped, stuck, fails, Point, start, pointAfter}
-use Rattle.machine.specs.Points.{Access, no-access, access, accessFrom, Outside}
+use Rattle.machine.specs.Points.{Access, no-access, access, accessFrom, AccessInside, Outside}
 use Rattle.machine.specs.Soundness.{Begun, Sound, AccessAllowed}
 use Rattle.machine.specs.Frame.{Own}
 use Rattle.machine.specs.FrameLaws.{run-framed, own-names, own-origins, outside-own}
 use Rattle.machine.specs.RunSound.{sound}
-use Rattle.stops.specs.Checks.{checkNumber, checkStatement, checkOf}
-use Rattle.stops.specs.declared.Check.{Check}
+use Rattle.stops.specs.Answers.{Answer, reads}
+use Rattle.stops.specs.Answers as says
 use Rattle.interpreter.specs.StepLaws.{StepFacts, point-step, stop-same, steps-counted, done-on, stopped-on, counts-on}
-use Rattle.interpreter.specs.NumberLaws.{number-of, statement-of, check-of, stopped-number}
+use Rattle.interpreter.specs.NumberLaws.{number-of, statement-of, stopped-number}
 use Rattle.entry.specs.Entry.{entryRefusals}
 use Rattle.interpreter.specs.BegunLaws.{entry-begun}
 use Rattle.ends.specs.Ends.{endsOf}
@@ -48,73 +47,89 @@ use Rattle.interpreter.specs.Agreement.{resultShown}
 use Rattle.interpreter.specs.Outcomes.{outcomeShown}
 use Rattle.rules.specs.Verdict as verdictRules
 use Rattle.rules.specs.ByChains.{byChains}
-use Rattle.rules.specs.Decidable.{decided}
+use Rattle.rules.specs.Decidable.{decided, decider, decider-decides}
 use Rattle.rules.specs.Agreement.{SameFirst, same-self, same-also, faults-agree}
-use Rattle.interpreter.specs.Claim.{RunJudged, failingAt, AccessInside, answerAt, AtPoint, Ran, entryFaults, runFaults, RunAnswer}
+use Rattle.interpreter.specs.Claim.{Lent, Left, entryFaults, runFaults, shownAs, failingDue, answerAt, AtPoint, Ran, RunAnswer, RunJudged, Begins, WholeRun}
 use Rattle.entry.specs.Entered.{entered}
 use Rattle.entry.specs.declared.EntryVerdict.{EntryVerdict}
 use Rattle.entry.specs.declared.EntryVerdict.the-variants as entry
 use Rattle.stops.specs.declared.Outcome.the-variants as outcome
 use Rattle.stops.specs.declared.Outcome.{Outcome}
-use Rattle.stops.specs.declared.Outcome.the-variants.{Done, Spent, Stopped}
+use Rattle.stops.specs.declared.Outcome.the-variants.{Done, Spent}
 
 allowed-inside : (D : List ℕ) (n : ℕ) (a : Access) → AccessAllowed D n a → AccessInside D a
 allowed-inside D n no-access h = tt
 allowed-inside D n (access a o) h = h .inside
 
+-- ---- what is lent and left, field by field
+
+abbrev pub lends : List ℤ → List ℕ → List ℕ → List ℕ → List ℕ → Lent
+lends T D cs vs os = record { table = T; directory = D; cells = cs; values = vs; origins = os }
+
+abbrev pub leaves : Outcome → List ℕ → List ℕ → Left
+leaves r vs cs = record { answer = r; values = vs; cells = cs }
+
 -- ---- the answers at a point
 
-going-done : (h : Sections) (s : Status) (steps due : ℕ) → s ≡ going → h .statements ≤ due → outcomeShown h s steps due ≡ Done steps
+never : {A : Type 0} → _≡_ {A = ℕ} 0 1 → A
+never z = absurd (omega arith)
+
+going-done : (h : Sections) (s : Status) (steps due : ℕ) → s ≡ going → h .statements ≤ due → shownAs h s steps due ≡ says.done steps
 going-done h s steps due e l = rw (e, le-ltb due (h .statements) l)
 
+going-spent : (h : Sections) (s : Status) (steps due : ℕ) → s ≡ going → due < h .statements → shownAs h s steps due ≡ says.spent steps due
+going-spent h s steps due e l = rw (e, lt-ltb due (h .statements) l)
+
 -- The steps of a point that answers done, where no statement is due.
-done-steps : (h : Sections) (s : Status) (steps due n : ℕ) → s ≢ stuck → outcomeShown h s steps due ≡ Done n → (h .statements ≤ due) × (steps ≡ n)
+done-steps : (h : Sections) (s : Status) (steps due n : ℕ) → s ≢ stuck → shownAs h s steps due ≡ says.done n → (h .statements ≤ due) × (steps ≡ n)
 done-steps h going steps due n u e = go (ltb due (h .statements)) refl e
   where
-    go : (b : Bool) → ltb due (h .statements) ≡ b → cond b (Spent steps due) (Done steps) ≡ Done n → (h .statements ≤ due) × (steps ≡ n)
-    go true q e = let z : _≡_ {A = ℕ} 0 1 = cc in absurd (omega arith)
+    go : (b : Bool) → ltb due (h .statements) ≡ b → cond b (says.spent steps due) (says.done steps) ≡ says.done n → (h .statements ≤ due) × (steps ≡ n)
+    go true q e = let z : _≡_ {A = ℕ} 0 1 = cc in never z
     go false q e = (ltb-false due (h .statements) q, cc)
-done-steps h (stopped k) steps due n u e = let z : _≡_ {A = ℕ} 0 1 = cc in absurd (omega arith)
+done-steps h (stopped k) steps due n u e = let z : _≡_ {A = ℕ} 0 1 = cc in never z
 done-steps h stuck steps due n u e = absurd (u refl)
 
--- The steps and the check of a point that answers stopped.
-pub record StoppedAt (s : Status) (steps due n : ℕ) (c : Check) : Type 0 where
-  pub number : ℕ
-  pub status : s ≡ stopped number
-  pub steps-made : steps ≡ n
-  pub check : c ≡ checkOf number due
-
-stopped-steps : (h : Sections) (s : Status) (steps due n : ℕ) (c : Check) → outcomeShown h s steps due ≡ Stopped n c → StoppedAt s steps due n c
-stopped-steps h going steps due n c e = go (ltb due (h .statements)) e
+-- The steps, the statement and the check of a point that answers stopped.
+stopped-steps : (h : Sections) (s : Status) (steps due n a k : ℕ) → shownAs h s steps due ≡ says.stopped n a k → (s ≡ stopped k) × (steps ≡ n) × (due ≡ a)
+stopped-steps h going steps due n a k e = go (ltb due (h .statements)) e
   where
-    go : (b : Bool) → cond b (Spent steps due) (Done steps) ≡ Stopped n c → StoppedAt going steps due n c
-    go true e = let z : _≡_ {A = ℕ} 0 1 = cc in absurd (omega arith)
-    go false e = let z : _≡_ {A = ℕ} 0 1 = cc in absurd (omega arith)
-stopped-steps h (stopped k) steps due n c e = record { number = k; status = refl; steps-made = cc; check = cc }
-stopped-steps h stuck steps due n c e = let z : _≡_ {A = ℕ} 0 1 = cc in absurd (omega arith)
+    go : (b : Bool) → cond b (says.spent steps due) (says.done steps) ≡ says.stopped n a k → (going ≡ stopped k) × (steps ≡ n) × (due ≡ a)
+    go true e = let z : _≡_ {A = ℕ} 0 1 = cc in never z
+    go false e = let z : _≡_ {A = ℕ} 0 1 = cc in never z
+stopped-steps h (stopped j) steps due n a k e = let q : j ≡ k = cc in (ap stopped q, cc, cc)
+stopped-steps h stuck steps due n a k e = let z : _≡_ {A = ℕ} 0 1 = cc in never z
 
 -- The steps of a point that answers spent.
-spent-steps : (h : Sections) (s : Status) (steps due n a : ℕ) → outcomeShown h s steps due ≡ Spent n a → (s ≡ going) × (due < h .statements) × (steps ≡ n)
+spent-steps : (h : Sections) (s : Status) (steps due n a : ℕ) → shownAs h s steps due ≡ says.spent n a → (s ≡ going) × (due < h .statements) × (steps ≡ n)
 spent-steps h going steps due n a e = go (ltb due (h .statements)) refl e
   where
-    go : (b : Bool) → ltb due (h .statements) ≡ b → cond b (Spent steps due) (Done steps) ≡ Spent n a → (going ≡ going) × (due < h .statements) × (steps ≡ n)
+    go : (b : Bool) → ltb due (h .statements) ≡ b → cond b (says.spent steps due) (says.done steps) ≡ says.spent n a → (going ≡ going) × (due < h .statements) × (steps ≡ n)
     go true q e = (refl, ltb-true due (h .statements) q, cc)
-    go false q e = let z : _≡_ {A = ℕ} 0 1 = cc in absurd (omega arith)
-spent-steps h (stopped k) steps due n a e = let z : _≡_ {A = ℕ} 0 1 = cc in absurd (omega arith)
-spent-steps h stuck steps due n a e = let z : _≡_ {A = ℕ} 0 1 = cc in absurd (omega arith)
+    go false q e = let z : _≡_ {A = ℕ} 0 1 = cc in never z
+spent-steps h (stopped k) steps due n a e = let z : _≡_ {A = ℕ} 0 1 = cc in never z
+spent-steps h stuck steps due n a e = let z : _≡_ {A = ℕ} 0 1 = cc in never z
 
--- Two stops of one number of steps have one check.
-cc-stopped : {n : ℕ} {c d : Check} → Stopped n c ≡ Stopped n d → c ≡ d
-cc-stopped e = cc
-
-going-spent : (h : Sections) (s : Status) (steps due : ℕ) → s ≡ going → due < h .statements → outcomeShown h s steps due ≡ Spent steps due
-going-spent h s steps due e l = rw (e, lt-ltb due (h .statements) l)
+-- What the code's answer at a point reads as.
+reads-shown : (h : Sections) (s : Status) (steps due : ℕ) → ((n : ℕ) → s ≡ stopped n → (1 ≤ n) × (n ≤ 5)) → reads (outcomeShown h s steps due) ≡ shownAs h s steps due
+reads-shown h going steps due five = go (ltb due (h .statements))
+  where
+    go : (b : Bool) → reads (cond b (Spent steps due) (Done steps)) ≡ cond b (says.spent steps due) (says.done steps)
+    go true = refl
+    go false = refl
+reads-shown h (stopped n) steps due five =
+    let k = five n refl in
+    ap₂ (says.stopped steps) (statement-of n due) (number-of n due (k .0) (k .1))
+reads-shown h stuck steps due five = refl
 
 -- ---- every point of a begun run
 
 module _ (T : List ℤ) (h : Sections) (formed : formOf T ≡ WellFormed h) (accepts : faults T ≡ []) (D cs vs os : List ℕ) (begun : Begun h (environmentOf T h) D cs vs os) where
   abbrev E : Environment
   E = environmentOf T h
+
+  abbrev lent : Lent
+  lent = lends T D cs vs os
 
   abbrev first : Point
   first = start T h E D cs vs os
@@ -140,7 +155,7 @@ module _ (T : List ℤ) (h : Sections) (formed : formOf T ≡ WellFormed h) (acc
   none-yet = refl
 
   -- The frame law, with all objects of the routine.
-  untouched : (t i : ℕ) → Outside D (h .objects) i → getD (point t .cells) i 0 ≡ getD (point 0 .cells) i 0
+  untouched : (t i : ℕ) → Outside D (h .objects) i → getD (point t .cells) i 0 ≡ getD cs i 0
   unfolding start pointAfter
   untouched t i o = run-framed T h E D (Own h) (own-names T h) t first (own-origins h os (begun .origins)) .elsewhere i (outside-own h D i o)
 
@@ -157,13 +172,16 @@ module _ (T : List ℤ) (h : Sections) (formed : formOf T ≡ WellFormed h) (acc
   counts : (limit t : ℕ) → t < limit → point t .status ≡ going → point t .due < h .statements → point t .steps < point limit .steps
   counts limit t l g d = let q : t + 1 + (limit - (t + 1)) ≡ limit = omega arith in rw q at (counts-on T h E D first unstuck t (limit - (t + 1)) g d)
 
-  finished : (limit t : ℕ) → t ≤ limit → point t .status ≡ going → (answerAt h (point limit) ≡ Done (point t .steps)) ↔ (h .statements ≤ point t .due)
+  abbrev shown : ℕ → Answer
+  shown t = answerAt lent h t
+
+  finished : (limit t : ℕ) → t ≤ limit → point t .status ≡ going → (shown limit ≡ says.done (point t .steps)) ↔ (h .statements ≤ point t .due)
   finished limit t l g = (
     (λ e. by-due e (ltb (point t .due) (h .statements)) refl),
-    (λ d. ap (answerAt h) (ended-done limit t l g d) ∙ going-done h (point t .status) (point t .steps) (point t .due) g d),
+    (λ d. ap (λ (P : Point). shownAs h (P .status) (P .steps) (P .due)) (ended-done limit t l g d) ∙ going-done h (point t .status) (point t .steps) (point t .due) g d),
   )
     where
-      by-time : answerAt h (point limit) ≡ Done (point t .steps) → point t .due < h .statements → (t ≡ limit) ⊎ (t < limit) → ⊥
+      by-time : shown limit ≡ says.done (point t .steps) → point t .due < h .statements → (t ≡ limit) ⊎ (t < limit) → ⊥
       by-time e d (inl q) =
           let f = done-steps h (point limit .status) (point limit .steps) (point limit .due) (point t .steps) (unstuck limit) e in
           omega (arith, f .0, ap (λ (n : ℕ). point n .due) q)
@@ -171,77 +189,71 @@ module _ (T : List ℤ) (h : Sections) (formed : formOf T ≡ WellFormed h) (acc
           let f = done-steps h (point limit .status) (point limit .steps) (point limit .due) (point t .steps) (unstuck limit) e in
           omega (arith, f .1, counts limit t q g d)
 
-      by-due : answerAt h (point limit) ≡ Done (point t .steps) → (b : Bool) → ltb (point t .due) (h .statements) ≡ b → h .statements ≤ point t .due
+      by-due : shown limit ≡ says.done (point t .steps) → (b : Bool) → ltb (point t .due) (h .statements) ≡ b → h .statements ≤ point t .due
       by-due e true q = absurd (by-time e (ltb-true (point t .due) (h .statements) q) (eq-or-lt-of-le l))
       by-due e false q = ltb-false (point t .due) (h .statements) q
 
-  spent : (limit t : ℕ) → point t .status ≡ going → point t .due < h .statements → (answerAt h (point limit) ≡ Spent (point t .steps) (point t .due)) ↔ (t ≡ limit)
+  spent : (limit t : ℕ) → point t .status ≡ going → point t .due < h .statements → (shown limit ≡ says.spent (point t .steps) (point t .due)) ↔ (t ≡ limit)
   spent limit t g l = (
     (λ e. let f = spent-steps h (point limit .status) (point limit .steps) (point limit .due) (point t .steps) (point t .due) e in omega (arith, f .2, counted limit (f .0) (f .1), counted t g l)),
     (λ e. rw (← e) (going-spent h (point t .status) (point t .steps) (point t .due) g l)),
   )
 
-  abbrev FailingHere : ℕ → ℕ → Type 0
-  FailingHere t n = failingAt (inForce E (point t .rows)) (statementAt T h (point t .due)) (point t .values) ≡ fails n
-
-  answers-check : (limit t : ℕ) → point t .status ≡ going → point t .due < h .statements → t < limit → (c : Check)
-      → (answerAt h (point limit) ≡ Stopped (point t .steps + 1) c) ↔ (FailingHere t (checkNumber c) × (checkStatement c ≡ point t .due))
-  answers-check limit t g d l c = ((λ e. by-status e (point (t + 1) .status) refl), (λ w. answered (w .0) (w .1)))
+  answers-check : (limit t : ℕ) → point t .status ≡ going → point t .due < h .statements → t < limit → (n a : ℕ)
+      → (shown limit ≡ says.stopped (point t .steps + 1) a n) ↔ ((failingDue lent h t ≡ fails n) × (a ≡ point t .due))
+  answers-check limit t g d l n a = ((λ e. by-status e (point (t + 1) .status) refl), (λ w. at-stop n (facts .stops n .1 (w .0)) ∙ ap (λ (x : ℕ). says.stopped (point t .steps + 1) x n) (sym (w .1))))
     where
-      facts : StepFacts (failingAt (inForce E (point t .rows)) (statementAt T h (point t .due)) (point t .values)) (point t) (point (t + 1))
+      facts : StepFacts (failingDue lent h t) (point t) (point (t + 1))
       facts = point-step T h E D first t g d (unstuck (t + 1))
 
       -- The run has stopped with this step.
-      at-stop : (n : ℕ) → point (t + 1) .status ≡ stopped n → answerAt h (point limit) ≡ Stopped (point t .steps + 1) (checkOf n (point t .due))
-      at-stop n s =
-          let k = facts .same n s in
-          ap (answerAt h) (ended-stopped limit (t + 1) n (omega arith) s) ∙ rw (s, k .0, k .1) refl
-
-      answered : FailingHere t (checkNumber c) → checkStatement c ≡ point t .due → answerAt h (point limit) ≡ Stopped (point t .steps + 1) c
-      answered f q =
-          at-stop (checkNumber c) (facts .stops (checkNumber c) .1 f) ∙ ap (Stopped (point t .steps + 1)) (sym (check-of c (checkNumber c) (point t .due) refl q))
+      at-stop : (k : ℕ) → point (t + 1) .status ≡ stopped k → shown limit ≡ says.stopped (point t .steps + 1) (point t .due) k
+      at-stop k s = ap (λ (P : Point). shownAs h (P .status) (P .steps) (P .due)) (ended-stopped limit (t + 1) k (omega arith) s ∙ facts .same k s)
 
       -- The run went on, so that it cannot have stopped with this step.
-      went-on : answerAt h (point limit) ≡ Stopped (point t .steps + 1) c → point (t + 1) .status ≡ going → ⊥
+      went-on : shown limit ≡ says.stopped (point t .steps + 1) a n → point (t + 1) .status ≡ going → ⊥
       went-on e s = by-due (ltb (point (t + 1) .due) (h .statements)) refl
         where
-          last : StoppedAt (point limit .status) (point limit .steps) (point limit .due) (point t .steps + 1) c
-          last = stopped-steps h (point limit .status) (point limit .steps) (point limit .due) (point t .steps + 1) c e
+          last : (point limit .status ≡ stopped n) × (point limit .steps ≡ point t .steps + 1) × (point limit .due ≡ a)
+          last = stopped-steps h (point limit .status) (point limit .steps) (point limit .due) (point t .steps + 1) a n e
 
           contrary : point limit .status ≡ going → ⊥
-          contrary g = let k = last .status in let z : _≡_ {A = ℕ} 0 1 = cc in omega arith
+          contrary g = let k = last .0 in let z : _≡_ {A = ℕ} 0 1 = cc in omega arith
 
           by-time : point (t + 1) .due < h .statements → (t + 1 ≡ limit) ⊎ (t + 1 < limit) → ⊥
           by-time m (inl q) = contrary (ap (λ (n : ℕ). point n .status) (sym q) ∙ s)
-          by-time m (inr q) = omega (arith, last .steps-made, facts .counts s, counts limit (t + 1) q s m)
+          by-time m (inr q) = omega (arith, last .1, facts .counts s, counts limit (t + 1) q s m)
 
           by-due : (b : Bool) → ltb (point (t + 1) .due) (h .statements) ≡ b → ⊥
           by-due true q = by-time (ltb-true (point (t + 1) .due) (h .statements) q) (eq-or-lt-of-le (omega arith))
           by-due false q = contrary (ap (λ (P : Point). P .status) (ended-done limit (t + 1) (omega arith) s (ltb-false (point (t + 1) .due) (h .statements) q)) ∙ s)
 
-      by-status : answerAt h (point limit) ≡ Stopped (point t .steps + 1) c → (s : Status) → point (t + 1) .status ≡ s
-          → FailingHere t (checkNumber c) × (checkStatement c ≡ point t .due)
+      by-status : shown limit ≡ says.stopped (point t .steps + 1) a n → (s : Status) → point (t + 1) .status ≡ s → (failingDue lent h t ≡ fails n) × (a ≡ point t .due)
       by-status e going s = absurd (went-on e s)
-      by-status e (stopped n) s =
-          let k : c ≡ checkOf n (point t .due) = cc-stopped (sym e ∙ at-stop n s) in
-          let five = stopped-number T h E D (t + 1) n first first-going s in
-          (facts .stops n .0 s ∙ ap fails (sym (ap checkNumber k ∙ number-of n (point t .due) (five .0) (five .1))), ap checkStatement k ∙ statement-of n (point t .due))
+      by-status e (stopped k) s =
+          let q : says.stopped (point t .steps + 1) a n ≡ says.stopped (point t .steps + 1) (point t .due) k = sym e ∙ at-stop k s in
+          let j : k ≡ n = cc in
+          (facts .stops k .0 s ∙ ap fails j, cc)
       by-status e stuck s = absurd (unstuck (t + 1) s)
 
-  pub at-point : (limit t : ℕ) (r : Outcome) → r ≡ answerAt h (point limit) → t ≤ limit → AtPoint T h E D point limit r t
-  at-point limit t r e l = rw e (record {
+  pub at-point : (limit t : ℕ) (a : Answer) → a ≡ shown limit → t ≤ limit → AtPoint lent h limit a t
+  at-point limit t a e l = rw e (record {
     bounds = right t .bounds;
     accesses = λ s b. allowed-inside D (length (point s .cells)) (accessFrom T h E (point s .status) (point s)) (right s .access-allowed);
     untouched = untouched t;
     has-step = unstuck t;
-    counted = counted t;
+    counted = λ d. counted t (d .0) (d .1);
     finished = finished limit t l;
-    spent = spent limit t;
-    stops = λ g d n. point-step T h E D first t g d (unstuck (t + 1)) .stops n;
-    answers-check = answers-check limit t;
+    spent = λ d. spent limit t (d .0) (d .1);
+    stops = λ d n. point-step T h E D first t (d .0) (d .1) (unstuck (t + 1)) .stops n;
+    answers-check = λ d m n s. answers-check limit t (d .0) (d .1) m n s;
     stop-changes-nothing = stop-same T h E D first unstuck t;
-    goes-on = λ g d f. let p = point-step T h E D first t g d (unstuck (t + 1)) in (p .goes f, p .counts (p .goes f));
+    goes-on = λ d f. let p = point-step T h E D first t (d .0) (d .1) (unstuck (t + 1)) in (p .goes f, p .counts (p .goes f));
   })
+
+  -- What the code answers at a point reads as what the machine shows there.
+  pub reads-at : (t : ℕ) → reads (outcomeShown h (point t .status) (point t .steps) (point t .due)) ≡ shown t
+  reads-at t = reads-shown h (point t .status) (point t .steps) (point t .due) (λ n s. stopped-number T h E D t n first first-going s)
 
 -- ---- the contract of `run`
 
@@ -266,14 +278,14 @@ formed-sections T h e =
     cc
 
 -- The words that are lent are of 32 bits.
-pub record Lent (cs vs : List ℕ) : Type 0 where
+pub record Small (cs vs : List ℕ) : Type 0 where
   pub cells-small : (i : ℕ) → getD cs i 0 ≤ maxValue
   pub values-small : (x : ℕ) → getD vs x 0 ≤ maxValue
 
-module _ (T : List ℤ) (h : Sections) (formed : formOf T ≡ WellFormed h) (accepts : faults T ≡ []) (D cs vs os : List ℕ) (lent : Lent cs vs)
+module _ (T : List ℤ) (h : Sections) (formed : formOf T ≡ WellFormed h) (accepts : faults T ≡ []) (D cs vs os : List ℕ) (small : Small cs vs)
     (none : entryRefusals h (environmentOf T h) D cs vs os ≡ []) where
   begun : Begun h (environmentOf T h) D cs vs os
-  begun = entry-begun h (environmentOf T h) D cs vs os (admitted h (environmentOf T h) D cs vs os none) (lent .values-small) (lent .cells-small) (environment-declares T h (well-formed T h formed) .below)
+  begun = entry-begun h (environmentOf T h) D cs vs os (admitted h (environmentOf T h) D cs vs os none) (small .values-small) (small .cells-small) (environment-declares T h (well-formed T h formed) .below)
 
   -- What the loop asks.
   pub run-prepared : (w : List ℕ) → 2 * h .statements ≤ length w → Prepared T h (endsOf (environmentOf T h) ownRows) D (written (tableFlow T h) w) vs
@@ -286,36 +298,41 @@ module _ (T : List ℤ) (h : Sections) (formed : formOf T ≡ WellFormed h) (acc
 
   -- What the loop leaves is the claim.
   pub run-claim : (w : List ℕ) → 2 * h .statements ≤ length w → (limit : ℕ) (r : Outcome) (W′ vs′ cs′ : List ℕ)
-      → Ends (bareRun T h (endsOf (environmentOf T h) ownRows) D (written (tableFlow T h) w) limit 0 0 vs cs) r W′ vs′ cs′ → Ran T (sectionsOf T) D cs vs os limit r vs′ cs′
+      → Ends (bareRun T h (endsOf (environmentOf T h) ownRows) D (written (tableFlow T h) w) limit 0 0 vs cs) r W′ vs′ cs′
+      → Ran (lends T D cs vs os) (sectionsOf T) limit (leaves r vs′ cs′)
   run-claim w room limit r W′ vs′ cs′ e =
       let agrees : bareRun T h (endsOf (environmentOf T h) ownRows) D (written (tableFlow T h) w) limit 0 0 vs cs ≡ resultShown (environmentOf T h) h (point T h formed accepts D cs vs os begun limit)
       = start-agrees T h D cs vs os w (well-formed T h formed) (clear T h formed accepts .laid) room (admitted h (environmentOf T h) D cs vs os none)
       (unstuck T h formed accepts D cs vs os begun) (rows-long T h formed accepts D cs vs os begun) limit in
-      subst (λ (g : Sections). Ran T g D cs vs os limit r vs′ cs′) (formed-sections T h formed) (record {
-        answer = e .outcome ∙ ap (λ (o : Result). o .outcome) agrees;
-        values = e .values ∙ ap (λ (o : Result). o .values) agrees;
-        cells = e .cells ∙ ap (λ (o : Result). o .cells) agrees;
-        every-point = λ t l. at-point T h formed accepts D cs vs os begun limit t r (e .outcome ∙ ap (λ (o : Result). o .outcome) agrees) l;
+      let answered : reads r ≡ shown T h formed accepts D cs vs os begun limit =
+      ap reads (e .outcome ∙ ap (λ (o : Result). o .outcome) agrees) ∙ reads-at T h formed accepts D cs vs os begun limit in
+      subst (λ (g : Sections). Ran (lends T D cs vs os) g limit (leaves r vs′ cs′)) (formed-sections T h formed) (record {
+        ends = record { answer = answered; values = e .values ∙ ap (λ (o : Result). o .values) agrees; cells = e .cells ∙ ap (λ (o : Result). o .cells) agrees };
+        every-point = λ t l. at-point T h formed accepts D cs vs os begun limit t (reads r) answered l;
       })
+
+-- What the functions below `run` promise: the same by the store's facts.
+abbrev pub RunStored : Lent → ℕ → Left → Type 0
+RunStored l limit m = RunAnswer (runFaults store l) l limit m
 
 -- ---- refusals of a run
 
 -- The verdict was a refusal.
 pub check-refused : (T : List ℤ) (D cs vs os : List ℕ) (limit : ℕ) (r : Refusal) → verdict.Refused r ≡ verdictOf (faults T)
-    → RunAnswer (runFaults store T D cs vs os) T D cs vs os limit (outcome.Refused r) vs cs
+    → RunAnswer (runFaults store (lends T D cs vs os)) (lends T D cs vs os) limit (leaves (outcome.Refused r) vs cs)
 unfolding runFaults RunAnswer also verdictOf
 check-refused T D cs vs os limit r a = go (faults T) a
   where
-    go : (fs : List Refusal) → verdict.Refused r ≡ verdictOf fs → RunAnswer (also fs (entryFaults (formOf T) T D cs vs os)) T D cs vs os limit (outcome.Refused r) vs cs
+    go : (fs : List Refusal) → verdict.Refused r ≡ verdictOf fs → RunAnswer (also fs (entryFaults (formOf T) (lends T D cs vs os))) (lends T D cs vs os) limit (leaves (outcome.Refused r) vs cs)
     go [] a = let z : _≡_ {A = ℕ} 0 1 = cc in absurd (omega arith)
-    go (f ∷ fs) a = record { answer = ap outcome.Refused (cc); values = refl; cells = refl }
+    go (f ∷ fs) a = record { answer = let e : r ≡ f = cc in ap (λ (x : Refusal). reads (outcome.Refused x)) e; values = refl; cells = refl }
 
 -- A table with no fault is well formed.
 pub no-form-refused : (T : List ℤ) (r : Refusal) → faults T ≡ [] → formOf T ≡ Refused r → ⊥
 no-form-refused T r e f = let p = faults-clear T e in let q = p .1 .form in let z : _≡_ {A = ℕ} 0 1 = cc in omega arith
 
 -- Of an accepted table the faults of a run are those of the entry.
-entry-only : (T : List ℤ) (h : Sections) (D cs vs os : List ℕ) → formOf T ≡ WellFormed h → faults T ≡ [] → runFaults store T D cs vs os ≡ entryRefusals h (environmentOf T h) D cs vs os
+entry-only : (T : List ℤ) (h : Sections) (D cs vs os : List ℕ) → formOf T ≡ WellFormed h → faults T ≡ [] → runFaults store (lends T D cs vs os) ≡ entryRefusals h (environmentOf T h) D cs vs os
 unfolding runFaults also
 entry-only T h D cs vs os f e = rw (e, f)
 
@@ -325,16 +342,16 @@ entered-none [] e = refl
 entered-none (r ∷ rs) e = cc
 
 pub entry-refused : (T : List ℤ) (h : Sections) (D cs vs os : List ℕ) (limit : ℕ) (r : Refusal) → formOf T ≡ WellFormed h → faults T ≡ []
-    → entered (entryRefusals h (environmentOf T h) D cs vs os) ≡ entry.Refused r → RunAnswer (runFaults store T D cs vs os) T D cs vs os limit (outcome.Refused r) vs cs
+    → entered (entryRefusals h (environmentOf T h) D cs vs os) ≡ entry.Refused r → RunAnswer (runFaults store (lends T D cs vs os)) (lends T D cs vs os) limit (leaves (outcome.Refused r) vs cs)
 unfolding RunAnswer entered
 entry-refused T h D cs vs os limit r f e q = rw (entry-only T h D cs vs os f e) (go (entryRefusals h (environmentOf T h) D cs vs os) q)
   where
-    go : (rs : List Refusal) → entered rs ≡ entry.Refused r → RunAnswer rs T D cs vs os limit (outcome.Refused r) vs cs
+    go : (rs : List Refusal) → entered rs ≡ entry.Refused r → RunAnswer rs (lends T D cs vs os) limit (leaves (outcome.Refused r) vs cs)
     go [] q = let z : _≡_ {A = ℕ} 0 1 = cc in absurd (omega arith)
-    go (x ∷ rs) q = record { answer = cc; values = refl; cells = refl }
+    go (x ∷ rs) q = record { answer = let e : r ≡ x = cc in ap (λ (y : Refusal). reads (outcome.Refused y)) e; values = refl; cells = refl }
 
 pub begun-ran : (T : List ℤ) (h : Sections) (D cs vs os : List ℕ) (limit : ℕ) (r : Outcome) (vs′ cs′ : List ℕ) → formOf T ≡ WellFormed h → faults T ≡ []
-    → entryRefusals h (environmentOf T h) D cs vs os ≡ [] → Ran T (sectionsOf T) D cs vs os limit r vs′ cs′ → RunAnswer (runFaults store T D cs vs os) T D cs vs os limit r vs′ cs′
+    → entryRefusals h (environmentOf T h) D cs vs os ≡ [] → Ran (lends T D cs vs os) (sectionsOf T) limit (leaves r vs′ cs′) → RunAnswer (runFaults store (lends T D cs vs os)) (lends T D cs vs os) limit (leaves r vs′ cs′)
 unfolding RunAnswer
 begun-ran T h D cs vs os limit r vs′ cs′ f e n a = rw (entry-only T h D cs vs os f e, n) a
 
@@ -343,7 +360,7 @@ begun-ran T h D cs vs os limit r vs′ cs′ f e n a = rw (entry-only T h D cs v
 pub record Launched (T : List ℤ) (h : Sections) (D cs vs os W S : List ℕ) : Type 0 where
   pub formed : formOf T ≡ WellFormed h
   pub accepts : faults T ≡ []
-  pub lent : Lent cs vs
+  pub small : Small cs vs
   pub none : entryRefusals h (environmentOf T h) D cs vs os ≡ []
   pub ends : W ≡ endsOf (environmentOf T h) ownRows
   pub slice : List ℕ
@@ -351,14 +368,14 @@ pub record Launched (T : List ℤ) (h : Sections) (D cs vs os W S : List ℕ) : 
   pub successors : S ≡ written (tableFlow T h) slice
 
 pub launched : {T : List ℤ} {h : Sections} {D cs vs os W S : List ℕ} {E′ : Environment} {v : EntryVerdict} {b : Bool} (w : List ℕ)
-    → formOf T ≡ WellFormed h → faults T ≡ [] → Lent cs vs → E′ ≡ environmentOf T h → v ≡ entered (entryRefusals h E′ D cs vs os) → v ≡ entry.Begun → W ≡ endsOf E′ ownRows
+    → formOf T ≡ WellFormed h → faults T ≡ [] → Small cs vs → E′ ≡ environmentOf T h → v ≡ entered (entryRefusals h E′ D cs vs os) → v ≡ entry.Begun → W ≡ endsOf E′ ownRows
     → Written T h w b S → length w ≡ 2048 → Launched T h D cs vs os W S
 launched {T} {h} {D} {cs} {vs} {os} {W} {S} {E′} {v} w f a l e q g k s n =
     let room : 2 * h .statements ≤ length w = omega (arith, well-formed T h f .limits .statements) in
     record {
       formed = f;
       accepts = a;
-      lent = l;
+      small = l;
       none = rw e at (entered-none (entryRefusals h E′ D cs vs os) (sym q ∙ g));
       ends = k ∙ ap (λ (X : Environment). endsOf X ownRows) e;
       slice = w;
@@ -369,30 +386,47 @@ launched {T} {h} {D} {cs} {vs} {os} {W} {S} {E′} {v} w f a l e q g k s n =
 module _ {T : List ℤ} {h : Sections} {D cs vs os W S : List ℕ} (L : Launched T h D cs vs os W S) (limit : ℕ) where
   pub launched-ready : Prepared T h W D S vs × SafeRun T h W D S limit 0 vs cs
   launched-ready = rw (L .ends, L .successors) (
-    run-prepared T h (L .formed) (L .accepts) D cs vs os (L .lent) (L .none) (L .slice) (L .room),
-    run-safe T h (L .formed) (L .accepts) D cs vs os (L .lent) (L .none) (L .slice) (L .room) limit,
+    run-prepared T h (L .formed) (L .accepts) D cs vs os (L .small) (L .none) (L .slice) (L .room),
+    run-safe T h (L .formed) (L .accepts) D cs vs os (L .small) (L .none) (L .slice) (L .room) limit,
   )
 
-  pub launched-ran : {r : Outcome} {W′ vs′ cs′ : List ℕ} → Ends (bareRun T h W D S limit 0 0 vs cs) r W′ vs′ cs′ → RunAnswer (runFaults store T D cs vs os) T D cs vs os limit r vs′ cs′
+  pub launched-ran : {r : Outcome} {W′ vs′ cs′ : List ℕ} → Ends (bareRun T h W D S limit 0 0 vs cs) r W′ vs′ cs′ → RunAnswer (runFaults store (lends T D cs vs os)) (lends T D cs vs os) limit (leaves r vs′ cs′)
   launched-ran {r} {W′} {vs′} {cs′} e =
       begun-ran T h D cs vs os limit r vs′ cs′ (L .formed) (L .accepts) (L .none)
-      (run-claim T h (L .formed) (L .accepts) D cs vs os (L .lent) (L .none) (L .slice) (L .room) limit r W′ vs′ cs′ (rw (L .ends, L .successors) at e))
+      (run-claim T h (L .formed) (L .accepts) D cs vs os (L .small) (L .none) (L .slice) (L .room) limit r W′ vs′ cs′ (rw (L .ends, L .successors) at e))
 
 -- ---- the paper's facts
 
 same-run : (fs gs : List Refusal) (T : List ℤ) (D cs vs os : List ℕ) (limit : ℕ) (r : Outcome) (vs′ cs′ : List ℕ) → SameFirst fs gs
-    → RunAnswer fs T D cs vs os limit r vs′ cs′ → RunAnswer gs T D cs vs os limit r vs′ cs′
+    → RunAnswer fs (lends T D cs vs os) limit (leaves r vs′ cs′) → RunAnswer gs (lends T D cs vs os) limit (leaves r vs′ cs′)
 unfolding RunAnswer
 same-run [] [] T D cs vs os limit r vs′ cs′ s a = a
 same-run [] (g ∷ gs) T D cs vs os limit r vs′ cs′ s a = absurd s
 same-run (f ∷ fs) [] T D cs vs os limit r vs′ cs′ s a = absurd s
 same-run (f ∷ fs) (g ∷ gs) T D cs vs os limit r vs′ cs′ s a =
-    record { answer = a .answer ∙ ap outcome.Refused s; values = a .values; cells = a .cells }
+    record { answer = a .answer ∙ ap (λ (x : Refusal). reads (outcome.Refused x)) s; values = a .values; cells = a .cells }
 
-pub run-judged : (T : List ℤ) (D cs vs os : List ℕ) (limit : ℕ) (r : Outcome) (vs′ cs′ : List ℕ) → RunAnswer (runFaults store T D cs vs os) T D cs vs os limit r vs′ cs′
-    → RunJudged T D cs vs os limit r vs′ cs′
+pub run-judged : (T : List ℤ) (D cs vs os : List ℕ) (limit : ℕ) (r : Outcome) (vs′ cs′ : List ℕ) → RunAnswer (runFaults store (lends T D cs vs os)) (lends T D cs vs os) limit (leaves r vs′ cs′)
+    → RunJudged (lends T D cs vs os) limit (leaves r vs′ cs′)
 unfolding RunJudged runFaults
 run-judged T D cs vs os limit r vs′ cs′ a =
     decided _ _ (λ d c.
-    same-run (runFaults store T D cs vs os) (runFaults (byChains d) T D cs vs os) T D cs vs os limit r vs′ cs′
-    (same-also (faults T) (verdictRules.faults (byChains d) T) _ _ (faults-agree T d c) (λ z. same-self (entryFaults (formOf T) T D cs vs os))) a)
+    same-run (runFaults store (lends T D cs vs os)) (runFaults (byChains d) (lends T D cs vs os)) T D cs vs os limit r vs′ cs′
+    (same-also (faults T) (verdictRules.faults (byChains d) T) _ _ (faults-agree T d c) (λ z. same-self (entryFaults (formOf T) (lends T D cs vs os)))) a)
+
+-- ---- the whole run
+
+begins-ran : (fs : List Refusal) (l : Lent) (limit : ℕ) (m : Left) → fs ≡ [] → RunAnswer fs l limit m → Ran l (sectionsOf (l .table)) limit m
+unfolding RunAnswer
+begins-ran [] l limit m e a = a
+begins-ran (f ∷ fs) l limit m e a = let z : _≡_ {A = ℕ} 0 1 = cc in never z
+
+pub judged-ran : (l : Lent) (limit : ℕ) (m : Left) → Begins l → RunJudged l limit m → Ran l (sectionsOf (l .table)) limit m
+unfolding RunJudged
+judged-ran l limit m b j =
+    let d = decider (l .table) in
+    let c = decider-decides (l .table) in
+    begins-ran (runFaults (byChains d) l) l limit m (b .by-each d c) (j .by-each d c)
+
+pub whole-run : WholeRun
+whole-run l call b j limit t e = (judged-ran l t (call t) b (j t) .ends, judged-ran l limit (call limit) b (j limit) .every-point t e)

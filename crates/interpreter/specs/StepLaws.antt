@@ -18,12 +18,12 @@ use Rattle.flow.specs.Flow.{Successors}
 use Rattle.rules.specs.BoundsRules.{inForce}
 use Rattle.rules.specs.declared.Environment.{Environment}
 use Rattle.machine.specs.Machine.{Failing, none, fails, failing, conditionHolds, Status, going, stopped, stuck, Point, Performed, done, no-step, performed, memoryOf, moved, halted, afterChecks, branched, statementStep, successorsOf, nextPoint, pointAfter}
-use Rattle.interpreter.specs.Claim.{failingAt}
+use Rattle.machine.specs.Points.{failingAt}
 
 -- The step from P to Q, where f is the first check that fails.
 pub record StepFacts (f : Failing) (P Q : Point) : Type 0 where
   pub stops : (n : ℕ) → (Q .status ≡ stopped n) ↔ (f ≡ fails n)
-  pub same : (n : ℕ) → Q .status ≡ stopped n → (Q .due ≡ P .due) × (Q .steps ≡ P .steps + 1) × (Q .values ≡ P .values) × (Q .cells ≡ P .cells) × (Q .origins ≡ P .origins) × (Q .rows ≡ P .rows)
+  pub same : (n : ℕ) → Q .status ≡ stopped n → Q ≡ halted P n
   pub goes : f ≡ none → Q .status ≡ going
   pub counts : Q .status ≡ going → Q .steps ≡ P .steps + 1
 
@@ -42,7 +42,7 @@ moves P Q g c = record {
 halts : (P : Point) (k : ℕ) → StepFacts (fails k) P (halted P k)
 halts P k = record {
   stops = λ n. ((λ e. cc), (λ e. cc));
-  same = λ n e. (refl, refl, refl, refl, refl, refl);
+  same = λ n e. let q : k ≡ n = cc in ap (halted P) q;
   goes = λ e. let z : _≡_ {A = ℕ} 0 1 = cc in never z;
   counts = λ e. let z : _≡_ {A = ℕ} 0 1 = cc in never z;
 }
@@ -119,11 +119,11 @@ module _ (T : List ℤ) (h : Sections) (E : Environment) (D : List ℕ) where
     module _ (unstuck : (t : ℕ) → point t .status ≢ stuck) where
       -- A stop is a step from a statement that is due.
       pub stop-same : (t : ℕ) → point t .status ≡ going → (n : ℕ) → point (t + 1) .status ≡ stopped n
-          → (point (t + 1) .due ≡ point t .due) × (point (t + 1) .steps ≡ point t .steps + 1) × (point (t + 1) .values ≡ point t .values) × (point (t + 1) .cells ≡ point t .cells) × (point (t + 1) .origins ≡ point t .origins) × (point (t + 1) .rows ≡ point t .rows)
+          → point (t + 1) ≡ halted (point t) n
       stop-same t g n e = go (ltb (point t .due) (h .statements)) refl
         where
           go : (b : Bool) → ltb (point t .due) (h .statements) ≡ b
-              → (point (t + 1) .due ≡ point t .due) × (point (t + 1) .steps ≡ point t .steps + 1) × (point (t + 1) .values ≡ point t .values) × (point (t + 1) .cells ≡ point t .cells) × (point (t + 1) .origins ≡ point t .origins) × (point (t + 1) .rows ≡ point t .rows)
+              → point (t + 1) ≡ halted (point t) n
           go true q = point-step t g (ltb-true _ _ q) (unstuck (t + 1)) .same n e
           go false q =
               let s : going ≡ stopped n = sym (ap (λ (Q : Point). Q .status) (stays-done t g (ltb-false _ _ q)) ∙ g) ∙ e in
@@ -159,7 +159,7 @@ module _ (T : List ℤ) (h : Sections) (E : Environment) (D : List ℕ) where
         where
           by-status : (s : Status) → point (t + 1) .status ≡ s → point (t + 1) .steps ≡ point t .steps + 1
           by-status going e = point-step t g l (unstuck (t + 1)) .counts e
-          by-status (stopped n) e = point-step t g l (unstuck (t + 1)) .same n e .1
+          by-status (stopped n) e = ap (λ (Q : Point). Q .steps) (point-step t g l (unstuck (t + 1)) .same n e)
           by-status stuck e = absurd (unstuck (t + 1) e)
 
       steps-grow : (t : ℕ) → point t .steps ≤ point (t + 1) .steps

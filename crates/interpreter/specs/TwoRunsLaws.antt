@@ -28,15 +28,14 @@ use Rattle.rules.specs.AcceptedLaws.{faults-clear}
 use Rattle.rules.specs.RuleLaws.{no-first, no-rest}
 use Rattle.rules.specs.declared.Environment.{Environment}
 use Rattle.machine.specs.Machine.{low, high, Point}
-use Rattle.machine.specs.Frame.{Elsewhere, SameCells, Alike}
+use Rattle.machine.specs.Frame.{Elsewhere, SameCells}
 use Rattle.machine.specs.Reach.{CellOf, Reachable}
 use Rattle.machine.specs.FrameLaws.{two-alike, others-untouched}
 use Rattle.entry.specs.Entry.{endBefore, pairRight, entryRefusals}
 use Rattle.interpreter.specs.StartLaws.{Admitted, admitted, origin-inside}
-use Rattle.interpreter.specs.ClaimLaws.{formed-sections}
-use Rattle.interpreter.specs.Claim.{runFaults, answerAt, Ran, RunAnswer, RunJudged}
-use Rattle.interpreter.specs.TwoRuns.{Begins, OtherCell, DifferElsewhere, TwoRuns}
-use Rattle.stops.specs.declared.Outcome.{Outcome}
+use Rattle.interpreter.specs.ClaimLaws.{lends, formed-sections, judged-ran}
+use Rattle.interpreter.specs.Claim.{runFaults, shownAs, Begins}
+use Rattle.interpreter.specs.TwoRuns.{OtherCell, DifferElsewhere, TwoRuns, withCells}
 use Rattle.stops.specs.declared.Outcome.the-variants as outcome
 
 -- ---- no cell is in two objects
@@ -78,7 +77,7 @@ none-first [] ys s e = refl
 none-first (x ∷ xs) [] s e = absurd s
 none-first (x ∷ xs) (y ∷ ys) s e = cc
 
-begins-admitted : (T : List ℤ) (D cs vs os : List ℕ) → Begins T D cs vs os → Admitted (sectionsOf T) (environmentOf T (sectionsOf T)) D cs vs os
+begins-admitted : (T : List ℤ) (D cs vs os : List ℕ) → Begins (lends T D cs vs os) → Admitted (sectionsOf T) (environmentOf T (sectionsOf T)) D cs vs os
 unfolding runFaults
 begins-admitted T D cs vs os b =
     let e = b .by-each (decider T) (decider-decides T) in
@@ -89,21 +88,9 @@ begins-admitted T D cs vs os b =
     let s : entryRefusals h (environmentOf T h) D cs vs os ≡ [] = rw f at (no-rest _ _ e) in
     subst (λ (g : Sections). Admitted g (environmentOf T g) D cs vs os) (formed-sections T h f) (admitted h (environmentOf T h) D cs vs os s)
 
-begins-ran : (fs : List Refusal) (T : List ℤ) (D cs vs os : List ℕ) (limit : ℕ) (r : Outcome) (vs′ cs′ : List ℕ) → fs ≡ []
-    → RunAnswer fs T D cs vs os limit r vs′ cs′ → Ran T (sectionsOf T) D cs vs os limit r vs′ cs′
-unfolding RunAnswer
-begins-ran [] T D cs vs os limit r vs′ cs′ e a = a
-begins-ran (f ∷ fs) T D cs vs os limit r vs′ cs′ e a = let z : _≡_ {A = ℕ} 0 1 = cc in absurd (omega arith)
-
-judged-ran : (T : List ℤ) (D cs vs os : List ℕ) (limit : ℕ) (r : Outcome) (vs′ cs′ : List ℕ) → Begins T D cs vs os
-    → RunJudged T D cs vs os limit r vs′ cs′ → Ran T (sectionsOf T) D cs vs os limit r vs′ cs′
-unfolding RunJudged
-judged-ran T D cs vs os limit r vs′ cs′ b j =
-    begins-ran (runFaults (byChains (decider T)) T D cs vs os) T D cs vs os limit r vs′ cs′ (b .by-each (decider T) (decider-decides T)) (j .by-each (decider T) (decider-decides T))
-
 -- ---- reachable cells and the others
 
-module _ (T : List ℤ) (D cs vs os : List ℕ) (begins : Begins T D cs vs os) where
+module _ (T : List ℤ) (D cs vs os : List ℕ) (begins : Begins (lends T D cs vs os)) where
   abbrev h : Sections
   h = sectionsOf T
 
@@ -115,36 +102,37 @@ module _ (T : List ℤ) (D cs vs os : List ℕ) (begins : Begins T D cs vs os) w
   reachable-object o (inr (a, p, e)) = read-typed T h a (Plain (Address p o)) e .object
 
   -- No cell is both.
-  pub other-elsewhere : (i : ℕ) → OtherCell T D os i → Elsewhere D (Reachable T h os) i
+  pub other-elsewhere : (i : ℕ) → OtherCell (lends T D cs vs os) i → Elsewhere D (Reachable T h os) i
   other-elsewhere i (inl u) c =
       let q : c .object ≡ u .object =
       one-object h (environmentOf T h) D cs vs os entry (c .object) (u .object) i (reachable-object (c .object) (c .chosen)) (u .chosen .0) (c .above) (c .below) (u .above) (u .below) in
       u .chosen .1 (rw q at (c .chosen))
   other-elsewhere i (inr u) c = u (c .object) (reachable-object (c .object) (c .chosen)) (c .above) (c .below)
 
-  pub differ-same : (ds : List ℕ) → DifferElsewhere T D os cs ds → SameCells D (Reachable T h os) cs ds
+  pub differ-same : (ds : List ℕ) → DifferElsewhere (lends T D cs vs os) ds → SameCells D (Reachable T h os) cs ds
   differ-same ds d = record { long = d .long; cells = λ i c. go i c (ℕ-discrete (getD cs i 0) (getD ds i 0)) }
     where
       go : (i : ℕ) → CellOf D (Reachable T h os) i → Dec (getD cs i 0 ≡ getD ds i 0) → getD cs i 0 ≡ getD ds i 0
       go i c (yes e) = e
       go i c (no n) = absurd (other-elsewhere i (d .cells i n) c)
 
--- Points alike answer alike.
-pub answer-alike : (h : Sections) (D : List ℕ) (R : ℕ → Type 0) (P Q : Point) → Alike D R P Q → answerAt h P ≡ answerAt h Q
-answer-alike h D R P Q a = ap (answerAt h) (a .rest)
-
 pub two-runs : TwoRuns
-two-runs T D cs ds vs os limit r s vs′ ws′ cs′ ds′ b c d j k =
+two-runs l ds limit m n b c d j k =
+    let T = l .table in
+    let D = l .directory in
+    let cs = l .cells in
+    let vs = l .values in
+    let os = l .origins in
     let h = sectionsOf T in
     let E = environmentOf T h in
-    let p = judged-ran T D cs vs os limit r vs′ cs′ b j in
-    let q = judged-ran T D ds vs os limit s ws′ ds′ c k in
+    let p = judged-ran l limit m b j .ends in
+    let q = judged-ran (withCells l ds) limit n c k .ends in
     let a = two-alike T h E D vs os limit cs ds (differ-same T D cs vs os b ds d) in
     record {
-      answers = p .answer ∙ answer-alike h D (Reachable T h os) _ _ a ∙ sym (q .answer);
+      answers = p .answer ∙ ap (λ (X : Point). shownAs h (X .status) (X .steps) (X .due)) (a .rest) ∙ sym (q .answer);
       values = p .values ∙ ap (λ (X : Point). X .values) (a .rest) ∙ sym (q .values);
       long = ap length (p .cells) ∙ a .memory .long ∙ sym (ap length (q .cells));
-      reachable = λ i e. ap (λ (l : List ℕ). getD l i 0) (p .cells) ∙ a .memory .cells i e ∙ sym (ap (λ (l : List ℕ). getD l i 0) (q .cells));
-      first-untouched = λ i e. ap (λ (l : List ℕ). getD l i 0) (p .cells) ∙ others-untouched T h E D vs os limit cs i (other-elsewhere T D cs vs os b i e);
-      second-untouched = λ i e. ap (λ (l : List ℕ). getD l i 0) (q .cells) ∙ others-untouched T h E D vs os limit ds i (other-elsewhere T D ds vs os c i e);
+      reachable = λ i e. ap (λ (s : List ℕ). getD s i 0) (p .cells) ∙ a .memory .cells i e ∙ sym (ap (λ (s : List ℕ). getD s i 0) (q .cells));
+      first-untouched = λ i e. ap (λ (s : List ℕ). getD s i 0) (p .cells) ∙ others-untouched T h E D vs os limit cs i (other-elsewhere T D cs vs os b i e);
+      second-untouched = λ i e. ap (λ (s : List ℕ). getD s i 0) (q .cells) ∙ others-untouched T h E D vs os limit ds i (other-elsewhere T D ds vs os c i e);
     }

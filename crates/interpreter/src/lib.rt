@@ -15,8 +15,9 @@ ghost use mathlib.Core.Path.{_≡_};
 ghost use mathlib.Core.List.{[]};
 ghost use Rattle.table.specs.Form.{formOf};
 ghost use Rattle.table.specs.declared.Form.the-variants.{WellFormed};
-ghost use Rattle.rules.specs.Stored.{store, faults};
-ghost use Rattle.interpreter.specs.Claim.{runFaults, RunAnswer, RunJudged};
+ghost use Rattle.rules.specs.Stored.{faults};
+ghost use Rattle.interpreter.specs.Claim.{RunJudged};
+ghost use Rattle.interpreter.specs.ClaimLaws.{RunStored};
 
 // A run of an accepted table of these sections: causes 10 to 12, then the steps.
 fn run_sections(
@@ -29,7 +30,7 @@ fn run_sections(
     limit: u32,
 ) -> Outcome
     requires { ⌜ (formOf (now table) ≡ WellFormed sections) × (faults (now table) ≡ []) ⌝ }
-    ensures { λ r. ⌜ RunAnswer (runFaults store (now (table .entry)) (now (directory .entry)) (now (cells .entry)) (now (values .entry)) (now (origins .entry))) (now (table .entry)) (now (directory .entry)) (now (cells .entry)) (now (values .entry)) (now (origins .entry)) limit r (now (values .exit)) (now (cells .exit)) ⌝ }
+    ensures { λ r. ⌜ RunStored (record { table = now (table .entry); directory = now (directory .entry); cells = now (cells .entry); values = now (values .entry); origins = now (origins .entry) }) limit (record { answer = r; values = now (values .exit); cells = now (cells .exit) }) ⌝ }
 {
     let environment = read_environment(table, sections);
     let entry = enter(sections, environment, directory, cells, values, origins);
@@ -64,7 +65,7 @@ fn run_accepted(
     limit: u32,
 ) -> Outcome
     requires { ⌜ faults (now table) ≡ [] ⌝ }
-    ensures { λ r. ⌜ RunAnswer (runFaults store (now (table .entry)) (now (directory .entry)) (now (cells .entry)) (now (values .entry)) (now (origins .entry))) (now (table .entry)) (now (directory .entry)) (now (cells .entry)) (now (values .entry)) (now (origins .entry)) limit r (now (values .exit)) (now (cells .exit)) ⌝ }
+    ensures { λ r. ⌜ RunStored (record { table = now (table .entry); directory = now (directory .entry); cells = now (cells .entry); values = now (values .entry); origins = now (origins .entry) }) limit (record { answer = r; values = now (values .exit); cells = now (cells .exit) }) ⌝ }
 {
     let form = read_form(table);
     match form {
@@ -84,7 +85,7 @@ pub fn run(
     origins: &[u32],
     limit: u32,
 ) -> Outcome
-    ensures { λ r. ⌜ RunJudged (now (table .entry)) (now (directory .entry)) (now (cells .entry)) (now (values .entry)) (now (origins .entry)) limit r (now (values .exit)) (now (cells .exit)) ⌝ }
+    ensures { λ r. ⌜ RunJudged (record { table = now (table .entry); directory = now (directory .entry); cells = now (cells .entry); values = now (values .entry); origins = now (origins .entry) }) limit (record { answer = r; values = now (values .exit); cells = now (cells .exit) }) ⌝ }
 {
     let verdict = check(table);
     match verdict {

@@ -3,10 +3,7 @@ use mathlib.Core.Bool.{cond}
 use Prim.Native.Nat.{ℕ}
 use mathlib.Core.List.{List, [], _∷_, _++_}
 use lib.Dec.{eqb}
-use Rattle.refusals.specs.Refusals.{number, place, pointer}
-use Rattle.refusals.specs.declared.Refusal.{Refusal}
-use Rattle.rules.specs.declared.Verdict.{Verdict}
-use Rattle.rules.specs.declared.Verdict.the-variants.{Accepted, Refused}
+use Rattle.rules.specs.Verdict.{Reading, accepted, refused}
 use Rattle.text.specs.Text.{bytesOf, decimal}
 
 -- "it prints the one line `refused 8 0 0`: number, statement, pointer. Others print `refused`, number and place; else `accepted`."
@@ -26,9 +23,11 @@ acceptedWord = bytesOf "accepted"
 unfoldable pub spaced : ℕ → List ℕ
 spaced n = space ∷ decimal 20 n
 
-unfoldable pub refusedLine : Refusal → List ℕ
-refusedLine r = refusedWord ++ (spaced (number r) ++ (spaced (place r) ++ (cond (eqb (number r) 8) (spaced (pointer r)) [] ++ (lineFeed ∷ []))))
+unfoldable pub refusedLine : ℕ → ℕ → ℕ → List ℕ
+refusedLine number place pointer =
+    refusedWord ++ (spaced number ++ (spaced place ++ (cond (eqb number 8) (spaced pointer) [] ++ (lineFeed ∷ []))))
 
-unfoldable pub lineOf : Verdict → List ℕ
-lineOf Accepted = acceptedWord ++ (lineFeed ∷ [])
-lineOf (Refused r) = refusedLine r
+-- The line of a verdict, by what it reads as.
+unfoldable pub lineOf : Reading → List ℕ
+lineOf accepted = acceptedWord ++ (lineFeed ∷ [])
+lineOf (refused n a p) = refusedLine n a p

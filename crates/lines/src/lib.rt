@@ -2,12 +2,14 @@
 use refusals::Refusal;
 use rules::Verdict;
 use text::Text;
+ghost use Rattle.refusals.specs.Refusals.{number, place, pointer};
+ghost use Rattle.rules.specs.Verdict.{verdictReads};
 ghost use Rattle.text.specs.Text.{Line};
 ghost use Rattle.lines.specs.Lines.{lineOf, refusedLine};
 
 // "refused", number and place; for refusal 8 number, statement and pointer.
 fn refused_line(r: Refusal) -> Text
-    ensures { λ t. ⌜ Line (refusedLine r) t ⌝ }
+    ensures { λ t. ⌜ Line (refusedLine (number r) (place r) (pointer r)) t ⌝ }
 {
     let number = refusals::refusal_number(r);
     let start = Text::new()
@@ -26,7 +28,7 @@ fn refused_line(r: Refusal) -> Text
 
 // The line that the verdict program prints.
 pub fn verdict_line(v: Verdict) -> Text
-    ensures { λ t. ⌜ Line (lineOf v) t ⌝ }
+    ensures { λ t. ⌜ Line (lineOf (verdictReads v)) t ⌝ }
 {
     match v {
         Verdict::Accepted => Text::new().push_all(b"accepted\n"),

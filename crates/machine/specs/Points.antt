@@ -1,5 +1,6 @@
 -- Points of a run: which are in a bundle, the access that the step from a point performs, and the cells outside of all objects.
 use Prim.Native.Nat.{ℕ, _+_, _≤_, _<_}
+use mathlib.Core.Path.{_≡_}
 use mathlib.Core.Bool.{Bool, true, false, _&&_, _||_}
 use mathlib.Core.List.{List}
 use lib.Dec.{ltb}
@@ -15,7 +16,7 @@ use Rattle.statements.specs.declared.StatementRead.the-variants.{Read, Unread}
 use Rattle.blocks.specs.Tree.{Block, nil, plain, branch, loop, bundle, unread}
 use Rattle.rules.specs.BoundsRules.{inForce}
 use Rattle.rules.specs.declared.Environment.{Environment}
-use Rattle.machine.specs.Machine.{low, high, Failing, none, fails, failing, address, Status, going, stopped, stuck, Point, Memory, memoryOf}
+use Rattle.machine.specs.Machine.{low, high, Failing, none, fails, failing, address, Status, going, stopped, stuck, Point, Memory, memoryOf, inOrigin}
 
 -- "A point is in a bundle when a statement inside one is due": of the statement d that is due. A bundle's head is not inside it.
 unfoldable pub inBundle : Block → ℕ → Bool
@@ -69,3 +70,16 @@ accessFrom T h E stuck P = no-access
 -- Cell i is in none of the objects.
 abbrev pub Outside : List ℕ → ℕ → ℕ → Type 0
 Outside D objects i = (o : ℕ) → o < objects → low D o ≤ i → i < high D o → ⊥
+
+-- "a named check fails at the statement due": the first such check. Heads of blocks have none.
+abbrev pub failingAt : Environment → StatementRead → List ℕ → Failing
+failingAt E (Read (Plain s)) vs = failing E vs s
+failingAt E (Read (If c x y)) vs = none
+failingAt E (Read (While c x)) vs = none
+failingAt E (Read (Bundle x)) vs = none
+failingAt E Unread vs = none
+
+-- "Each cell read or written lay in the object that the pointer was derived from."
+abbrev pub AccessInside : List ℕ → Access → Type 0
+AccessInside D no-access = Unit {0}
+AccessInside D (access a origin) = inOrigin D origin a ≡ true

@@ -16,7 +16,7 @@ use Rattle.table.specs.Form.{formOf}
 use Rattle.table.specs.declared.Form.the-variants as form
 use Rattle.rules.specs.FactSets.{FactSets}
 use Rattle.rules.specs.BoundsRules.{isPointer}
-use Rattle.rules.specs.Verdict.{environmentOf, faults, verdictOf}
+use Rattle.rules.specs.Verdict.{environmentOf, faults, Says}
 use Rattle.rules.specs.declared.KnownEnd.the-variants.{Known}
 use Rattle.rules.specs.declared.Verdict.{Verdict}
 
@@ -67,4 +67,4 @@ chainFaults d = faults (byChains d)
 
 -- THE VERDICT ON A TABLE: that of the first fault.
 unfoldable pub Judged : List ℤ → Verdict → Type 0
-Judged T v = Decided T (λ d. v ≡ verdictOf (chainFaults d T))
+Judged T v = Decided T (λ d. Says (chainFaults d T) v)

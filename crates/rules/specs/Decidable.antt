@@ -1,9 +1,9 @@
 -- There is a decider of the paper's sentences about a table, the store's; and the verdict by the store is the one by the paper's chains.
 use Prim.Native.Nat.{ℕ, _+_, _≤_}
-use mathlib.Core.Path.{_≡_, refl, sym, _∙_}
+use mathlib.Core.Path.{_≡_, refl, sym, _∙_, ap}
 use mathlib.Core.Logic.{_↔_}
 use mathlib.Core.Bool.{Bool, true, false, cond}
-use mathlib.Core.List.{List}
+use mathlib.Core.List.{List, [], _∷_}
 use native.Mathlib.Omega.{arith}
 use borrow.Author.Tests.{leb-true, le-leb}
 use lib.Dec.{leb}
@@ -17,11 +17,12 @@ use Rattle.chains.specs.Chains.{sinks}
 use Rattle.chains.specs.Exact.{Exact}
 use Rattle.chains.specs.History.{known}
 use Rattle.chains.specs.HistoryLaws.{made, exact, shows-exactly}
+use Rattle.refusals.specs.declared.Refusal.{Refusal}
 use Rattle.table.specs.Form.{formOf}
 use Rattle.table.specs.declared.Form.{Form}
 use Rattle.table.specs.declared.Form.the-variants as form
 use Rattle.rules.specs.BoundsRules.{isPointer}
-use Rattle.rules.specs.Verdict.{environmentOf, faults, verdictOf}
+use Rattle.rules.specs.Verdict.{environmentOf, faults, verdictOf, verdictReads, firstReads, Says}
 use Rattle.rules.specs.Stored.{store}
 use Rattle.rules.specs.ByChains.{Decider, Decides, variables, DecidesTable, Decided, chainFaults, Judged}
 use Rattle.rules.specs.Agreement.{verdict-agrees}
@@ -74,11 +75,20 @@ decider-decides T h w e = rw e (stored-decides (variables T h w))
 pub decided : (T : List ℤ) (P : Decider → Type 0) → ((d : Decider) → DecidesTable T d → P d) → Decided T P
 decided T P each = record { decider = decider T; decides = decider-decides T; by-each = each }
 
+-- A verdict that is that of the first fault reads as its numbers.
+pub says : (fs : List Refusal) (v : Verdict) → v ≡ verdictOf fs → Says fs v
+unfolding verdictOf
+says fs v e = record { verdict = e; reads = ap verdictReads e ∙ go fs }
+  where
+    go : (rs : List Refusal) → verdictReads (verdictOf rs) ≡ firstReads rs
+    go [] = refl
+    go (r ∷ rs) = refl
+
 -- The rules over the store give the verdict that the paper gives.
 pub judged : (T : List ℤ) (v : Verdict) → v ≡ verdictOf (faults store T) → Judged T v
 unfolding Judged
-judged T v e = decided T (λ d. v ≡ verdictOf (chainFaults d T)) (λ d r. e ∙ verdict-agrees T d r)
+judged T v e = decided T (λ d. Says (chainFaults d T) v) (λ d r. says (chainFaults d T) v (e ∙ verdict-agrees T d r))
 
 pub stored-verdict : (T : List ℤ) (v : Verdict) → Judged T v → v ≡ verdictOf (faults store T)
 unfolding Judged
-stored-verdict T v j = let d = decider-decides T in j .by-each (decider T) d ∙ sym (verdict-agrees T (decider T) d)
+stored-verdict T v j = let d = decider-decides T in j .by-each (decider T) d .verdict ∙ sym (verdict-agrees T (decider T) d)

@@ -1,7 +1,10 @@
 -- The verdict on a table: causes 1 to 6 over the whole table, then the first fault of the walk.
+use Prim.Native.Nat.{ℕ}
+use mathlib.Core.Path.{_≡_}
 use mathlib.Core.List.{List, [], _∷_}
 use lib.IntN.{ℤ}
 use Rattle.arrays.specs.Tabulate.{tabulate}
+use Rattle.refusals.specs.Refusals.{number, place, pointer}
 use Rattle.refusals.specs.declared.Refusal.{Refusal}
 use Rattle.sections.specs.Sections.{pointerAt}
 use Rattle.sections.specs.declared.Sections.{Sections}
@@ -66,3 +69,24 @@ module _ (S : FactSets) where
 unfoldable pub verdictOf : List Refusal → Verdict
 verdictOf [] = Accepted
 verdictOf (r ∷ rs) = Refused r
+
+-- ---- what a verdict reads as, in the paper's numbers
+
+pub data Reading : Type 0 where
+  accepted : Reading
+  -- the refusal's number, its place, its pointer
+  refused : ℕ → ℕ → ℕ → Reading
+
+abbrev pub verdictReads : Verdict → Reading
+verdictReads Accepted = accepted
+verdictReads (Refused r) = refused (number r) (place r) (pointer r)
+
+-- "refused, by the first rule it breaks"
+abbrev pub firstReads : List Refusal → Reading
+firstReads [] = accepted
+firstReads (r ∷ rs) = refused (number r) (place r) (pointer r)
+
+-- What a verdict says, given all faults.
+pub record Says (fs : List Refusal) (v : Verdict) : Type 0 where
+  pub verdict : v ≡ verdictOf fs
+  pub reads : verdictReads v ≡ firstReads fs

@@ -4,6 +4,8 @@ use native.Mathlib.Omega.{arith}
 use borrow.Author.Needs.{needs}
 use Rattle.text.specs.Text.{bytesOf}
 use Rattle.text.specs.TextLaws.{grown-both}
+use Rattle.rules.specs.Verdict.{verdictReads}
+use Rattle.rules.specs.declared.Verdict.{Verdict}
 use Rattle.lines.specs.Lines.{acceptedWord, lineOf}
 use Rattle.lines.proofs.verdict_line.Statement.{statement}
 use Rattle.lines.proofs.verdict_line.Tie as tie
@@ -14,5 +16,5 @@ verdict-line-spec =
     tie.close
     (tie.spec
     (λ c. search needs) (λ c κs. search needs) (λ c. search needs) (λ c κs. search needs) (λ c. search needs) (λ c κs. search needs)
-    (λ c. record { text = grown-both (c .before .before .new .ensures) (c .push-all .ensures) .text ∙ sym (ap lineOf (c .before .before .before .enum-told .given .1)); fits = omega (arith, c .push-all .ensures .long, c .before .before .new .ensures .long) })
-    (λ c. record { text = c .refused-line .ensures .text ∙ sym (ap lineOf (c .before .before .v .given .1)); fits = c .refused-line .ensures .fits }))
+    (λ c. record { text = grown-both (c .before .before .new .ensures) (c .push-all .ensures) .text ∙ sym (ap (λ (w : Verdict). lineOf (verdictReads w)) (c .before .before .before .enum-told .given .1)); fits = omega (arith, c .push-all .ensures .long, c .before .before .new .ensures .long) })
+    (λ c. record { text = c .refused-line .ensures .text ∙ sym (ap (λ (w : Verdict). lineOf (verdictReads w)) (c .before .before .v .given .1)); fits = c .refused-line .ensures .fits }))
