@@ -48,7 +48,7 @@ abbrev pub ranIf : Bool → Lent → ℕ → List ℕ → List ℕ → List ℕ 
 ranIf true l limit w vs cs w′ = (o : Outcome) × RunJudged l limit (record { answer = o; values = vs; cells = cs }) × (w′ ≡ answerWords (reads o) w)
 ranIf false l limit w vs cs w′ = (vs ≡ l .values) × (cs ≡ l .cells) × (w′ ≡ w)
 
--- w are the words behind which the answer is written; vs, cs and w′ what values, cells and words hold then.
+-- w: the words that are lent for the answer, as they were; vs, cs and w′: what values, cells and words hold then.
 pub record RunWords (l : Lent) (limit : ℕ) (w : List ℕ) (r : Bool) (vs cs w′ : List ℕ) : Type 0 where
   pub room : r ≡ leb 4 (length w)
   pub words : ranIf (leb 4 (length w)) l limit w vs cs w′

@@ -1,5 +1,6 @@
--- THE CLAIM about a run, for each input: the three demands on `run`, demand 3 as one record about every point. Document 01, "The demands" and "Running".
--- The proof begins at `run-claim` in ClaimLaws.
+-- THE CLAIM about a run (document 00, demands 1 to 3; document 01, the plain machine and the causes of refusal). `run` promises `RunJudged`, for each input;
+-- demand 3 about a whole run is `WholeRun`, which follows from that promise (`whole-run` in ClaimLaws). That each call ends, touches nothing but what it is
+-- lent, and writes neither table, directory nor origins is the language's: what is lent to be read cannot be written. An allowance is a 32-bit number.
 use Prim.Native.Nat.{ℕ, _+_, _≤_, _<_}
 use mathlib.Core.Path.{_≡_}
 use mathlib.Core.Logic.{_≢_, _↔_}
@@ -39,7 +40,7 @@ pub record Lent : Type 0 where
   pub origins : List ℕ
 
 -- What it leaves: its answer, and what the two buffers hold that it may write. (Table, directory and origins are lent to be read.)
-pub record Left : Type 0 where
+pub record Leaves : Type 0 where
   pub answer : Outcome
   pub values : List ℕ
   pub cells : List ℕ
@@ -49,37 +50,36 @@ abbrev pub entryFaults : Form → Lent → List Refusal
 entryFaults (Refused r) l = []
 entryFaults (WellFormed h) l = entryRefusals h (environmentOf (l .table) h) (l .directory) (l .cells) (l .values) (l .origins)
 
--- "A run checks the routine first, then 10 to 12": all faults in that order. "A run is begun when no cause refuses it."
+-- "A run checks the routine first, then 10 to 12": the faults in that order, of which the first counts. "A run is begun when no cause refuses it."
 unfoldable pub runFaults : FactSets → Lent → List Refusal
 runFaults S l = also (faults S (l .table)) (entryFaults (formOf (l .table)) l)
 
 -- A refused run: its answer reads as that refusal's number, place and pointer; no cell and no value is changed.
-pub record NotBegun (f : Refusal) (l : Lent) (m : Left) : Type 0 where
+pub record NotBegun (f : Refusal) (l : Lent) (m : Leaves) : Type 0 where
   pub answer : reads (m .answer) ≡ says.refused (number f) (place f) (pointer f)
   pub values : m .values ≡ l .values
   pub cells : m .cells ≡ l .cells
 
 -- ---- the points of a begun run
--- How a run ends at a point: "done, spent (the allowance is used and a statement is due) or stopped".
-abbrev pub shownAs : Sections → Status → ℕ → ℕ → Answer
-shownAs h going steps due = cond (ltb due (h .statements)) (says.spent steps due) (says.done steps)
-shownAs h (stopped n) steps due = says.stopped steps due n
-shownAs h stuck steps due = says.done steps
+-- How a run ends at a point: "done, spent (the allowance is used and a statement is due) or stopped". (No begun run gets stuck: `has-step`.)
+abbrev pub answerOf : Sections → Status → ℕ → ℕ → Answer
+answerOf h going steps due = cond (ltb due (h .statements)) (says.spent steps due) (says.done steps)
+answerOf h (stopped n) steps due = says.stopped steps due n
+answerOf h stuck steps due = says.done steps
 
--- Of what is lent, and the sections h of its table:
 module _ (l : Lent) (h : Sections) where
   -- "Its points are the start and what each step leaves": the plain machine after t steps. (Where it has ended it stays.)
   abbrev pub pointOf : ℕ → Point
   pointOf t = pointAfter (l .table) h (environmentOf (l .table) h) (l .directory) t
       (start (l .table) h (environmentOf (l .table) h) (l .directory) (l .cells) (l .values) (l .origins))
 
-  -- Point 2: what is declared at the point after t steps, each pointer's row in force or its own bound.
+  -- What is declared there: each pointer's row in force (document 02, point 2) or its own bound.
   abbrev pub declaredAt : ℕ → Environment
   declaredAt t = inForce (environmentOf (l .table) h) (pointOf t .rows)
 
-  -- The run has not stopped before the point after t steps, and a statement is due there.
-  abbrev pub Due : ℕ → Type 0
-  Due t = (pointOf t .status ≡ going) × (pointOf t .due < h .statements)
+  -- The run is neither stopped nor stuck there, and a statement is due.
+  abbrev pub StatementDue : ℕ → Type 0
+  StatementDue t = (pointOf t .status ≡ going) × (pointOf t .due < h .statements)
 
   -- The first check that fails at the statement due.
   abbrev pub failingDue : ℕ → Failing
@@ -87,55 +87,55 @@ module _ (l : Lent) (h : Sections) where
 
   -- "The point after t steps is where the same run with allowance t ends": what that run answers.
   abbrev pub answerAt : ℕ → Answer
-  answerAt t = shownAs h (pointOf t .status) (pointOf t .steps) (pointOf t .due)
+  answerAt t = answerOf h (pointOf t .status) (pointOf t .steps) (pointOf t .due)
 
-  -- DEMAND 3 at the point after t steps of a run with the allowance `limit`, whose answer reads as `a`.
+  -- Demand 3 at the point after t steps of a run with the allowance `limit` whose answer reads as `a`: all but its sentence on cells, values, statement
+  -- and steps, which is `EndsAt`.
   pub record AtPoint (limit : ℕ) (a : Answer) (t : ℕ) : Type 0 where
     -- "Outside a bundle every declared bound is true."
     pub bounds : inBundle (tree (l .table) h) (pointOf t .due) ≡ false
         → (p : ℕ) → isPointer (declaredAt t) p ≡ true → boundsTrue (declaredAt t) (l .directory) (pointOf t .values) (pointOf t .origins) p ≡ true
-    -- "Each cell read or written so far lay in the object that the pointer was derived from."
+    -- "Each cell read or written so far lay in the object that the pointer was derived from", its origin.
     pub accesses : (s : ℕ) → s < t → AccessInside (l .directory) (accessFrom (l .table) h (environmentOf (l .table) h) (pointOf s .status) (pointOf s))
-    -- No cell outside the objects has changed.
+    -- Demand 1: no cell outside the objects has changed.
     pub untouched : (i : ℕ) → Outside (l .directory) (h .objects) i → getD (pointOf t .cells) i 0 ≡ getD (l .cells) i 0
-    -- The plain machine has a step wherever no check fails.
+    -- The plain machine has had a step at each point so far (that it has the next one is `goes-on`).
     pub has-step : pointOf t .status ≢ stuck
     -- A run that goes on has made t steps.
-    pub counted : Due t → pointOf t .steps ≡ t
+    pub counted : StatementDue t → pointOf t .steps ≡ t
     -- "the run, unless it has stopped, has finished exactly when no statement is due"
     pub finished : pointOf t .status ≡ going → (a ≡ says.done (pointOf t .steps)) ↔ (h .statements ≤ pointOf t .due)
     -- "else it is spent exactly when its allowance is used"
-    pub spent : Due t → (a ≡ says.spent (pointOf t .steps) (pointOf t .due)) ↔ (t ≡ limit)
+    pub spent : StatementDue t → (a ≡ says.spent (pointOf t .steps) (pointOf t .due)) ↔ (t ≡ limit)
     -- "else its next step stops it exactly when a named check fails at the statement due,
-    pub stops : Due t → (n : ℕ) → (pointOf (t + 1) .status ≡ stopped n) ↔ (failingDue t ≡ fails n)
+    pub stops : StatementDue t → (n : ℕ) → (pointOf (t + 1) .status ≡ stopped n) ↔ (failingDue t ≡ fails n)
     -- and it answers that statement and the first such check": number n.
-    pub answers-check : Due t → t < limit → (n s : ℕ)
+    pub answers-check : StatementDue t → t < limit → (n s : ℕ)
         → (a ≡ says.stopped (pointOf t .steps + 1) s n) ↔ ((failingDue t ≡ fails n) × (s ≡ pointOf t .due))
     -- "The stopping statement is counted and changes nothing", and stays due.
     pub stop-changes-nothing : pointOf t .status ≡ going → (n : ℕ) → pointOf (t + 1) .status ≡ stopped n → pointOf (t + 1) ≡ halted (pointOf t) n
     -- "and else it takes that step"
-    pub goes-on : Due t → failingDue t ≡ none → (pointOf (t + 1) .status ≡ going) × (pointOf (t + 1) .steps ≡ pointOf t .steps + 1)
+    pub goes-on : StatementDue t → failingDue t ≡ none → (pointOf (t + 1) .status ≡ going) × (pointOf (t + 1) .steps ≡ pointOf t .steps + 1)
 
-  -- "Its cells and values, the statement due and the steps it answers, a stopping one counted, are the plain machine's": what a run with the allowance t
-  -- answers and leaves.
-  pub record EndsAt (t : ℕ) (m : Left) : Type 0 where
+  -- "Its cells and values, the statement due and the steps it answers, .. are the plain machine's": what a run with the allowance t answers and leaves.
+  pub record EndsAt (t : ℕ) (m : Leaves) : Type 0 where
     pub answer : reads (m .answer) ≡ answerAt t
     pub values : m .values ≡ pointOf t .values
     pub cells : m .cells ≡ pointOf t .cells
 
   -- A begun run: what it answers and leaves, and demand 3 at every point up to there.
-  pub record Ran (limit : ℕ) (m : Left) : Type 0 where
+  pub record Ran (limit : ℕ) (m : Leaves) : Type 0 where
     pub ends : EndsAt limit m
     pub every-point : (t : ℕ) → t ≤ limit → AtPoint limit (reads (m .answer)) t
 
 -- ---- the promise
--- What a run answers and leaves, given all faults of its input.
-unfoldable pub RunAnswer : List Refusal → Lent → ℕ → Left → Type 0
+-- What a run answers and leaves, given the faults of its input in order.
+unfoldable pub RunAnswer : List Refusal → Lent → ℕ → Leaves → Type 0
 RunAnswer [] l limit m = Ran l (sectionsOf (l .table)) limit m
 RunAnswer (f ∷ fs) l limit m = NotBegun f l m
 
--- THE PROMISE OF `run`, for each input, by the paper's chains of the facts of its table.
-unfoldable pub RunJudged : Lent → ℕ → Left → Type 0
+-- THE PROMISE OF `run`, for each input, by each decider of the paper's sentences about chains (there is one).
+unfoldable pub RunJudged : Lent → ℕ → Leaves → Type 0
 RunJudged l limit m = Decided (l .table) (λ d. RunAnswer (runFaults (byChains d) l) l limit m)
 
 -- ---- the whole run
@@ -143,8 +143,8 @@ RunJudged l limit m = Decided (l .table) (λ d. RunAnswer (runFaults (byChains d
 abbrev pub Begins : Lent → Type 0
 Begins l = Decided (l .table) (λ d. runFaults (byChains d) l ≡ [])
 
--- THE CLAIM ABOUT A WHOLE RUN: let `call t` be what the call with the allowance t leaves, each lent the same. Then at every point of a run with any
--- allowance the same run with the allowance t ends at that point, and demand 3 holds there. It is proved as `whole-run` in ClaimLaws.
+-- THE CLAIM ABOUT A WHOLE RUN: let `call t` be what the call with the allowance t leaves, for each t up to the limit, each lent the same. Then at every
+-- point of the run with the allowance `limit` the same run with the allowance t ends at that point, and demand 3 holds there.
 abbrev pub WholeRun : Type 0
-WholeRun = (l : Lent) (call : ℕ → Left) → Begins l → ((t : ℕ) → RunJudged l t (call t)) → (limit t : ℕ) → t ≤ limit
+WholeRun = (l : Lent) (limit : ℕ) (call : ℕ → Leaves) → Begins l → ((t : ℕ) → t ≤ limit → RunJudged l t (call t)) → (t : ℕ) → t ≤ limit
     → EndsAt l (sectionsOf (l .table)) t (call t) × AtPoint l (sectionsOf (l .table)) limit (reads (call limit .answer)) t

@@ -49,7 +49,7 @@ use Rattle.rules.specs.Verdict as verdictRules
 use Rattle.rules.specs.ByChains.{byChains}
 use Rattle.rules.specs.Decidable.{decided, decider, decider-decides}
 use Rattle.rules.specs.Agreement.{SameFirst, same-self, same-also, faults-agree}
-use Rattle.interpreter.specs.Claim.{Lent, Left, entryFaults, runFaults, shownAs, failingDue, answerAt, AtPoint, Ran, RunAnswer, RunJudged, Begins, WholeRun}
+use Rattle.interpreter.specs.Claim.{Lent, Leaves, entryFaults, runFaults, answerOf, failingDue, answerAt, AtPoint, Ran, RunAnswer, RunJudged, Begins, WholeRun}
 use Rattle.entry.specs.Entered.{entered}
 use Rattle.entry.specs.declared.EntryVerdict.{EntryVerdict}
 use Rattle.entry.specs.declared.EntryVerdict.the-variants as entry
@@ -66,7 +66,7 @@ allowed-inside D n (access a o) h = h .inside
 abbrev pub lends : List ℤ → List ℕ → List ℕ → List ℕ → List ℕ → Lent
 lends T D cs vs os = record { table = T; directory = D; cells = cs; values = vs; origins = os }
 
-abbrev pub leaves : Outcome → List ℕ → List ℕ → Left
+abbrev pub leaves : Outcome → List ℕ → List ℕ → Leaves
 leaves r vs cs = record { answer = r; values = vs; cells = cs }
 
 -- ---- the answers at a point
@@ -74,14 +74,14 @@ leaves r vs cs = record { answer = r; values = vs; cells = cs }
 never : {A : Type 0} → _≡_ {A = ℕ} 0 1 → A
 never z = absurd (omega arith)
 
-going-done : (h : Sections) (s : Status) (steps due : ℕ) → s ≡ going → h .statements ≤ due → shownAs h s steps due ≡ says.done steps
+going-done : (h : Sections) (s : Status) (steps due : ℕ) → s ≡ going → h .statements ≤ due → answerOf h s steps due ≡ says.done steps
 going-done h s steps due e l = rw (e, le-ltb due (h .statements) l)
 
-going-spent : (h : Sections) (s : Status) (steps due : ℕ) → s ≡ going → due < h .statements → shownAs h s steps due ≡ says.spent steps due
+going-spent : (h : Sections) (s : Status) (steps due : ℕ) → s ≡ going → due < h .statements → answerOf h s steps due ≡ says.spent steps due
 going-spent h s steps due e l = rw (e, lt-ltb due (h .statements) l)
 
 -- The steps of a point that answers done, where no statement is due.
-done-steps : (h : Sections) (s : Status) (steps due n : ℕ) → s ≢ stuck → shownAs h s steps due ≡ says.done n → (h .statements ≤ due) × (steps ≡ n)
+done-steps : (h : Sections) (s : Status) (steps due n : ℕ) → s ≢ stuck → answerOf h s steps due ≡ says.done n → (h .statements ≤ due) × (steps ≡ n)
 done-steps h going steps due n u e = go (ltb due (h .statements)) refl e
   where
     go : (b : Bool) → ltb due (h .statements) ≡ b → cond b (says.spent steps due) (says.done steps) ≡ says.done n → (h .statements ≤ due) × (steps ≡ n)
@@ -91,7 +91,7 @@ done-steps h (stopped k) steps due n u e = let z : _≡_ {A = ℕ} 0 1 = cc in n
 done-steps h stuck steps due n u e = absurd (u refl)
 
 -- The steps, the statement and the check of a point that answers stopped.
-stopped-steps : (h : Sections) (s : Status) (steps due n a k : ℕ) → shownAs h s steps due ≡ says.stopped n a k → (s ≡ stopped k) × (steps ≡ n) × (due ≡ a)
+stopped-steps : (h : Sections) (s : Status) (steps due n a k : ℕ) → answerOf h s steps due ≡ says.stopped n a k → (s ≡ stopped k) × (steps ≡ n) × (due ≡ a)
 stopped-steps h going steps due n a k e = go (ltb due (h .statements)) e
   where
     go : (b : Bool) → cond b (says.spent steps due) (says.done steps) ≡ says.stopped n a k → (going ≡ stopped k) × (steps ≡ n) × (due ≡ a)
@@ -101,7 +101,7 @@ stopped-steps h (stopped j) steps due n a k e = let q : j ≡ k = cc in (ap stop
 stopped-steps h stuck steps due n a k e = let z : _≡_ {A = ℕ} 0 1 = cc in never z
 
 -- The steps of a point that answers spent.
-spent-steps : (h : Sections) (s : Status) (steps due n a : ℕ) → shownAs h s steps due ≡ says.spent n a → (s ≡ going) × (due < h .statements) × (steps ≡ n)
+spent-steps : (h : Sections) (s : Status) (steps due n a : ℕ) → answerOf h s steps due ≡ says.spent n a → (s ≡ going) × (due < h .statements) × (steps ≡ n)
 spent-steps h going steps due n a e = go (ltb due (h .statements)) refl e
   where
     go : (b : Bool) → ltb due (h .statements) ≡ b → cond b (says.spent steps due) (says.done steps) ≡ says.spent n a → (going ≡ going) × (due < h .statements) × (steps ≡ n)
@@ -111,7 +111,7 @@ spent-steps h (stopped k) steps due n a e = let z : _≡_ {A = ℕ} 0 1 = cc in 
 spent-steps h stuck steps due n a e = let z : _≡_ {A = ℕ} 0 1 = cc in never z
 
 -- What the code's answer at a point reads as.
-reads-shown : (h : Sections) (s : Status) (steps due : ℕ) → ((n : ℕ) → s ≡ stopped n → (1 ≤ n) × (n ≤ 5)) → reads (outcomeShown h s steps due) ≡ shownAs h s steps due
+reads-shown : (h : Sections) (s : Status) (steps due : ℕ) → ((n : ℕ) → s ≡ stopped n → (1 ≤ n) × (n ≤ 5)) → reads (outcomeShown h s steps due) ≡ answerOf h s steps due
 reads-shown h going steps due five = go (ltb due (h .statements))
   where
     go : (b : Bool) → reads (cond b (Spent steps due) (Done steps)) ≡ cond b (says.spent steps due) (says.done steps)
@@ -178,7 +178,7 @@ module _ (T : List ℤ) (h : Sections) (formed : formOf T ≡ WellFormed h) (acc
   finished : (limit t : ℕ) → t ≤ limit → point t .status ≡ going → (shown limit ≡ says.done (point t .steps)) ↔ (h .statements ≤ point t .due)
   finished limit t l g = (
     (λ e. by-due e (ltb (point t .due) (h .statements)) refl),
-    (λ d. ap (λ (P : Point). shownAs h (P .status) (P .steps) (P .due)) (ended-done limit t l g d) ∙ going-done h (point t .status) (point t .steps) (point t .due) g d),
+    (λ d. ap (λ (P : Point). answerOf h (P .status) (P .steps) (P .due)) (ended-done limit t l g d) ∙ going-done h (point t .status) (point t .steps) (point t .due) g d),
   )
     where
       by-time : shown limit ≡ says.done (point t .steps) → point t .due < h .statements → (t ≡ limit) ⊎ (t < limit) → ⊥
@@ -208,7 +208,7 @@ module _ (T : List ℤ) (h : Sections) (formed : formOf T ≡ WellFormed h) (acc
 
       -- The run has stopped with this step.
       at-stop : (k : ℕ) → point (t + 1) .status ≡ stopped k → shown limit ≡ says.stopped (point t .steps + 1) (point t .due) k
-      at-stop k s = ap (λ (P : Point). shownAs h (P .status) (P .steps) (P .due)) (ended-stopped limit (t + 1) k (omega arith) s ∙ facts .same k s)
+      at-stop k s = ap (λ (P : Point). answerOf h (P .status) (P .steps) (P .due)) (ended-stopped limit (t + 1) k (omega arith) s ∙ facts .same k s)
 
       -- The run went on, so that it cannot have stopped with this step.
       went-on : shown limit ≡ says.stopped (point t .steps + 1) a n → point (t + 1) .status ≡ going → ⊥
@@ -312,7 +312,7 @@ module _ (T : List ℤ) (h : Sections) (formed : formOf T ≡ WellFormed h) (acc
       })
 
 -- What the functions below `run` promise: the same by the store's facts.
-abbrev pub RunStored : Lent → ℕ → Left → Type 0
+abbrev pub RunStored : Lent → ℕ → Leaves → Type 0
 RunStored l limit m = RunAnswer (runFaults store l) l limit m
 
 -- ---- refusals of a run
@@ -416,12 +416,12 @@ run-judged T D cs vs os limit r vs′ cs′ a =
 
 -- ---- the whole run
 
-begins-ran : (fs : List Refusal) (l : Lent) (limit : ℕ) (m : Left) → fs ≡ [] → RunAnswer fs l limit m → Ran l (sectionsOf (l .table)) limit m
+begins-ran : (fs : List Refusal) (l : Lent) (limit : ℕ) (m : Leaves) → fs ≡ [] → RunAnswer fs l limit m → Ran l (sectionsOf (l .table)) limit m
 unfolding RunAnswer
 begins-ran [] l limit m e a = a
 begins-ran (f ∷ fs) l limit m e a = let z : _≡_ {A = ℕ} 0 1 = cc in never z
 
-pub judged-ran : (l : Lent) (limit : ℕ) (m : Left) → Begins l → RunJudged l limit m → Ran l (sectionsOf (l .table)) limit m
+pub judged-ran : (l : Lent) (limit : ℕ) (m : Leaves) → Begins l → RunJudged l limit m → Ran l (sectionsOf (l .table)) limit m
 unfolding RunJudged
 judged-ran l limit m b j =
     let d = decider (l .table) in
@@ -429,4 +429,4 @@ judged-ran l limit m b j =
     begins-ran (runFaults (byChains d) l) l limit m (b .by-each d c) (j .by-each d c)
 
 pub whole-run : WholeRun
-whole-run l call b j limit t e = (judged-ran l t (call t) b (j t) .ends, judged-ran l limit (call limit) b (j limit) .every-point t e)
+whole-run l limit call b j t e = (judged-ran l t (call t) b (j t e) .ends, judged-ran l limit (call limit) b (j limit (omega arith)) .every-point t e)

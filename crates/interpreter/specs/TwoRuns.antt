@@ -8,7 +8,7 @@ use Rattle.table.specs.Form.{sectionsOf}
 use Rattle.machine.specs.Points.{Outside}
 use Rattle.machine.specs.Reach.{CellOf, Reachable}
 use Rattle.stops.specs.Answers.{reads}
-use Rattle.interpreter.specs.Claim.{Lent, Left, RunJudged, Begins}
+use Rattle.interpreter.specs.Claim.{Lent, Leaves, RunJudged, Begins}
 
 module _ (l : Lent) where
   -- Object o is reachable in a run that is lent l.
@@ -34,7 +34,7 @@ pub record DifferElsewhere (l : Lent) (ds : List ℕ) : Type 0 where
   pub cells : (i : ℕ) → getD (l .cells) i 0 ≢ getD ds i 0 → OtherCell l i
 
 -- "They give equal answers, steps, values and reachable cells, and leave the other cells untouched." (An answer holds its steps.)
-pub record SameRuns (l : Lent) (ds : List ℕ) (m n : Left) : Type 0 where
+pub record SameRuns (l : Lent) (ds : List ℕ) (m n : Leaves) : Type 0 where
   pub answers : reads (m .answer) ≡ reads (n .answer)
   pub values : m .values ≡ n .values
   pub long : length (m .cells) ≡ length (n .cells)
@@ -44,5 +44,5 @@ pub record SameRuns (l : Lent) (ds : List ℕ) (m n : Left) : Type 0 where
 
 -- THE CLAIM OF POINT 12, from the promises of two calls of `run` with the same allowance, "both accepted at entry". It is proved as `two-runs` in TwoRunsLaws.
 abbrev pub TwoRuns : Type 0
-TwoRuns = (l : Lent) (ds : List ℕ) (limit : ℕ) (m n : Left) → Begins l → Begins (withCells l ds) → DifferElsewhere l ds
+TwoRuns = (l : Lent) (ds : List ℕ) (limit : ℕ) (m n : Leaves) → Begins l → Begins (withCells l ds) → DifferElsewhere l ds
     → RunJudged l limit m → RunJudged (withCells l ds) limit n → SameRuns l ds m n

@@ -34,7 +34,7 @@ use Rattle.machine.specs.FrameLaws.{two-alike, others-untouched}
 use Rattle.entry.specs.Entry.{endBefore, pairRight, entryRefusals}
 use Rattle.interpreter.specs.StartLaws.{Admitted, admitted, origin-inside}
 use Rattle.interpreter.specs.ClaimLaws.{lends, formed-sections, judged-ran}
-use Rattle.interpreter.specs.Claim.{runFaults, shownAs, Begins}
+use Rattle.interpreter.specs.Claim.{runFaults, answerOf, Begins}
 use Rattle.interpreter.specs.TwoRuns.{OtherCell, DifferElsewhere, TwoRuns, withCells}
 use Rattle.stops.specs.declared.Outcome.the-variants as outcome
 
@@ -129,7 +129,7 @@ two-runs l ds limit m n b c d j k =
     let q = judged-ran (withCells l ds) limit n c k .ends in
     let a = two-alike T h E D vs os limit cs ds (differ-same T D cs vs os b ds d) in
     record {
-      answers = p .answer ∙ ap (λ (X : Point). shownAs h (X .status) (X .steps) (X .due)) (a .rest) ∙ sym (q .answer);
+      answers = p .answer ∙ ap (λ (X : Point). answerOf h (X .status) (X .steps) (X .due)) (a .rest) ∙ sym (q .answer);
       values = p .values ∙ ap (λ (X : Point). X .values) (a .rest) ∙ sym (q .values);
       long = ap length (p .cells) ∙ a .memory .long ∙ sym (ap length (q .cells));
       reachable = λ i e. ap (λ (s : List ℕ). getD s i 0) (p .cells) ∙ a .memory .cells i e ∙ sym (ap (λ (s : List ℕ). getD s i 0) (q .cells));
