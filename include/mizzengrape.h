@@ -13,7 +13,7 @@
    - mizzengrape_try_check and mizzengrape_try_run, below, ask for less: they look at null, alignment and overlap first, and answer what is wrong
      without calling. What no program can see is left to the caller: that a pointer has that many elements behind it, and that no other thread writes them.
 
-   Stack. A call takes at most 180 KiB of the calling thread's stack, at the deepest nesting (`compare stack` measures it).
+   Stack. A call takes at most 240 KiB of the calling thread's stack, at the deepest nesting (`compare stack` measures it).
 
    Memory. What a run is lent:
    - cells: the memory, at most 16,777,216 cells of 32 bits. Address a is cells[a]. Cell 0 is in no object, so address 0 is null.
