@@ -16,7 +16,7 @@ use Rattle.facts.specs.declared.FactSet.{FactSet}
 use Rattle.sections.specs.SectionsLaws.{both}
 use Rattle.statements.specs.declared.Simple.{Simple}
 use Rattle.statements.specs.declared.Simple.the-variants.{Literal, AddConstant, Arithmetic, Null, Address, PointerOffset, PointerIndex, Load, Store, Check, Declare}
-use Rattle.rules.specs.BoundsRules.{nothingKnown, known, names, forgetEnd, forgetBounds, objectBounds}
+use Rattle.rules.specs.BoundsRules.{nothingKnown, known, names, forgetEnd, forgetBounds, objectBounds, weight}
 use Rattle.rules.specs.Stored.{effect, shiftConstant, shiftEnd, shiftBounds, effectOn, boundsAfter}
 use Rattle.rules.specs.Ranges.{InRange, Measured, Short}
 use Rattle.rules.specs.declared.KnownEnd.{KnownEnd}
@@ -42,7 +42,7 @@ all-kept Keep K l s t =
 all-kept (Forget v) K l s t = absurd (false≢true (sym s ∙ t))
 all-kept (Shift v k) K l s t = absurd (false≢true (sym s ∙ t))
 all-kept (Copy v q) K l s t = absurd (false≢true (sym s ∙ t))
-all-kept (Object v n) K l s t = absurd (false≢true (sym s ∙ t))
+all-kept (Object v z n) K l s t = absurd (false≢true (sym s ∙ t))
 
 pub effect-short : (E : Environment) (f : FactSet) (s : Simple) → Measured E → InRange s → Short (effect E f s)
 unfolding boundsRules.effect
@@ -63,7 +63,7 @@ effect-short E f (Declare p r) m l = tt
 -- An end that stays is known, and the same after the effect.
 record Stays (v : ℕ) (e : KnownEnd) : Type 0 where
   forgotten : forgetEnd v e ≡ e
-  moved : (k : ℕ) → shiftEnd v k e ≡ e
+  moved : (s k : ℕ) → shiftEnd s v k e ≡ e
 
 end-stays : (v : ℕ) (e : KnownEnd) → endStays v e ≡ true → Stays v e
 unfolding endStays forgetEnd boundsRules.shiftEnd
@@ -72,7 +72,7 @@ end-stays v (Known e) h =
     let n : names e v ≡ false = not-true (names e v) h in
     record {
       forgotten = ap (λ (b : Bool). cond b Unknown (Known e)) n;
-      moved = λ k. ap (λ (b : Bool). cond b (shiftConstant k e) (Known e)) n;
+      moved = λ s k. ap (λ (b : Bool). cond b (shiftConstant (weight s v e) k e) (Known e)) n;
     }
 
 module _ (v : ℕ) (b : Bounds) (h : boundsStay v b ≡ true) where
@@ -90,7 +90,7 @@ module _ (v : ℕ) (b : Bounds) (h : boundsStay v b ≡ true) where
 
   stay-moved : (k : ℕ) → shiftBounds v k b ≡ b
   unfolding boundsRules.shiftBounds
-  stay-moved k = let e₁ = lower-stays .moved k in let e₂ = upper-stays .moved k in rw (e₁, e₂)
+  stay-moved k = let e₁ = lower-stays .moved (b .size) k in let e₂ = upper-stays .moved (b .size) k in rw (e₁, e₂)
 
 -- Bounds that stay are what the effect makes of them.
 stays-same : (e : Effect) (p : ℕ) (own source : Bounds) → stays e p own ≡ true → effectOnOne e p own source ≡ own
@@ -101,9 +101,9 @@ stays-same (Shift v k) p own source h = stay-moved v own h k
 stays-same (Copy v q) p own source h =
     let t = both (not (eqb p v)) (boundsStay v own) h in
     ap (λ (b : Bool). forgetBounds v (cond b source own)) (not-true (eqb p v) (t .0)) ∙ stay-forgotten v own (t .1)
-stays-same (Object v n) p own source h =
+stays-same (Object v z n) p own source h =
     let t = both (not (eqb p v)) (boundsStay v own) h in
-    ap (λ (b : Bool). cond b (objectBounds v n) (forgetBounds v own)) (not-true (eqb p v) (t .0)) ∙ stay-forgotten v own (t .1)
+    ap (λ (b : Bool). cond b (objectBounds v z n) (forgetBounds v own)) (not-true (eqb p v) (t .0)) ∙ stay-forgotten v own (t .1)
 
 pub stays-known : (e : Effect) (K : List Bounds) (p : ℕ) → stays e p (known K p) ≡ true → effectOn e K p ≡ known K p
 stays-known e K p h = effect-on-one e K p ∙ stays-same e p (known K p) (known K (sourceOf e)) h

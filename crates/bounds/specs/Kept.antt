@@ -8,4 +8,4 @@ keepsAll Keep = true
 keepsAll (Forget v) = false
 keepsAll (Shift v k) = false
 keepsAll (Copy v q) = false
-keepsAll (Object v n) = false
+keepsAll (Object v z n) = false

@@ -33,6 +33,7 @@ fn keeps_all(effect: Effect) -> bool
         } => false,
         Effect::Object {
             target: _,
+            size: _,
             length: _,
         } => false,
     }

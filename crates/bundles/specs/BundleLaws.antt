@@ -32,8 +32,9 @@ use Rattle.touched.specs.Touched.{seenAs, seenOf}
 use Rattle.touched.specs.declared.Seen.{Seen}
 use Rattle.declared.specs.ShownLaws.{row-named, rows-stay, no-row-asked, seen-unshown, seen-access}
 use Rattle.declared.specs.declared.Declares.the-variants.{Row, NoRow}
-use Rattle.force.specs.Force.{stateOf}
+use Rattle.force.specs.Force.{Framed, stateOf}
 use Rattle.force.specs.ForceLaws.{none-refused, pass, refuse-part}
+use Rattle.force.specs.declared.Frame.{Frame}
 use Rattle.bundles.specs.Bundles.{Passes, WalksBundle}
 use Rattle.effects.specs.FactRulesLaws.{effect-lengths}
 use Rattle.bounds.specs.BoundsRulesLaws.{effect-short}
@@ -69,7 +70,7 @@ ends e p q = record { said = p ∙ ap verdictOf (sym e); kept = λ z. q }
 
 -- ---- a statement
 
-module _ (E : Environment) (f : FactSet) (s : Simple) {d : Applied} (e : d ≡ applied (E .lengths) f s) where
+module _ (E : Environment) (f : FactSet) (s : Simple) {d : Applied} (e : d ≡ applied (E .sizes) (E .lengths) f s) where
   pub applied-facts : d .facts ≡ factsAfter s f
   unfolding applied
   applied-facts = ap (λ (a : Applied). a .facts) e
@@ -81,9 +82,10 @@ module _ (E : Environment) (f : FactSet) (s : Simple) {d : Applied} (e : d ≡ a
   pub applied-short : Measured E → InRange s → Short (d .effect)
   applied-short m r = rw applied-effect (effect-short E f s m r)
 
--- With the lengths that the table declares.
-pub measured-by : (f : FactSet) (s : Simple) {L M : List ℕ} {d : Applied} → L ≡ M → d ≡ applied L f s → d ≡ applied M f s
-measured-by f s l e = e ∙ ap (λ (x : List ℕ). applied x f s) l
+-- With the sizes and lengths that the table declares.
+pub measured-by : (f : FactSet) (s : Simple) {E : Environment} {r : Frame} {d : Applied} → Framed E r → d ≡ applied (r .sizes) (r .lengths) f s
+    → d ≡ applied (E .sizes) (E .lengths) f s
+measured-by f s m e = e ∙ ap₂ (λ (x y : List ℕ). applied x y f s) (m .sizes) (m .lengths)
 
 -- A kind 14 names a pointer and a row of the table.
 pub row-limits : (T : List ℤ) (h : Sections) (a : ℕ) {s : Statement} {p : Simple} {y r : ℕ} → statementAt T h a ≡ Read s → s ≡ Plain p → declaresOf p ≡ Row y r → (y < 16) × (r < 64)

@@ -66,6 +66,7 @@ pub fn walk_bundle(
     requires { ⌜ Measured (environmentOf (now table) sections) × (head < 2 ^ 40) × Framed (environmentOf (now table) sections) frame × Forced (environmentOf (now table) sections) (force .rows .each) force ⌝ }
     ensures { λ r. ⌜ WalksBundle (environmentOf (now (table .entry)) sections) head (simples count (now (table .entry)) sections (head + 1)) (stateOf given (force .rows .each)) (inForce (environmentOf (now (table .entry)) sections) (force .rows .each) .declared) r ⌝ }
 {
+    let sizes = frame.sizes;
     let lengths = frame.lengths;
     let mut rows = force.rows;
     let mut seen = force.seen;
@@ -112,7 +113,7 @@ pub fn walk_bundle(
                     };
                 }
                 let answers = answer(facts, ask_statement(simple));
-                let plan = plan_statement(lengths, simple, answers);
+                let plan = plan_statement(sizes, lengths, simple, answers);
                 let effect = plan.effect;
                 known = bounds_after(effect, known);
                 facts = facts.after(plan.change);

@@ -1,11 +1,12 @@
 -- Laws of chains: how they are put together, that contradictory facts show every fact, and what least sums are.
-use Prim.Native.Nat.{ℕ, zero, suc, _+_, _≤_, _<_}
+use Prim.Native.Nat.{ℕ, zero, suc, _+_, _≤_, _<_, _*_}
 use mathlib.Core.Path.{_≡_, refl, _∙_}
 use mathlib.Core.Logic.{_≢_, _⊎_, inl, inr, ⊎-elim}
 use mathlib.Core.Bool.{Bool, true, false}
 use native.Mathlib.Omega.{arith}
 use Rattle.sums.specs.Numbers.{bias, maxValue, zeroVar}
-use Rattle.chains.specs.Facts.{Variables, Node, Comparable, same-kind, from-zero, to-zero, Known, Always, lower, upper, Chain, empty, link, ChainWithin, Shown, Contradiction}
+use Rattle.sums.specs.Scale.{scale-sums}
+use Rattle.chains.specs.Facts.{Variables, Node, Comparable, same-kind, from-zero, to-zero, Known, Always, lower, upper, Chain, empty, link, ChainWithin, Shown, Contradiction, EndShown}
 use Rattle.chains.specs.LeastSums.{LeastSums}
 
 abbrev pub Includes : Known → Known → Type 0
@@ -45,6 +46,19 @@ more-contradiction w c = record { node = c .node; up = c .up; down = c .down; ro
 
 pub contradiction-of : {K : Known} {x p m : ℕ} → ChainWithin K x x p m → p < m → Contradiction K
 contradiction-of {x = x} b h = record { node = x; up = b .up; down = b .down; round = b .chain; negative = omega arith }
+
+-- Two chains show an end, the second one's sum multiplied by the size.
+pub two-chains : {K : Known} {q n r m p₁ m₁ p₂ m₂ : ℕ} (s k j : ℕ) → ChainWithin K q r p₁ m₁ → ChainWithin K n m p₂ m₂ → p₁ + s * p₂ + k ≤ j + (m₁ + s * m₂)
+    → EndShown K s q n k r m j
+two-chains {p₂ = p₂} {m₂ = m₂} s k j a b l = record {
+  up₁ = a .up;
+  down₁ = a .down;
+  first = a .chain;
+  up₂ = b .up;
+  down₂ = b .down;
+  second = b .chain;
+  within = omega (arith, a .within, scale-sums s (b .up) m₂ p₂ (b .down) (b .within));
+}
 
 -- ---- pairs of nodes
 

@@ -1,5 +1,5 @@
 -- The promise of the fact store: what a fact set shows is what the chains of its known facts show.
-use Prim.Native.Nat.{ℕ, _+_, _-_, _^_, _≤_, _<_}
+use Prim.Native.Nat.{ℕ, _+_, _^_, _≤_, _<_, _*_}
 use mathlib.Core.Path.{_≡_, refl}
 use mathlib.Core.Logic.{inl, inr, ⊎-elim, _↔_}
 use mathlib.Core.Bool.{Bool, true, false, cond}
@@ -7,13 +7,13 @@ use native.Mathlib.Omega.{arith}
 use borrow.Author.Tests.{leb-true, le-leb}
 use lib.Dec.{leb}
 use Rattle.sums.specs.Numbers.{bias, maxValue, zeroVar}
-use Rattle.sums.specs.Sums.{concatenated}
-use Rattle.facts.specs.Store.{sumAt, leastSum, shown, endShown}
-use Rattle.sums.specs.SumsLaws.{concat-plain}
-use Rattle.facts.specs.StoreLaws.{least-node}
-use Rattle.chains.specs.Facts.{Variables, Node, Known, lower, upper, ChainWithin, Shown, Contradiction, EndShown}
+use Rattle.facts.specs.Store.{sumAt, leastSum, shown, endShown, withinEnd}
+use native.Mathlib.Nat.{mul-zero}
+use Rattle.sums.specs.Scale.{scale-sums}
+use Rattle.facts.specs.StoreLaws.{least-node, within-plain}
+use Rattle.chains.specs.Facts.{Variables, Node, Known, lower, upper, Shown, Contradiction, EndShown}
 use Rattle.chains.specs.LeastSums.{LeastSums}
-use Rattle.chains.specs.Chains.{weaken, one, zero-node, Sane, sinks, shows-every, at-most, closed, no-contradiction}
+use Rattle.chains.specs.Chains.{weaken, one, zero-node, Sane, sinks, shows-every, at-most, closed, no-contradiction, two-chains}
 use Rattle.facts.specs.declared.FactSet.{FactSet}
 
 -- THE PROMISE. The known facts relate comparable pairs and have what is always known among them; a set without the mark has the least sums of their
@@ -74,25 +74,25 @@ module _ (vars : Variables) (f : FactSet) (K : Known) (h : Exact vars f K) where
     low x y hx hy = omega (arith, closed vars D K (h .sane .related) (h .least e) .triangle x y x hx hy hx, closed vars D K (h .sane .related) (h .least e) .own x hx, high y x hy hx)
 
   -- An end is shown to be at most another exactly when two chains show it.
-  pub end-exact : (q n k r m j : ℕ) → Node vars q → Node vars n → Node vars r → Node vars m → k < 2 ^ 40 → (endShown f q n k r m j ≡ true) ↔ EndShown K q n k r m j
+  pub end-exact : (s q n k r m j : ℕ) → s ≤ 8 → Node vars q → Node vars n → Node vars r → Node vars m → k < 2 ^ 40 → j < 2 ^ 40
+      → (endShown f s q n k r m j ≡ true) ↔ EndShown K s q n k r m j
   unfolding endShown
-  end-exact q n k r m j hq hn hr hm hk = go (f .contradiction) refl
+  end-exact s q n k r m j hs hq hn hr hm hk hj = go (f .contradiction) refl
     where
-      two : {p₁ m₁ p₂ m₂ : ℕ} → ChainWithin K q r p₁ m₁ → ChainWithin K n m p₂ m₂ → p₁ + p₂ + k ≤ j + (m₁ + m₂) → EndShown K q n k r m j
-      two a b l = record { up₁ = a .up; down₁ = a .down; first = a .chain; up₂ = b .up; down₂ = b .down; second = b .chain; within = omega arith }
-
-      go : (b : Bool) → f .contradiction ≡ b → (cond b true (leb (concatenated (concatenated (leastSum f q r) (leastSum f n m)) k) j) ≡ true) ↔ EndShown K q n k r m j
-      go true e = ((λ s. two (sinks vars K (h .sane) (h .clash e) q r k hq hr) (sinks vars K (h .sane) (h .clash e) n m 0 hn hm) (omega arith)), (λ s. refl))
+      go : (b : Bool) → f .contradiction ≡ b → (cond b true (withinEnd s (leastSum f q r) (leastSum f n m) k j) ≡ true) ↔ EndShown K s q n k r m j
+      go true e = (
+        (λ t. two-chains s k j (sinks vars K (h .sane) (h .clash e) q r k hq hr) (sinks vars K (h .sane) (h .clash e) n m 0 hn hm) (omega (arith, mul-zero s))),
+        (λ t. refl),
+      )
       go false e =
           let l : LeastSums vars (sumAt f) K = h .least e in
           let s₁ : leastSum f q r ≡ sumAt f q r = least-node f q r (in-rows vars hq) (in-rows vars hr) in
           let s₂ : leastSum f n m ≡ sumAt f n m = least-node f n m (in-rows vars hn) (in-rows vars hm) in
           let u₁ : sumAt f q r ≤ bias + maxValue = high e q r hq hr in
           let u₂ : sumAt f n m ≤ bias + maxValue = high e n m hn hm in
-          let d₁ : bias ≤ sumAt f q r + maxValue = low e q r hq hr in
-          let d₂ : bias ≤ sumAt f n m + maxValue = low e n m hn hm in
-          let t₁ : concatenated (leastSum f q r) (leastSum f n m) ≡ leastSum f q r + leastSum f n m - bias = concat-plain (leastSum f q r) (leastSum f n m) (omega arith) (omega arith) in
-          let t₂ : concatenated (concatenated (leastSum f q r) (leastSum f n m)) k ≡ concatenated (leastSum f q r) (leastSum f n m) + k - bias = concat-plain (concatenated (leastSum f q r) (leastSum f n m)) k (omega arith) hk in (
-            (λ s. two (l .attained q r hq hr) (l .attained n m hn hm) (omega (arith, leb-true (concatenated (concatenated (leastSum f q r) (leastSum f n m)) k) j s))),
-            (λ t. le-leb (concatenated (concatenated (leastSum f q r) (leastSum f n m)) k) j (omega (arith, l .lowest hq hr (t .first), l .lowest hn hm (t .second), t .within))),
+          rw (s₁, s₂, within-plain s (sumAt f q r) (sumAt f n m) k j hs (omega arith) (omega arith) hk hj) (
+            (λ t. two-chains s k j (l .attained q r hq hr) (l .attained n m hn hm)
+                (omega (arith, leb-true (sumAt f q r + s * sumAt f n m + k) (j + bias + s * bias) t))),
+            (λ t. le-leb (sumAt f q r + s * sumAt f n m + k) (j + bias + s * bias)
+                (omega (arith, l .lowest hq hr (t .first), scale-sums s (sumAt f n m) (t .down₂) (t .up₂) bias (l .lowest hn hm (t .second)), t .within))),
           )

@@ -1,6 +1,6 @@
 -- The paper's section "Facts", sentence by sentence: facts, chains, what is shown, what contradicts, and what is known after each operation.
 -- These definitions say what is right; that the fact store does it is proved in Exact.
-use Prim.Native.Nat.{ℕ, _+_, _≤_, _<_}
+use Prim.Native.Nat.{ℕ, _+_, _≤_, _<_, _*_}
 use mathlib.Core.Path.{_≡_}
 use mathlib.Core.Logic.{_≢_, _⊎_}
 use mathlib.Core.Bool.{Bool, true, false}
@@ -58,14 +58,15 @@ pub record Contradiction (K : Known) : Type 0 where
   pub negative : up < down
 
 -- "End (q, n, k) <= end (r, m, j) when chains from q to r and from n to m have sums s and t with s + t + k <= j."
-pub record EndShown (K : Known) (q n k r m j : ℕ) : Type 0 where
+-- Point 10: "With equal sizes the integer chain's sum is multiplied by s", here the size.
+pub record EndShown (K : Known) (size q n k r m j : ℕ) : Type 0 where
   pub up₁ : ℕ
   pub down₁ : ℕ
   pub first : Chain K q r up₁ down₁
   pub up₂ : ℕ
   pub down₂ : ℕ
   pub second : Chain K n m up₂ down₂
-  pub within : up₁ + up₂ + k ≤ j + (down₁ + down₂)
+  pub within : up₁ + size * up₂ + k ≤ j + (down₁ + size * down₂)
 
 -- ---- What is known after each operation
 

@@ -9,3 +9,4 @@ pub mod ExactAfter
 pub mod HistoryLaws
 pub mod Sound
 pub mod Examples
+pub mod SizeLaws

@@ -1,15 +1,16 @@
 -- Values: what a fact set shows is true of the values that its facts are true of, and each operation keeps it so.
-use Prim.Native.Nat.{ℕ, _+_, _-_, _^_, _≤_, _<_, min, max}
+use Prim.Native.Nat.{ℕ, _+_, _-_, _^_, _≤_, _<_, min, max, _*_}
 use mathlib.Core.Path.{_≡_, refl, sym, ap, _∙_}
 use mathlib.Core.Logic.{_≢_}
 use mathlib.Core.Bool.{Bool, true, false, false≢true, cond}
 use native.Mathlib.Omega.{arith}
-use borrow.Author.Tests.{leb-true, leb-false, le-leb, ltb-true, ltb-false, eqb-true, eqb-false}
+use borrow.Author.Tests.{leb-true, le-leb, ltb-true, ltb-false, eqb-true, eqb-false}
 use lib.Dec.{leb, ltb, eqb}
 use Rattle.sums.specs.Numbers.{bias, maxValue, zeroVar}
+use Rattle.sums.specs.Scale.{scale-sums}
 use Rattle.sums.specs.Sums.{unbounded, concatenated, negated}
-use Rattle.facts.specs.Store.{sumAt, leastSum, shown, endShown, newSet, lowered, added, reassigned, dropped, ranged, shifted, related, joinedSum, joined}
-use Rattle.facts.specs.StoreLaws.{anewAt, least-node, shown-clear, added-left, added-right, added-shown, added-lowered, dropped-variable, ranged-variable, shifted-variable, joined-first, joined-second, joined-both, sum-new, sum-lowered, sum-reassigned, sum-joined}
+use Rattle.facts.specs.Store.{sumAt, leastSum, shown, endShown, newSet, lowered, added, reassigned, dropped, ranged, shifted, related, joinedSum, joined, withinEnd}
+use Rattle.facts.specs.StoreLaws.{anewAt, least-node, shown-clear, added-left, added-right, added-shown, added-lowered, dropped-variable, ranged-variable, shifted-variable, joined-first, joined-second, joined-both, sum-new, sum-lowered, sum-reassigned, sum-joined, within-true}
 use Rattle.facts.specs.declared.FactSet.{FactSet}
 
 -- Values of the variables, each in its range; zero is 0.
@@ -57,38 +58,18 @@ concat-true u v w a b hu p q = go (leb (2 ^ 40) a) (leb (2 ^ 40) b)
     go false true = omega arith
     go false false = omega arith
 
--- A sum of two that is bounded is their sum.
-concat-bounded : (a b : ℕ) → concatenated a b < unbounded → a + b ≤ concatenated a b + bias
-unfolding concatenated
-concat-bounded a b h = go (leb (2 ^ 40) a) (leb (2 ^ 40) b) h
-  where
-    go : (s t : Bool) → cond s unbounded (cond t unbounded (a + b - bias)) < unbounded → a + b ≤ cond s unbounded (cond t unbounded (a + b - bias)) + bias
-    go true t h = absurd (omega arith)
-    go false true h = absurd (omega arith)
-    go false false h = omega arith
-
-concat-inner : (a b : ℕ) → concatenated a b < unbounded → a < 2 ^ 40
-unfolding concatenated
-concat-inner a b h = go (leb (2 ^ 40) a) refl h
-  where
-    go : (s : Bool) → leb (2 ^ 40) a ≡ s → cond s unbounded (cond (leb (2 ^ 40) b) unbounded (a + b - bias)) < unbounded → a < 2 ^ 40
-    go true e h = absurd (omega arith)
-    go false e h = leb-false (2 ^ 40) a e
-
 -- An end that is shown to be at most another one is.
-pub end-true : (f : FactSet) (v : ℕ → ℕ) → Holds f v → (q n k r m j : ℕ) → q < 17 → n < 17 → r < 17 → m < 17 → j < unbounded → endShown f q n k r m j ≡ true → v q + v n + k ≤ v r + v m + j
+pub end-true : (f : FactSet) (v : ℕ → ℕ) → Holds f v → (s q n k r m j : ℕ) → q < 17 → n < 17 → r < 17 → m < 17 → endShown f s q n k r m j ≡ true
+    → v q + s * v n + k ≤ v r + s * v m + j
 unfolding endShown
-end-true f v h q n k r m j hq hn hr hm hj s = go (f .contradiction) (holds-clear f v h) s
+end-true f v h s q n k r m j hq hn hr hm t = go (f .contradiction) (holds-clear f v h) t
   where
-    go : (b : Bool) → b ≡ false → cond b true (leb (concatenated (concatenated (leastSum f q r) (leastSum f n m)) k) j) ≡ true → v q + v n + k ≤ v r + v m + j
+    go : (b : Bool) → b ≡ false → cond b true (withinEnd s (leastSum f q r) (leastSum f n m) k j) ≡ true → v q + s * v n + k ≤ v r + s * v m + j
     go true e t = absurd (false≢true (sym e))
     go false e t =
-        let i : ℕ = concatenated (leastSum f q r) (leastSum f n m) in
-        let l : concatenated i k ≤ j = leb-true _ _ t in
-        let u₁ : i + k ≤ concatenated i k + bias = concat-bounded i k (omega arith) in
-        let u₂ : i < 2 ^ 40 = concat-inner i k (omega arith) in
-        let u₃ : leastSum f q r + leastSum f n m ≤ i + bias = concat-bounded (leastSum f q r) (leastSum f n m) (omega arith) in
-        omega (arith, holds-sum f v h q r hq hr, holds-sum f v h n m hn hm, least-node f q r hq hr, least-node f n m hn hm)
+        let second : v n + bias ≤ v m + leastSum f n m = omega (arith, holds-sum f v h n m hn hm, least-node f n m hn hm) in
+        let scaled : s * v n + s * bias ≤ s * v m + s * leastSum f n m = scale-sums s (v n) bias (v m) (leastSum f n m) second in
+        omega (arith, within-true s (leastSum f q r) (leastSum f n m) k j t, holds-sum f v h q r hq hr, least-node f q r hq hr)
 
 either : (b : Bool) (u w old new : ℕ) → u + bias ≤ w + old → u + bias ≤ w + new → u + bias ≤ w + cond b old (min old new)
 either true u w old new p q = p

@@ -45,6 +45,7 @@ pub(crate) fn walk(
     requires { ⌜ Measured (environmentOf (now table) sections) × Framed (environmentOf (now table) sections) frame × Forced (environmentOf (now table) sections) (begun .rows .each) begun ⌝ }
     ensures { λ r. ⌜ Walks (now (table .entry)) sections (environmentOf (now (table .entry)) sections) (parse allowed (now (table .entry)) sections first end) (stateOf given (begun .rows .each)) r ⌝ }
 {
+    let sizes = frame.sizes;
     let lengths = frame.lengths;
     let pointers = frame.pointers;
     let mut at = first;
@@ -85,7 +86,7 @@ pub(crate) fn walk(
                     }
                     Declares::NoRow => {
                         let answers = answer(facts, ask_statement(simple));
-                        let plan = plan_statement(lengths, simple, answers);
+                        let plan = plan_statement(sizes, lengths, simple, answers);
                         let effect = plan.effect;
                         facts = facts.after(plan.change);
                         if touches(force.named, pointers, effect) {

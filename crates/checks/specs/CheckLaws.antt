@@ -6,10 +6,10 @@ use mathlib.Core.List.{List}
 use lib.Dec.{leb, ltb, eqb}
 use Rattle.sums.specs.Numbers.{bias, maxValue}
 use Rattle.arrays.specs.TabulateLaws.{getD-tabulate}
-use Rattle.rules.specs.BoundsRules.{nothingKnown}
+use Rattle.rules.specs.BoundsRules.{nothingKnown, elementSize}
 use Rattle.conditions.specs.Relations.{relates}
 use Rattle.machine.specs.Machine.{value, endValue, none, firstOf, accessFailing, arithmeticFailing}
-use Rattle.checks.specs.Checked.{endIn, boundsIn, declaredIn, stepUnless}
+use Rattle.checks.specs.Checked.{endIn, boundsIn, declaredIn, stepUnless, sizeIn}
 use Rattle.stops.specs.declared.Check.the-variants.{NullAccess, OutOfBounds, NullArithmetic, AddressRange}
 use Rattle.checks.specs.declared.Step.the-variants.{Go, Stop}
 
@@ -44,8 +44,15 @@ module _ (at next : ℕ) where
 
   -- Checks 2 and 3, by the ends in the slice W.
   pub access-step : (W vs : List ℕ) (p a : ℕ) → p < 16 →
-      cond (eqb (value vs p) 0) (Stop (NullAccess at)) (cond (ltb a (endValue vs (endIn W (6 * p))) || leb (endValue vs (endIn W (6 * p + 3))) a) (Stop (OutOfBounds at)) (Go next))
+      cond (eqb (value vs p) 0) (Stop (NullAccess at))
+      (cond (ltb a (endValue vs (sizeIn W p) (endIn W (6 * p))) || leb (endValue vs (sizeIn W p) (endIn W (6 * p + 3))) a) (Stop (OutOfBounds at)) (Go next))
       ≡ stepUnless (accessFailing (declaredIn W) vs p a) at next
   unfolding accessFailing declaredIn
   access-step W vs p a few =
-      rw (getD-tabulate 16 (boundsIn W) p nothingKnown few) (access-picked (eqb (value vs p) 0) (ltb a (endValue vs (endIn W (6 * p))) || leb (endValue vs (endIn W (6 * p + 3))) a))
+      rw (getD-tabulate 16 (boundsIn W) p nothingKnown few, getD-tabulate 16 (sizeIn W) p 1 few)
+      (access-picked (eqb (value vs p) 0) (ltb a (endValue vs (sizeIn W p) (endIn W (6 * p))) || leb (endValue vs (sizeIn W p) (endIn W (6 * p + 3))) a))
+
+-- The element size of a pointer, as the slice has it.
+pub size-in : (W : List ℕ) (p : ℕ) → p < 16 → elementSize (declaredIn W) p ≡ sizeIn W p
+unfolding declaredIn
+size-in W p few = getD-tabulate 16 (sizeIn W) p 1 few

@@ -12,18 +12,21 @@ use Rattle.stops.specs.Checks.{checkOf}
 use Rattle.checks.specs.declared.Step.{Step}
 use Rattle.checks.specs.declared.Step.the-variants.{Go, Stop}
 
--- ---- bounds in a slice of 480 numbers: those in force, six a pointer (pointer, integer and constant of the lower end, then of the upper end), then those of
--- the table's 64 rows
+-- ---- bounds in a slice of 496 numbers: those in force, six a pointer (pointer, integer and constant of the lower end, then of the upper end), then those of
+-- the table's 64 rows, then (point 10) the element size of each pointer
+
+abbrev pub sizeIn : List ℕ → ℕ → ℕ
+sizeIn W p = getD W (480 + p) 0
 
 abbrev pub endIn : List ℕ → ℕ → End
 endIn W i = record { pointer = getD W i 0; integer = getD W (i + 1) 0; constant = getD W (i + 2) 0 }
 
 abbrev pub boundsIn : List ℕ → ℕ → Bounds
-boundsIn W p = record { lower = Known (endIn W (6 * p)); upper = Known (endIn W (6 * p + 3)) }
+boundsIn W p = record { size = sizeIn W p; lower = Known (endIn W (6 * p)); upper = Known (endIn W (6 * p + 3)) }
 
 -- What such a slice declares.
 unfoldable pub declaredIn : List ℕ → Environment
-declaredIn W = record { pointers = []; declared = tabulate 16 (boundsIn W); lengths = []; rows = [] }
+declaredIn W = record { pointers = []; sizes = tabulate 16 (sizeIn W); declared = tabulate 16 (boundsIn W); lengths = []; rows = [] }
 
 -- ---- steps
 

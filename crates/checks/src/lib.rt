@@ -1,15 +1,16 @@
 // The five checks. Each gives the step to the statement `next`, or stops at the statement `at` with the first check that fails.
 use conditions::Condition;
+use machine::scaled;
 use machine::value_at;
 use stops::Check;
 use sums::BIAS;
 ghost use mathlib.Core.Path.{_≡_};
 ghost use mathlib.Core.Bool.{not, cond};
-ghost use Prim.Native.Nat.{ℕ, _+_, _^_, _<_};
+ghost use Prim.Native.Nat.{ℕ, _+_, _^_, _<_, _≤_};
 ghost use lib.ListN.{length, getD};
 ghost use Rattle.conditions.specs.Relations.{relates};
 ghost use Rattle.machine.specs.Machine.{endValue, conditionHolds, none, firstOf, accessFailing, arithmeticFailing};
-ghost use Rattle.checks.specs.Checked.{endIn, declaredIn, stepUnless};
+ghost use Rattle.checks.specs.Checked.{sizeIn, endIn, declaredIn, stepUnless};
 ghost use Rattle.checks.specs.declared.Step.the-variants.{Go, Stop};
 
 // What a step says: the statement due after it, or the check that fails.
@@ -44,14 +45,22 @@ pub fn condition_holds(values: &[u32], c: Condition) -> bool
     )
 }
 
-// The whole number of the end whose three numbers start at `first`, with the bias.
-fn end_value(ends: &[u64], values: &[u32], first: usize) -> u64
-    requires { ⌜ (first + 2 < length (now ends)) × (getD (now ends) (first + 2) 0 < 2 ^ 34) ⌝ }
-    ensures { λ r. ⌜ r ≡ endValue (now (values .entry)) (endIn (now (ends .entry)) first) ⌝ }
+// The element size of a pointer.
+pub fn size_in(ends: &[u64], pointer: usize) -> u64
+    requires { ⌜ (pointer < 16) × (length (now ends) ≡ 496) ⌝ }
+    ensures { λ r. ⌜ r ≡ sizeIn (now (ends .entry)) pointer ⌝ }
+{
+    ends[480 + pointer]
+}
+
+// The whole number of the end whose three numbers start at `first`, of a pointer with this element size, with the bias.
+fn end_value(ends: &[u64], values: &[u32], size: u64, first: usize) -> u64
+    requires { ⌜ (first + 2 < length (now ends)) × (getD (now ends) (first + 2) 0 < 2 ^ 34) × (size ≤ 8) ⌝ }
+    ensures { λ r. ⌜ r ≡ endValue (now (values .entry)) size (endIn (now (ends .entry)) first) ⌝ }
 {
     let pointer = ends[first] as usize;
     let integer = ends[first + 1] as usize;
-    value_at(values, pointer) + value_at(values, integer) + ends[first + 2]
+    value_at(values, pointer) + scaled(size, value_at(values, integer)) + ends[first + 2]
 }
 
 // The first of two checks that fails, or the step to the statement `next`.
@@ -76,12 +85,13 @@ pub fn check_access(
     pointer: usize,
     address: u64,
 ) -> Step
-    requires { ⌜ (pointer < 16) × (length (now ends) ≡ 480) × ((i : ℕ) → getD (now ends) i 0 < 2 ^ 34) ⌝ }
+    requires { ⌜ (pointer < 16) × (length (now ends) ≡ 496) × ((i : ℕ) → getD (now ends) i 0 < 2 ^ 34) × ((p : ℕ) → sizeIn (now ends) p ≤ 8) ⌝ }
     ensures { λ r. ⌜ r ≡ stepUnless (accessFailing (declaredIn (now (ends .entry))) (now (values .entry)) pointer address) at next ⌝ }
 {
     let null = value_at(values, pointer) == 0;
-    let lower = end_value(ends, values, 6 * pointer);
-    let upper = end_value(ends, values, 6 * pointer + 3);
+    let size = size_in(ends, pointer);
+    let lower = end_value(ends, values, size, 6 * pointer);
+    let upper = end_value(ends, values, size, 6 * pointer + 3);
     let outside = (address < lower) | (address >= upper);
     step_unless(
         null,

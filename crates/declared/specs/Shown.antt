@@ -1,5 +1,6 @@
 -- What the functions of this crate give back, in terms of the rules: bounds that are the same, and the access that a statement makes.
 use mathlib.Core.Bool.{Bool, false, _&&_}
+use lib.Dec.{eqb}
 use Rattle.statements.specs.declared.Simple.{Simple}
 use Rattle.statements.specs.declared.Simple.the-variants.{Literal, AddConstant, Arithmetic, Null, Address, PointerOffset, PointerIndex, Load, Store, Check, Declare}
 use Rattle.rules.specs.Stored.{sameEnd}
@@ -17,9 +18,9 @@ sameKnown Unknown g = false
 sameKnown (Known e) Unknown = false
 sameKnown (Known e) (Known g) = sameEnd e g
 
--- Known and declared bounds are the same, end by end; each pair in the order in which `boundsShown` compares it.
+-- Known and declared bounds are the same, size and end by end; each pair in the order in which `boundsShown` compares it.
 unfoldable pub sameBounds : Bounds → Bounds → Bool
-sameBounds k d = sameKnown (k .lower) (d .lower) && sameKnown (d .upper) (k .upper)
+sameBounds k d = eqb (k .size) (d .size) && (sameKnown (k .lower) (d .lower) && sameKnown (d .upper) (k .upper))
 
 -- Kinds 8 and 9 are accesses.
 abbrev pub accessOf : Simple → Access

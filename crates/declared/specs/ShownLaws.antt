@@ -1,11 +1,13 @@
 -- Laws of declared bounds that are shown, as the code meets them.
 use Prim.Native.Nat.{ℕ, zero, suc, _+_, _-_, _≤_, _<_}
-use mathlib.Core.Path.{_≡_, refl, sym, ap, _∙_}
+use mathlib.Core.Path.{_≡_, refl, sym, ap, ap₂, _∙_}
 use mathlib.Core.Bool.{Bool, true, false, not, _&&_, _||_, false≢true}
 use mathlib.Core.List.{List, []}
 use mathlib.Core.Logic.{_⊎_, inl, inr}
 use native.Mathlib.Omega.{arith}
 use native.Mathlib.Numerals.{sub-one}
+use borrow.Author.Tests.{eqb-true, eq-eqb}
+use lib.Dec.{eqb}
 use lib.ListN.{length}
 use Rattle.sums.specs.Numbers.{bias, zeroVar}
 use Rattle.facts.specs.Store.{shown, endShown}
@@ -35,7 +37,8 @@ use Rattle.rules.specs.BoundsRules as boundsRules
 
 -- Declared bounds are shown by both ends, or by a null pointer.
 module _ (f : FactSet) (p : ℕ) (k d : Bounds) where
-  pub ends-shown : knownAtMost f (k .lower) (d .lower) ≡ true → knownAtMost f (d .upper) (k .upper) ≡ true → boundsShown f p k d ≡ true
+  pub ends-shown : knownAtMost f (k .size) (k .lower) (d .size) (d .lower) ≡ true → knownAtMost f (d .size) (d .upper) (k .size) (k .upper) ≡ true
+      → boundsShown f p k d ≡ true
   unfolding boundsRules.boundsShown
   ends-shown s t = go (shown f p zeroVar bias) s t
     where
@@ -43,9 +46,12 @@ module _ (f : FactSet) (p : ℕ) (k d : Bounds) where
       go true s t = refl
       go false s t = rw (s, t)
 
-  pub null-shown : {r : Bool} → (knownAtMost f (k .lower) (d .lower) ≡ false) ⊎ (knownAtMost f (d .upper) (k .upper) ≡ false) → r ≡ shown f p zeroVar bias → r ≡ boundsShown f p k d
+  pub null-shown : {r : Bool}
+      → (knownAtMost f (k .size) (k .lower) (d .size) (d .lower) ≡ false) ⊎ (knownAtMost f (d .size) (d .upper) (k .size) (k .upper) ≡ false)
+      → r ≡ shown f p zeroVar bias → r ≡ boundsShown f p k d
   unfolding boundsRules.boundsShown
-  null-shown h e = e ∙ go (shown f p zeroVar bias) (knownAtMost f (k .lower) (d .lower)) (knownAtMost f (d .upper) (k .upper)) h
+  null-shown h e =
+      e ∙ go (shown f p zeroVar bias) (knownAtMost f (k .size) (k .lower) (d .size) (d .lower)) (knownAtMost f (d .size) (d .upper) (k .size) (k .upper)) h
     where
       go : (a b c : Bool) → (b ≡ false) ⊎ (c ≡ false) → a ≡ (a || b && c)
       go true b c h = refl
@@ -54,17 +60,21 @@ module _ (f : FactSet) (p : ℕ) (k d : Bounds) where
       go false true c (inr e) = sym e
 
 -- Bounds that are the same are shown, whatever the facts.
-same-at-most : (f : FactSet) (a b : KnownEnd) → sameKnown a b ≡ true → knownAtMost f a b ≡ true
+same-at-most : (f : FactSet) (s t : ℕ) (a b : KnownEnd) → eqb s t ≡ true → sameKnown a b ≡ true → knownAtMost f s a t b ≡ true
 unfolding sameKnown boundsRules.knownAtMost boundsRules.endAtMost
-same-at-most f Unknown b h = absurd (false≢true h)
-same-at-most f (Known e) Unknown h = absurd (false≢true h)
-same-at-most f (Known e) (Known g) h = ap (λ (b : Bool). b || endShown f (e .pointer) (e .integer) (e .constant) (g .pointer) (g .integer) (g .constant)) h
+same-at-most f s t Unknown b z h = absurd (false≢true h)
+same-at-most f s t (Known e) Unknown z h = absurd (false≢true h)
+same-at-most f s t (Known e) (Known g) z h =
+    ap₂ (λ (a b : Bool). (a || eqb (e .integer) zeroVar && eqb (g .integer) zeroVar) && (b || endShown f s (e .pointer) (e .integer) (e .constant) (g .pointer) (g .integer) (g .constant))) z h
 
 pub same-shown : (f : FactSet) (p : ℕ) (k d : Bounds) → sameBounds k d ≡ true → boundsShown f p k d ≡ true
 unfolding sameBounds
 same-shown f p k d h =
-    let t = both (sameKnown (k .lower) (d .lower)) (sameKnown (d .upper) (k .upper)) h in
-    ends-shown f p k d (same-at-most f (k .lower) (d .lower) (t .0)) (same-at-most f (d .upper) (k .upper) (t .1))
+    let u = both (eqb (k .size) (d .size)) (sameKnown (k .lower) (d .lower) && sameKnown (d .upper) (k .upper)) h in
+    let t = both (sameKnown (k .lower) (d .lower)) (sameKnown (d .upper) (k .upper)) (u .1) in
+    let z : d .size ≡ k .size = sym (eqb-true (k .size) (d .size) (u .0)) in
+    ends-shown f p k d (same-at-most f (k .size) (d .size) (k .lower) (d .lower) (u .0) (t .0))
+    (same-at-most f (d .size) (k .size) (d .upper) (k .upper) (eq-eqb (d .size) (k .size) z) (t .1))
 
 -- ---- the pointers that are not shown, one after the other
 

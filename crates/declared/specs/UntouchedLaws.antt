@@ -44,7 +44,7 @@ stay-shown : (f : FactSet) (v p : ℕ) (b : Bounds) → boundsStay v b ≡ true 
 unfolding boundsStay sameBounds
 stay-shown f v p b h =
     let t = both (endStays v (b .lower)) (endStays v (b .upper)) h in
-    same-shown f p b b (rw (stay-same v (b .lower) (t .0), stay-same v (b .upper) (t .1)) refl)
+    same-shown f p b b (rw (eq-eqb (b .size) (b .size) refl, stay-same v (b .lower) (t .0), stay-same v (b .upper) (t .1)) refl)
 
 module _ (E : Environment) (e : Effect) (other : isPointer E (replacedBy e) ≡ false) where
   -- A pointer whose bounds do not name what the effect changes, and are not replaced by it, stays shown.

@@ -8,6 +8,7 @@ use sums::BIAS;
 use sums::ZERO;
 use variables::End;
 ghost use mathlib.Core.Path.{_≡_};
+ghost use Rattle.rules.specs.BoundsRules.{comparableEnds};
 ghost use Rattle.rules.specs.Stored.{sameEnd, endAtMost, knownAtMost, boundsShown};
 ghost use Rattle.declared.specs.Shown.{sameKnown, sameBounds};
 
@@ -29,7 +30,7 @@ fn same_known(a: KnownEnd, b: KnownEnd) -> bool
     same_end(e, g)
 }
 
-// Known and declared bounds are the same, end by end: then they are shown, whatever the facts.
+// Known and declared bounds are the same, size and end by end: then they are shown, whatever the facts.
 pub(crate) fn same_bounds(known: Bounds, declared: Bounds) -> bool
     ensures { λ r. ⌜ r ≡ sameBounds known declared ⌝ }
 {
@@ -37,18 +38,30 @@ pub(crate) fn same_bounds(known: Bounds, declared: Bounds) -> bool
     let declared_lower = declared.lower;
     let known_upper = known.upper;
     let declared_upper = declared.upper;
-    same_known(known_lower, declared_lower) & same_known(declared_upper, known_upper)
+    (known.size == declared.size)
+        & (same_known(known_lower, declared_lower) & same_known(declared_upper, known_upper))
 }
 
-// The end a is at most the end b.
-fn end_at_most(facts: FactSet, a: End, b: End) -> bool
-    ensures { λ r. ⌜ r ≡ endAtMost facts a b ⌝ }
+// Ends of the sizes s and t can be compared: the sizes are equal, or neither names an integer.
+fn comparable_ends(s: u64, a: End, t: u64, b: End) -> bool
+    ensures { λ r. ⌜ r ≡ comparableEnds s a t b ⌝ }
 {
+    (s == t) | ((a.integer == ZERO) & (b.integer == ZERO))
+}
+
+// The end a, of the size s, is at most the end b, of the size t.
+fn end_at_most(facts: FactSet, s: u64, a: End, t: u64, b: End) -> bool
+    ensures { λ r. ⌜ r ≡ endAtMost facts s a t b ⌝ }
+{
+    if !comparable_ends(s, a, t, b) {
+        return false;
+    }
     if same_end(a, b) {
         return true;
     }
     shows_end(
         facts,
+        s,
         a.pointer,
         a.integer,
         a.constant,
@@ -58,8 +71,8 @@ fn end_at_most(facts: FactSet, a: End, b: End) -> bool
     )
 }
 
-fn known_at_most(facts: FactSet, a: KnownEnd, b: KnownEnd) -> bool
-    ensures { λ r. ⌜ r ≡ knownAtMost facts a b ⌝ }
+fn known_at_most(facts: FactSet, s: u64, a: KnownEnd, t: u64, b: KnownEnd) -> bool
+    ensures { λ r. ⌜ r ≡ knownAtMost facts s a t b ⌝ }
 {
     let KnownEnd::Known(e) = a else {
         return false;
@@ -67,7 +80,7 @@ fn known_at_most(facts: FactSet, a: KnownEnd, b: KnownEnd) -> bool
     let KnownEnd::Known(g) = b else {
         return false;
     };
-    end_at_most(facts, e, g)
+    end_at_most(facts, s, e, t, g)
 }
 
 // The declared bounds of p are shown where `known` are its known bounds. The ends come first: where they are the same, the facts are not asked.
@@ -76,10 +89,12 @@ pub(crate) fn bounds_shown(facts: FactSet, p: usize, known: Bounds, declared: Bo
 {
     let known_lower = known.lower;
     let declared_lower = declared.lower;
-    if known_at_most(facts, known_lower, declared_lower) {
+    let s = known.size;
+    let t = declared.size;
+    if known_at_most(facts, s, known_lower, t, declared_lower) {
         let known_upper = known.upper;
         let declared_upper = declared.upper;
-        if known_at_most(facts, declared_upper, known_upper) {
+        if known_at_most(facts, t, declared_upper, s, known_upper) {
             return true;
         }
     }

@@ -10,6 +10,7 @@ use changes::ranging;
 use changes::shifting;
 use conditions::Condition;
 use lookups::length_at;
+use lookups::size_at;
 use rules::Effect;
 use statements::Simple;
 use sums::BIAS;
@@ -106,7 +107,7 @@ pub fn assume(condition: Condition, answers: Answers) -> Change
 // x := y + k; the answers tell whether y + k is in range, and a plain copy always counts as shown.
 fn add_constant(x: usize, y: usize, k: u64, answers: Answers) -> Plan
     requires { ⌜ (k < 2 ^ 34) × (y < 16) ⌝ }
-    ensures { λ r. ⌜ Plans [] (AddConstant x y k) answers r ⌝ }
+    ensures { λ r. ⌜ Plans [] [] (AddConstant x y k) answers r ⌝ }
 {
     let forgotten = Effect::Forget { target: x };
     let fits = (k == BIAS) | (answers.there & answers.back);
@@ -148,7 +149,7 @@ fn above_zero(p: usize, k: u64) -> Fact
 // p := q + k
 fn add_offset(p: usize, q: usize, k: u64) -> Plan
     requires { ⌜ (k < 2 ^ 34) × (q < 16) ⌝ }
-    ensures { λ r. ⌜ ((f : FactSet) → Does r f (applied [] f (PointerOffset p q k))) ⌝ }
+    ensures { λ r. ⌜ ((f : FactSet) → Does r f (applied [] [] f (PointerOffset p q k))) ⌝ }
 {
     let third = above_zero(p, k);
     if p == q {
@@ -183,9 +184,14 @@ fn index_effect(p: usize, q: usize) -> Effect
 }
 
 // A statement of kinds 1 to 10 and 14, with the answers to what it asks.
-pub fn plan_statement(lengths: [u64; 16], simple: Simple, answers: Answers) -> Plan
+pub fn plan_statement(
+    sizes: [u64; 16],
+    lengths: [u64; 16],
+    simple: Simple,
+    answers: Answers,
+) -> Plan
     requires { ⌜ InRange simple ⌝ }
-    ensures { λ r. ⌜ Plans lengths simple answers r ⌝ }
+    ensures { λ r. ⌜ Plans sizes lengths simple answers r ⌝ }
 {
     match simple {
         Simple::Literal { target, value } => Plan {
@@ -214,6 +220,7 @@ pub fn plan_statement(lengths: [u64; 16], simple: Simple, answers: Answers) -> P
             change: range(target, 1, MAX_VALUE),
             effect: Effect::Object {
                 target,
+                size: size_at(sizes, target),
                 length: length_at(lengths, object),
             },
         },

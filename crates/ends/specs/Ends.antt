@@ -1,4 +1,5 @@
--- The ends of bounds as the run's loop has them: six numbers a pointer, then six a row (`boundsIn` of checks/specs/Checked reads them).
+-- The ends of bounds as the run's loop has them: six numbers a pointer, then six a row, then the element size of each pointer (`boundsIn` and `sizeIn` of
+-- checks/specs/Checked read them).
 use mathlib.Core.Bool.{cond}
 use Prim.Native.Nat.{ℕ, zero, suc, _-_, _/_, _%_}
 use mathlib.Core.List.{List}
@@ -6,7 +7,7 @@ use lib.Dec.{ltb}
 use lib.ListN.{getD}
 use Rattle.arrays.specs.Tabulate.{tabulate}
 use Rattle.variables.specs.declared.End.{End}
-use Rattle.rules.specs.BoundsRules.{declared, nothingKnown, inForce}
+use Rattle.rules.specs.BoundsRules.{declared, nothingKnown, inForce, elementSize}
 use Rattle.rules.specs.declared.Bounds.{Bounds}
 use Rattle.rules.specs.declared.Environment.{Environment}
 use Rattle.machine.specs.Machine.{endOf}
@@ -29,5 +30,9 @@ numbersOf n bs = tabulate n (λ i. boundsNumber (getD bs (i / 6) nothingKnown) (
 unfoldable pub placeBounds : Environment → List ℕ → ℕ → Bounds
 placeBounds E R j = cond (ltb j 16) (declared (inForce E R) j) (getD (E .rows) (j - 16) nothingKnown)
 
+-- Point 10: then the element sizes of the 16 pointers.
+abbrev pub placeNumber : Environment → List ℕ → ℕ → ℕ
+placeNumber E R i = cond (ltb i 480) (boundsNumber (placeBounds E R (i / 6)) (i % 6)) (elementSize E (i - 480))
+
 unfoldable pub endsOf : Environment → List ℕ → List ℕ
-endsOf E R = tabulate 480 (λ i. boundsNumber (placeBounds E R (i / 6)) (i % 6))
+endsOf E R = tabulate 496 (placeNumber E R)

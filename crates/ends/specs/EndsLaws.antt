@@ -6,14 +6,14 @@ use mathlib.Core.List.{List}
 use native.Mathlib.Omega.{arith}
 use borrow.Author.Tests.{ltb-true, ltb-false, lt-ltb, le-ltb}
 use lib.Dec.{ltb}
-use lib.ListN.{getD}
+use lib.ListN.{getD, length}
 use Rattle.arrays.specs.Tabulate.{tabulate}
-use Rattle.arrays.specs.TabulateLaws.{getD-tabulate, tabulate-alike}
-use Rattle.rules.specs.BoundsRules.{nothingKnown, ownRows, inForce, declared}
+use Rattle.arrays.specs.TabulateLaws.{any-default, getD-tabulate, tabulate-alike}
+use Rattle.rules.specs.BoundsRules.{nothingKnown, ownRows, inForce, declared, elementSize}
 use Rattle.rules.specs.BoundsTrue.{own-declared}
 use Rattle.rules.specs.declared.Environment.{Environment}
 use Rattle.variables.specs.declared.End.{End}
-use Rattle.ends.specs.Ends.{endNumber, boundsNumber, numbersOf, placeBounds, endsOf}
+use Rattle.ends.specs.Ends.{endNumber, boundsNumber, numbersOf, placeBounds, endsOf, placeNumber}
 
 -- A number of an end that is neither the first nor the second is its constant.
 pub number-else : (e : End) (j : ℕ) → (j ≡ 0 → ⊥) → (j ≡ 1 → ⊥) → e .constant ≡ endNumber e j
@@ -25,6 +25,10 @@ number-else e (suc (suc n)) p q = refl
 -- The numbers of own bounds and those of the rows, one after the other.
 abbrev pub joined : List ℕ → List ℕ → ℕ → ℕ
 joined own laid i = cond (ltb i 96) (getD own (i % 96) 0) (getD laid ((i + 288) % 384) 0)
+
+-- Then the sizes.
+abbrev pub joinedSizes : List ℕ → List ℕ → List ℕ → ℕ → ℕ
+joinedSizes own laid sizes i = cond (ltb i 480) (joined own laid i) (getD sizes (i % 16) 0)
 
 module _ (E : Environment) where
   number-laid : (i : ℕ) → i < 480 → joined (numbersOf 96 (E .declared)) (numbersOf 384 (E .rows)) i ≡ boundsNumber (placeBounds E ownRows (i / 6)) (i % 6)
@@ -48,6 +52,18 @@ module _ (E : Environment) where
           let v : (i - 96) % 6 ≡ i % 6 = omega arith in
           rw (m, getD-tabulate 384 (λ (n : ℕ). boundsNumber (getD (E .rows) (n / 6) nothingKnown) (n % 6)) (i - 96) 0 (omega arith), le-ltb (i / 6) 16 d, u, v)
 
-  pub ends-laid : tabulate 480 (joined (numbersOf 96 (E .declared)) (numbersOf 384 (E .rows))) ≡ endsOf E ownRows
+  size-laid : length (E .sizes) ≡ 16 → (i : ℕ) → i < 496
+      → joinedSizes (numbersOf 96 (E .declared)) (numbersOf 384 (E .rows)) (E .sizes) i ≡ placeNumber E ownRows i
+  size-laid n i l = go (ltb i 480) refl
+    where
+      go : (b : Bool) → ltb i 480 ≡ b → cond b (joined (numbersOf 96 (E .declared)) (numbersOf 384 (E .rows)) i) (getD (E .sizes) (i % 16) 0)
+          ≡ cond b (boundsNumber (placeBounds E ownRows (i / 6)) (i % 6)) (elementSize E (i - 480))
+      go true q = number-laid i (ltb-true i 480 q)
+      go false q =
+          let s : 480 ≤ i = ltb-false i 480 q in
+          let m : i % 16 ≡ i - 480 = omega arith in
+          rw m (any-default (E .sizes) (i - 480) 0 1 (omega arith))
+
+  pub ends-laid : length (E .sizes) ≡ 16 → tabulate 496 (joinedSizes (numbersOf 96 (E .declared)) (numbersOf 384 (E .rows)) (E .sizes)) ≡ endsOf E ownRows
   unfolding endsOf
-  ends-laid = tabulate-alike 480 number-laid
+  ends-laid n = tabulate-alike 496 (size-laid n)

@@ -80,15 +80,17 @@ fn one_of(first: bool, x: u64, y: u64) -> u64
     y
 }
 
-// The numbers of each pointer's own bounds, then those of the rows.
-pub fn lay_ends(environment: Environment) -> [u64; 480]
+// The numbers of each pointer's own bounds, those of the rows, the element sizes.
+pub fn lay_ends(environment: Environment) -> [u64; 496]
     ensures { λ r. ⌜ r ≡ endsOf environment ownRows ⌝ }
 {
     let own = lay_own(environment);
     let laid = lay_rows(environment);
-    let mut ends = [0u64; 480];
-    for i in 0..480 {
-        ends[i] = one_of(i < 96, own[i % 96], laid[(i + 288) % 384]);
+    let sizes = environment.sizes;
+    let mut ends = [0u64; 496];
+    for i in 0..496 {
+        let bound = one_of(i < 96, own[i % 96], laid[(i + 288) % 384]);
+        ends[i] = one_of(i < 480, bound, sizes[i % 16]);
     }
     ends
 }

@@ -11,6 +11,7 @@ ghost use mathlib.Core.Path.{_≡_};
 ghost use Prim.Native.Nat.{_*_, _<_};
 ghost use lib.ListN.{length};
 ghost use Rattle.refusals.specs.declared.Refusal.the-variants.{DirectoryPair, EntryValue};
+ghost use Rattle.rules.specs.Ranges.{Sized};
 ghost use Rattle.entry.specs.Entry.{memoryRight, endBefore, pairRight, lengthsRight, entryRight, failures, entryRefusals};
 ghost use Rattle.entry.specs.Entered.{entered};
 
@@ -85,6 +86,7 @@ fn entry_right(
     origins: &[u32],
     v: usize,
 ) -> bool
+    requires { ⌜ Sized environment ⌝ }
     ensures { λ r. ⌜ r ≡ entryRight environment (now (directory .entry)) (now (values .entry)) (now (origins .entry)) v ⌝ }
 {
     let pointers = environment.pointers;
@@ -102,6 +104,7 @@ fn check_values(
     values: &[u32],
     origins: &[u32],
 ) -> EntryVerdict
+    requires { ⌜ Sized environment ⌝ }
     ensures { λ r. ⌜ r ≡ entered (failures (entryRight environment (now (directory .entry)) (now (values .entry)) (now (origins .entry))) EntryValue (sections .variables) 0) ⌝ }
 {
     let count = sections.variables;
@@ -124,6 +127,7 @@ pub fn enter(
     values: &[u32],
     origins: &[u32],
 ) -> EntryVerdict
+    requires { ⌜ Sized environment ⌝ }
     ensures { λ r. ⌜ r ≡ entered (entryRefusals sections environment (now (directory .entry)) (now (cells .entry)) (now (values .entry)) (now (origins .entry))) ⌝ }
 {
     if !memory_right(sections, directory, cells) {

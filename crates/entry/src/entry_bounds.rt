@@ -1,24 +1,27 @@
 // Whether declared bounds are true at entry. Ends are whole numbers: a constant of any size is compared without a sum that wraps.
 use ends::end_of;
 use lookups::bounds_at;
+use lookups::size_at;
+use machine::scaled;
 use machine::value_at;
 use rules::Environment;
 use sums::BIAS;
 use variables::End;
 ghost use mathlib.Core.Path.{_≡_};
-ghost use Prim.Native.Nat.{_^_, _<_};
+ghost use Prim.Native.Nat.{_^_, _<_, _≤_};
 ghost use lib.Dec.{leb};
+ghost use Rattle.rules.specs.Ranges.{Sized};
 ghost use Rattle.machine.specs.Machine.{endValue, boundsTrue};
 
 // Constants from 2^40 on are above every address.
 const LARGE: u64 = 1099511627776;
 
 // low <= end
-fn starts_by(values: &[u32], e: End, low: u64) -> bool
-    requires { ⌜ low < 2 ^ 40 ⌝ }
-    ensures { λ r. ⌜ r ≡ leb low (endValue (now (values .entry)) e) ⌝ }
+fn starts_by(values: &[u32], size: u64, e: End, low: u64) -> bool
+    requires { ⌜ (low < 2 ^ 40) × (size ≤ 8) ⌝ }
+    ensures { λ r. ⌜ r ≡ leb low (endValue (now (values .entry)) size e) ⌝ }
 {
-    let sum = value_at(values, e.pointer) + value_at(values, e.integer);
+    let sum = value_at(values, e.pointer) + scaled(size, value_at(values, e.integer));
     if e.constant >= LARGE {
         return true;
     }
@@ -26,11 +29,11 @@ fn starts_by(values: &[u32], e: End, low: u64) -> bool
 }
 
 // end <= high
-fn ends_by(values: &[u32], e: End, high: u64) -> bool
-    requires { ⌜ high < 2 ^ 40 ⌝ }
-    ensures { λ r. ⌜ r ≡ leb (endValue (now (values .entry)) e) high ⌝ }
+fn ends_by(values: &[u32], size: u64, e: End, high: u64) -> bool
+    requires { ⌜ (high < 2 ^ 40) × (size ≤ 8) ⌝ }
+    ensures { λ r. ⌜ r ≡ leb (endValue (now (values .entry)) size e) high ⌝ }
 {
-    let sum = value_at(values, e.pointer) + value_at(values, e.integer);
+    let sum = value_at(values, e.pointer) + scaled(size, value_at(values, e.integer));
     if e.constant >= LARGE {
         return false;
     }
@@ -45,6 +48,7 @@ pub(crate) fn bounds_true(
     origins: &[u32],
     p: usize,
 ) -> bool
+    requires { ⌜ Sized environment ⌝ }
     ensures { λ r. ⌜ r ≡ boundsTrue environment (now (directory .entry)) (now (values .entry)) (now (origins .entry)) p ⌝ }
 {
     if value_at(values, p) == 0 {
@@ -61,8 +65,11 @@ pub(crate) fn bounds_true(
     let low = value_at(directory, pair);
     let high = low + value_at(directory, pair + 1);
     let declared = environment.declared;
+    let sizes = environment.sizes;
+    let size = size_at(sizes, p);
     let bounds = bounds_at(declared, p);
     let lower = bounds.lower;
     let upper = bounds.upper;
-    starts_by(values, end_of(lower), low + BIAS) & ends_by(values, end_of(upper), high + BIAS)
+    starts_by(values, size, end_of(lower), low + BIAS)
+        & ends_by(values, size, end_of(upper), high + BIAS)
 }

@@ -1,5 +1,5 @@
 -- What each operation of the fact store makes of the 17 rows of 17 sums, as the code does. That this is what the paper says is proved in crate chains (Exact).
-use Prim.Native.Nat.{ℕ, zero, suc, _+_, _-_, min, max}
+use Prim.Native.Nat.{ℕ, zero, suc, _+_, _-_, min, max, _*_, _^_}
 use mathlib.Core.List.{List, []}
 use mathlib.Core.Bool.{Bool, true, false, not, _&&_, _||_, cond}
 use lib.ListN.{getD, set}
@@ -46,8 +46,12 @@ leastSum f x y = cond (ltb zeroVar x) unbounded (cond (ltb zeroVar y) unbounded 
 unfoldable pub shown : FactSet → ℕ → ℕ → ℕ → Bool
 shown f x y k = cond (f .contradiction) true (leb (leastSum f x y) k)
 
-unfoldable pub endShown : FactSet → ℕ → ℕ → ℕ → ℕ → ℕ → ℕ → Bool
-endShown f q n k r m j = cond (f .contradiction) true (leb (concatenated (concatenated (leastSum f q r) (leastSum f n m)) k) j)
+-- Point 10: a + s times b + k <= j, each with the bias, both sides raised until none is negative. Numbers out of range show nothing.
+unfoldable pub withinEnd : ℕ → ℕ → ℕ → ℕ → ℕ → Bool
+withinEnd s a b k j = leb s 8 && ltb a (2 ^ 40) && ltb b (2 ^ 40) && ltb k (2 ^ 40) && ltb j (2 ^ 40) && leb (a + s * b + k) (j + bias + s * bias)
+
+unfoldable pub endShown : FactSet → ℕ → ℕ → ℕ → ℕ → ℕ → ℕ → ℕ → Bool
+endShown f s q n k r m j = cond (f .contradiction) true (withinEnd s (leastSum f q r) (leastSum f n m) k j)
 
 -- "when 0 <= y + k <= 4,294,967,295 is shown": 0 <= y + k, and y <= 4,294,967,295 - k; "a plain copy always counts as shown".
 abbrev pub inRange : FactSet → ℕ → ℕ → Bool

@@ -1,10 +1,10 @@
 -- What each operation makes, case by case, and sum by sum.
-use Prim.Native.Nat.{ℕ, _+_, _-_, _≤_, _<_, min}
+use Prim.Native.Nat.{ℕ, _+_, _-_, _*_, _^_, _≤_, _<_, min}
 use mathlib.Core.Path.{_≡_, refl, sym, ap, _∙_}
 use mathlib.Core.Logic.{_≢_}
-use mathlib.Core.Bool.{Bool, true, false, cond}
-use borrow.Author.Tests.{lt-ltb, le-ltb, eqb-true, eqb-false}
-use lib.Dec.{leb, eqb}
+use mathlib.Core.Bool.{Bool, true, false, _&&_, false≢true, cond}
+use borrow.Author.Tests.{le-leb, leb-true, lt-ltb, le-ltb, eqb-true, eqb-false}
+use lib.Dec.{ltb, leb, eqb}
 use lib.Seq.{getD-set-same, getD-set-other}
 use native.Mathlib.Omega.{arith}
 use Rattle.sums.specs.Numbers.{bias, maxValue, zeroVar}
@@ -12,7 +12,7 @@ use Rattle.changes.specs.Changes.{noFact, adding, ranging, shifting, equating}
 use Rattle.arrays.specs.Tabulate.{tabulate}
 use Rattle.arrays.specs.TabulateLaws.{length-tabulate, getD-tabulate}
 use Rattle.sums.specs.Sums.{concatenated, negated}
-use Rattle.facts.specs.Store.{noRow, rowAt, inRow, sumAt, rowOf, setOf, leastSum, shown, endShown, newSum, newRow, newSet, loweredRow, lowered, marked, added, ownRow, reroutedRow, rerouted, reassigned, anew, addedFact, addedFirst, changed, dropped, ranged, shifted, related, joinedSum, joinedRow, joined}
+use Rattle.facts.specs.Store.{noRow, rowAt, inRow, sumAt, rowOf, setOf, leastSum, shown, withinEnd, endShown, newSum, newRow, newSet, loweredRow, lowered, marked, added, ownRow, reroutedRow, rerouted, reassigned, anew, addedFact, addedFirst, changed, dropped, ranged, shifted, related, joinedSum, joinedRow, joined}
 use Rattle.facts.specs.declared.rows.Row.{Row}
 use Rattle.changes.specs.declared.Fact.{Fact}
 use Rattle.changes.specs.declared.Change.{Change}
@@ -69,14 +69,29 @@ module _ (f : FactSet) (x y k : ℕ) where
       go true s = s
       go false s = refl
 
-module _ (f : FactSet) (q n k r m j : ℕ) where
-  pub end-marked : f .contradiction ≡ true → endShown f q n k r m j ≡ true
-  unfolding endShown
-  end-marked e = asked-marked (leb (concatenated (concatenated (leastSum f q r) (leastSum f n m)) k) j) e
+-- Numbers in range are compared as they are.
+pub within-plain : (s a b k j : ℕ) → s ≤ 8 → a < 2 ^ 40 → b < 2 ^ 40 → k < 2 ^ 40 → j < 2 ^ 40 → withinEnd s a b k j ≡ leb (a + s * b + k) (j + bias + s * bias)
+unfolding withinEnd
+within-plain s a b k j hs ha hb hk hj = rw (le-leb s 8 hs, lt-ltb a (2 ^ 40) ha, lt-ltb b (2 ^ 40) hb, lt-ltb k (2 ^ 40) hk, lt-ltb j (2 ^ 40) hj)
 
-  pub end-clear : f .contradiction ≡ false → endShown f q n k r m j ≡ leb (concatenated (concatenated (leastSum f q r) (leastSum f n m)) k) j
+last-true : (x y : Bool) → (x && y) ≡ true → y ≡ true
+last-true true y e = e
+last-true false y e = absurd (false≢true e)
+
+pub within-true : (s a b k j : ℕ) → withinEnd s a b k j ≡ true → a + s * b + k ≤ j + bias + s * bias
+unfolding withinEnd
+within-true s a b k j e =
+    leb-true (a + s * b + k) (j + bias + s * bias)
+    (last-true (leb s 8 && ltb a (2 ^ 40) && ltb b (2 ^ 40) && ltb k (2 ^ 40) && ltb j (2 ^ 40)) (leb (a + s * b + k) (j + bias + s * bias)) e)
+
+module _ (f : FactSet) (s q n k r m j : ℕ) where
+  pub end-marked : f .contradiction ≡ true → endShown f s q n k r m j ≡ true
   unfolding endShown
-  end-clear e = asked-clear (leb (concatenated (concatenated (leastSum f q r) (leastSum f n m)) k) j) e
+  end-marked e = asked-marked (withinEnd s (leastSum f q r) (leastSum f n m) k j) e
+
+  pub end-clear : f .contradiction ≡ false → endShown f s q n k r m j ≡ withinEnd s (leastSum f q r) (leastSum f n m) k j
+  unfolding endShown
+  end-clear e = asked-clear (withinEnd s (leastSum f q r) (leastSum f n m) k j) e
 
 -- ---- add
 

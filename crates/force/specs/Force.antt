@@ -31,6 +31,7 @@ pub record Forced (E : Environment) (R : List ℕ) (F : Force) : Type 0 where
 
 pub record Framed (E : Environment) (r : Frame) : Type 0 where
   pub pointers : r .pointers ≡ E .pointers
+  pub sizes : r .sizes ≡ E .sizes
   pub lengths : r .lengths ≡ E .lengths
 
 -- A kind 14 at a: its own 8, then the general one; where there is none, its row is in force.

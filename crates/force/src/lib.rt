@@ -23,9 +23,11 @@ ghost use Rattle.rules.specs.Verdict.{environmentOf};
 ghost use Rattle.touched.specs.Touched.{seenOf};
 ghost use Rattle.force.specs.Force.{Framed, Forced, DeclaresRow};
 
-// What a statement's walk needs of what the table declares, whatever the rows: which variables are pointers, and the lengths of the objects.
+// What a statement's walk needs of what the table declares, whatever the rows: which variables are pointers, their element sizes, and the lengths of the
+// objects.
 pub struct Frame {
     pub pointers: [bool; 17],
+    pub sizes: [u64; 16],
     pub lengths: [u64; 16],
 }
 
@@ -54,8 +56,13 @@ pub fn frame_of(environment: Environment) -> Frame
     ensures { λ r. ⌜ Framed environment r ⌝ }
 {
     let pointers = environment.pointers;
+    let sizes = environment.sizes;
     let lengths = environment.lengths;
-    Frame { pointers, lengths }
+    Frame {
+        pointers,
+        sizes,
+        lengths,
+    }
 }
 
 // What is seen where the rows are in force.

@@ -1,5 +1,5 @@
 -- The run without origins agrees with the plain machine, step by step and as a whole.
-use Prim.Native.Nat.{ℕ, zero, suc, _+_, _<_, _≤_}
+use Prim.Native.Nat.{ℕ, zero, suc, _+_, _<_, _≤_, _-_}
 use mathlib.Core.Path.{_≡_, refl, sym, ap, ap₂, subst, _∙_}
 use mathlib.Core.Bool.{Bool, true, false, false≢true, cond}
 use mathlib.Core.List.{List, [], _∷_}
@@ -27,7 +27,7 @@ use Rattle.flow.specs.Flow.{Successors}
 use Rattle.flow.specs.Shape.{entriesAt}
 use Rattle.rules.specs.BoundsRules.{inForce, rowsAfter}
 use Rattle.rules.specs.declared.Environment.{Environment}
-use Rattle.machine.specs.Machine.{low, high, address, inOrigin, conditionHolds, Failing, none, fails, failing, Status, going, stopped, stuck, Point, Memory, Performed, done, no-step, stepIf, performed, memoryOf, afterChecks, branched, statementStep, stepIfDue, nextPoint, pointAfter}
+use Rattle.machine.specs.Machine.{low, high, address, inOrigin, conditionHolds, Failing, none, fails, failing, Status, going, stopped, stuck, Point, Memory, Performed, done, no-step, stepIf, performed, memoryOf, afterChecks, branched, statementStep, stepIfDue, nextPoint, pointAfter, value}
 use Rattle.checks.specs.Checked.{stepUnless}
 use Rattle.steps.specs.Bare.{valuesAfter, cellsAfter, changedUnless, Move, move, simpleMove, statementMove, bareMove, InCells, InsideSimple, Inside, Ready}
 use Rattle.runs.specs.BareRun.{Result, result, follow, bareRun, IfTrue, Onward, SafeRun}
@@ -35,7 +35,7 @@ use Rattle.stops.specs.Checks.{checkOf}
 use Rattle.interpreter.specs.Agreement.{stepShown, moveShown, resultShown, Runnable}
 use Rattle.interpreter.specs.Outcomes.{outcomeShown}
 use Rattle.ends.specs.Ends.{endsOf}
-use Rattle.interpreter.specs.EndsLaws.{failing-same, ends-after}
+use Rattle.interpreter.specs.EndsLaws.{failing-same, ends-after, address-laid, indexed-laid}
 use Rattle.checks.specs.declared.Step.{Step}
 use Rattle.checks.specs.declared.Step.the-variants.{Go}
 use Rattle.stops.specs.declared.Outcome.the-variants.{Done, Spent, Stopped}
@@ -59,34 +59,57 @@ set-at-most (y ∷ l) zero v k h f (suc p) = f (suc p)
 set-at-most (y ∷ l) (suc x) v k h f zero = f zero
 set-at-most (y ∷ l) (suc x) v k h f (suc p) = set-at-most l x v k h (λ q. f (suc q)) p
 
-leaves : (T : List ℤ) (h : Sections) (D : List ℕ) (s : Simple) (m : Memory) → SimpleTyped T h s → ((p : ℕ) → getD (m .origins) p 0 ≤ h .objects) →
-    Leaves (rowsAfter s (m .rows)) (valuesAfter D s (m .values) (m .cells)) (cellsAfter s (m .values) (m .cells)) (h .objects) (performed D s m)
+-- By the ends laid out for the rows R.
+leaves : (T : List ℤ) (h : Sections) (E : Environment) (R D : List ℕ) (s : Simple) (m : Memory) → Limits h → SimpleTyped T h s
+    → ((p : ℕ) → getD (m .origins) p 0 ≤ h .objects) →
+    Leaves (rowsAfter s (m .rows)) (valuesAfter (endsOf E R) D s (m .values) (m .cells)) (cellsAfter (endsOf E R) s (m .values) (m .cells)) (h .objects)
+    (performed E D s m)
 unfolding performed valuesAfter cellsAfter rowsAfter
-leaves T h D (Literal x k) m t o = (refl, refl, o, refl)
-leaves T h D (AddConstant x y k) m t o = (refl, refl, o, refl)
-leaves T h D (Arithmetic x y z op) m t o = (refl, refl, o, refl)
-leaves T h D (Null p) m t o = (refl, refl, set-at-most (m .origins) p 0 (h .objects) (omega arith) o, refl)
-leaves T h D (Address p q) m t o = (refl, refl, set-at-most (m .origins) p (q + 1) (h .objects) (omega (arith, t .object)) o, refl)
-leaves T h D (PointerOffset p q k) m t o = (refl, refl, set-at-most (m .origins) p (getD (m .origins) q 0) (h .objects) (o q) o, refl)
-leaves T h D (PointerIndex p q i) m t o = (refl, refl, set-at-most (m .origins) p (getD (m .origins) q 0) (h .objects) (o q) o, refl)
-leaves T h D (Load x p i k) m t o = leaves-if (inOrigin D (getD (m .origins) p 0) (address (m .values) p i k)) _ _ _ _ _ (refl, refl, o, refl)
-leaves T h D (Store p i k x) m t o = leaves-if (inOrigin D (getD (m .origins) p 0) (address (m .values) p i k)) _ _ _ _ _ (refl, refl, o, refl)
-leaves T h D (Test c) m t o = (refl, refl, o, refl)
-leaves T h D (Declare p r) m t o = (refl, refl, o, refl)
+leaves T h E R D (Literal x k) m l t o = (refl, refl, o, refl)
+leaves T h E R D (AddConstant x y k) m l t o = (refl, refl, o, refl)
+leaves T h E R D (Arithmetic x y z op) m l t o = (refl, refl, o, refl)
+leaves T h E R D (Null p) m l t o = (refl, refl, set-at-most (m .origins) p 0 (h .objects) (omega arith) o, refl)
+leaves T h E R D (Address p q) m l t o = (refl, refl, set-at-most (m .origins) p (q + 1) (h .objects) (omega (arith, t .object)) o, refl)
+leaves T h E R D (PointerOffset p q k) m l t o = (refl, refl, set-at-most (m .origins) p (getD (m .origins) q 0) (h .objects) (o q) o, refl)
+leaves T h E R D (PointerIndex p q i) m l t o = (
+  ap (set (m .values) p) (sym (indexed-laid E R (m .values) q i (omega (arith, t .source .below, l .variables)))),
+  refl,
+  set-at-most (m .origins) p
+      (getD (m .origins) q 0) (h .objects) (o q) o,
+  refl,
+)
+leaves T h E R D (Load x p i k) m l t o =
+    leaves-if (inOrigin D (getD (m .origins) p 0) (address E (m .values) p i k)) _ _ _ _ _ (
+      ap (λ (a : ℕ). set (m .values) x (getD (m .cells) (a - bias) 0))
+          (sym (address-laid E R (m .values) p i k (omega (arith, t .pointer .below, l .variables)))),
+      refl,
+      o,
+      refl,
+    )
+leaves T h E R D (Store p i k x) m l t o =
+    leaves-if (inOrigin D (getD (m .origins) p 0) (address E (m .values) p i k)) _ _ _ _ _ (
+      refl,
+      ap (λ (a : ℕ). set (m .cells) (a - bias) (value (m .values) x))
+          (sym (address-laid E R (m .values) p i k (omega (arith, t .pointer .below, l .variables)))),
+      o,
+      refl,
+    )
+leaves T h E R D (Test c) m l t o = (refl, refl, o, refl)
+leaves T h E R D (Declare p r) m l t o = (refl, refl, o, refl)
 
-cells-kept : (s : Simple) (vs cs : List ℕ) → length (cellsAfter s vs cs) ≡ length cs
+cells-kept : (W : List ℕ) (s : Simple) (vs cs : List ℕ) → length (cellsAfter W s vs cs) ≡ length cs
 unfolding cellsAfter
-cells-kept (Literal x k) vs cs = refl
-cells-kept (AddConstant x y k) vs cs = refl
-cells-kept (Arithmetic x y z op) vs cs = refl
-cells-kept (Null p) vs cs = refl
-cells-kept (Address p o) vs cs = refl
-cells-kept (PointerOffset p q k) vs cs = refl
-cells-kept (PointerIndex p q i) vs cs = refl
-cells-kept (Load x p i k) vs cs = refl
-cells-kept (Store p i k x) vs cs = simp length-set
-cells-kept (Test c) vs cs = refl
-cells-kept (Declare p r) vs cs = refl
+cells-kept W (Literal x k) vs cs = refl
+cells-kept W (AddConstant x y k) vs cs = refl
+cells-kept W (Arithmetic x y z op) vs cs = refl
+cells-kept W (Null p) vs cs = refl
+cells-kept W (Address p o) vs cs = refl
+cells-kept W (PointerOffset p q k) vs cs = refl
+cells-kept W (PointerIndex p q i) vs cs = refl
+cells-kept W (Load x p i k) vs cs = refl
+cells-kept W (Store p i k x) vs cs = simp length-set
+cells-kept W (Test c) vs cs = refl
+cells-kept W (Declare p r) vs cs = refl
 
 -- ---- one step
 
@@ -123,7 +146,8 @@ module _ (T : List ℤ) (h : Sections) (E : Environment) (D W S : List ℕ) wher
   unfolding statementStep statementMove simpleMove
   stepped P (Plain s) n w k l t o u =
       rw (w, failing-same T h E (P .rows) (P .values) s l t)
-      (simple-stepped E P (n .next) (h .objects) o (failing (inForce E (P .rows)) (P .values) s) (performed D s (memoryOf P)) _ _ _ _ (ends-after T h E (P .rows) s l t k) (leaves T h D s (memoryOf P) t o) (cells-kept s (P .values) (P .cells)) u)
+      (simple-stepped E P (n .next) (h .objects) o (failing (inForce E (P .rows)) (P .values) s) (performed E D s (memoryOf P)) _ _ _ _
+      (ends-after T h E (P .rows) s l t k) (leaves T h E (P .rows) D s (memoryOf P) l t o) (cells-kept (endsOf E (P .rows)) s (P .values) (P .cells)) u)
   stepped P (If c x y) n w k l t o u = rw w (branch-stepped E P 0 (h .objects) o (conditionHolds (P .values) c) n)
   stepped P (While c x) n w k l t o u = rw w (branch-stepped E P 0 (h .objects) o (conditionHolds (P .values) c) n)
   stepped P (Bundle x) n w k l t o u = rw w (record { same = refl; counted = refl; long = refl; origins = o })
@@ -147,7 +171,8 @@ module _ (T : List ℤ) (h : Sections) (E : Environment) (D W S : List ℕ) wher
 
   module _ (P : Point) (o : (p : ℕ) → getD (P .origins) p 0 ≤ h .objects) (f : (i : ℕ) → i < h .objects → high D i ≤ length (P .cells)) where
     inside-simple : (s : Simple) (n : ℕ) → W ≡ endsOf E (P .rows) → Limits h → SimpleTyped T h s →
-        (afterChecks (failing (inForce E (P .rows)) (P .values) s) P n (performed D s (memoryOf P)) .status ≡ stuck → ⊥) → InsideSimple W s (P .values) (P .cells)
+        (afterChecks (failing (inForce E (P .rows)) (P .values) s) P n (performed E D s (memoryOf P)) .status ≡ stuck → ⊥) → InsideSimple W s (P .values)
+        (P .cells)
     unfolding performed
     inside-simple (Literal x k) n w l t u = tt
     inside-simple (AddConstant x y k) n w l t u = tt
@@ -157,11 +182,15 @@ module _ (T : List ℤ) (h : Sections) (E : Environment) (D W S : List ℕ) wher
     inside-simple (PointerOffset p q k) n w l t u = tt
     inside-simple (PointerIndex p q i) n w l t u = tt
     inside-simple (Load x p i k) n w l t u =
-        λ e. in-object (getD (P .origins) p 0) (address (P .values) p i k) (P .cells)
-        (not-lost P (failing (inForce E (P .rows)) (P .values) (Load x p i k)) _ n _ (sym (failing-same T h E (P .rows) (P .values) (Load x p i k) l t) ∙ (rw w at e)) u) (o p) f
+        λ e. rw (w, address-laid E (P .rows) (P .values) p i k (omega (arith, t .pointer .below, l .variables)))
+        (in-object (getD (P .origins) p 0) (address E (P .values) p i k) (P .cells)
+        (not-lost P (failing (inForce E (P .rows)) (P .values) (Load x p i k)) _ n _
+        (sym (failing-same T h E (P .rows) (P .values) (Load x p i k) l t) ∙ (rw w at e)) u) (o p) f)
     inside-simple (Store p i k x) n w l t u =
-        λ e. in-object (getD (P .origins) p 0) (address (P .values) p i k) (P .cells)
-        (not-lost P (failing (inForce E (P .rows)) (P .values) (Store p i k x)) _ n _ (sym (failing-same T h E (P .rows) (P .values) (Store p i k x) l t) ∙ (rw w at e)) u) (o p) f
+        λ e. rw (w, address-laid E (P .rows) (P .values) p i k (omega (arith, t .pointer .below, l .variables)))
+        (in-object (getD (P .origins) p 0) (address E (P .values) p i k) (P .cells)
+        (not-lost P (failing (inForce E (P .rows)) (P .values) (Store p i k x)) _ n _
+        (sym (failing-same T h E (P .rows) (P .values) (Store p i k x) l t) ∙ (rw w at e)) u) (o p) f)
     inside-simple (Test c) n w l t u = tt
     inside-simple (Declare p r) n w l t u = tt
 

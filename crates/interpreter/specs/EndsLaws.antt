@@ -12,6 +12,7 @@ use lib.Dec.{leb, ltb, eqb}
 use lib.IntN.{ℤ}
 use lib.ListN.{length, getD, List·getD-eq-default, set}
 use lib.Seq.{getD-set-same, getD-set-other}
+use Rattle.sums.specs.Numbers.{bias}
 use Rattle.arrays.specs.Tabulate.{tabulate}
 use Rattle.arrays.specs.TabulateLaws.{length-tabulate, getD-tabulate}
 use Rattle.sections.specs.Typed.{IsIndex, missing, given}
@@ -28,22 +29,24 @@ use Rattle.variables.specs.declared.Variable.the-variants.{Integer, Pointer}
 use Rattle.variables.specs.declared.RowRead.{RowRead}
 use Rattle.variables.specs.declared.VariableRead.{VariableRead}
 use Rattle.variables.specs.declared.VariableRead.the-variants.{Read, Unread}
-use Rattle.rules.specs.BoundsRules.{nothingKnown, declared, rowBound, inForce, rowsAfter}
+use Rattle.rules.specs.BoundsRules.{nothingKnown, declared, rowBound, inForce, rowsAfter, elementSize, sized}
 use Rattle.rules.specs.BoundsTrue.{declared-in-force}
+use Rattle.rules.specs.EnvironmentLaws.{sizes-small}
 use Rattle.rules.specs.Verdict.{boundsOf, environmentOf, rowBounds}
 use Rattle.rules.specs.declared.KnownEnd.the-variants.{Unknown}
 use Rattle.rules.specs.declared.Bounds.{Bounds}
 use Rattle.rules.specs.declared.Environment.{Environment}
-use Rattle.machine.specs.Machine.{value, endValue, endOf, lowerEnd, upperEnd, address, none, firstOf, accessFailing, failing}
-use Rattle.ends.specs.Ends.{endNumber, boundsNumber, endsOf, placeBounds}
-use Rattle.checks.specs.Checked.{boundsIn, declaredIn}
+use Rattle.machine.specs.Machine.{value, endValue, endOf, lowerEnd, upperEnd, address, none, firstOf, accessFailing, failing, indexed, arithmeticFailing}
+use Rattle.ends.specs.Ends.{endNumber, boundsNumber, endsOf, placeBounds, placeNumber}
+use Rattle.checks.specs.Checked.{boundsIn, declaredIn, sizeIn}
+use Rattle.checks.specs.CheckLaws.{size-in}
 use Rattle.steps.specs.Bare.{copied, endsAfter}
 use Rattle.steps.specs.CopiedLaws.{copied-long, copied-inside, copied-outside}
 use Rattle.variables.specs.declared.RowRead.the-variants as row
 
-pub ends-long : (E : Environment) (R : List ℕ) → length (endsOf E R) ≡ 480
+pub ends-long : (E : Environment) (R : List ℕ) → length (endsOf E R) ≡ 496
 unfolding endsOf
-ends-long E R = length-tabulate 480 (λ (i : ℕ). boundsNumber (placeBounds E R (i / 6)) (i % 6))
+ends-long E R = length-tabulate 496 (placeNumber E R)
 
 -- The number at a place.
 number-at : (E : Environment) (R : List ℕ) (i q j : ℕ) → i ≡ 6 * q + j → j < 6 → q < 80 → getD (endsOf E R) i 0 ≡ boundsNumber (placeBounds E R q) j
@@ -51,15 +54,30 @@ unfolding endsOf
 number-at E R i q j e l b =
     let d : i / 6 ≡ q = omega arith in
     let m : i % 6 ≡ j = omega arith in
-    getD-tabulate 480 (λ (n : ℕ). boundsNumber (placeBounds E R (n / 6)) (n % 6)) i 0 (omega arith) ∙ ap₂ (λ (x k : ℕ). boundsNumber (placeBounds E R x) k) d m
+    getD-tabulate 496 (placeNumber E R) i 0 (omega arith)
+    ∙ ap (λ (t : Bool). cond t (boundsNumber (placeBounds E R (i / 6)) (i % 6)) (elementSize E (i - 480))) (lt-ltb i 480 (omega arith))
+    ∙ ap₂ (λ (x k : ℕ). boundsNumber (placeBounds E R x) k) d m
+
+-- Point 10: the element size of a pointer.
+size-number : (E : Environment) (R : List ℕ) (p : ℕ) → p < 16 → sizeIn (endsOf E R) p ≡ elementSize E p
+unfolding endsOf
+size-number E R p l =
+    let e : 480 + p - 480 ≡ p = omega arith in
+    getD-tabulate 496 (placeNumber E R) (480 + p) 0 (omega arith)
+    ∙ ap (λ (t : Bool). cond t (boundsNumber (placeBounds E R ((480 + p) / 6)) ((480 + p) % 6)) (elementSize E (480 + p - 480)))
+    (le-ltb (480 + p) 480 (omega arith))
+    ∙ ap (elementSize E) e
+
+size-same : (E : Environment) (R : List ℕ) (p : ℕ) → p < 16 → elementSize (declaredIn (endsOf E R)) p ≡ elementSize E p
+size-same E R p l = size-in (endsOf E R) p l ∙ size-number E R p l
 
 place-pointer : (E : Environment) (R : List ℕ) (p : ℕ) → p < 16 → placeBounds E R p ≡ declared (inForce E R) p
 unfolding placeBounds
 place-pointer E R p l = rw (lt-ltb p 16 l)
 
-place-row : (E : Environment) (R : List ℕ) (r p : ℕ) → placeBounds E R (16 + r) ≡ rowBound E (suc r) p
-unfolding placeBounds rowBound
-place-row E R r p = let e : 16 + r - 16 ≡ r = omega arith in rw (le-ltb (16 + r) 16 (omega arith), e)
+place-row : (E : Environment) (R : List ℕ) (r p j : ℕ) → boundsNumber (placeBounds E R (16 + r)) j ≡ boundsNumber (rowBound E (suc r) p) j
+unfolding placeBounds rowBound boundsNumber
+place-row E R r p j = let e : 16 + r - 16 ≡ r = omega arith in rw (le-ltb (16 + r) 16 (omega arith), e)
 
 -- ---- the ends of a pointer
 
@@ -67,24 +85,40 @@ module _ (E : Environment) (R vs : List ℕ) (p : ℕ) (few : p < 16) where
   number : (i j : ℕ) → i ≡ 6 * p + j → j < 6 → getD (endsOf E R) i 0 ≡ boundsNumber (declared (inForce E R) p) j
   number i j e l = number-at E R i p j e l (omega arith) ∙ ap (λ (b : Bounds). boundsNumber b j) (place-pointer E R p few)
 
-  sum-same : (a b x y k l : ℕ) → a ≡ x → b ≡ y → k ≡ l → value vs a + value vs b + k ≡ value vs x + value vs y + l
-  sum-same a b x y k l p q r = rw (p, q, r)
+  sum-same : (s t a b x y k l : ℕ) → s ≡ t → a ≡ x → b ≡ y → k ≡ l → value vs a + s * value vs b + k ≡ value vs x + t * value vs y + l
+  sum-same s t a b x y k l z p q r = rw (z, p, q, r)
 
   lower-same : lowerEnd (declaredIn (endsOf E R)) vs p ≡ lowerEnd (inForce E R) vs p
   unfolding declaredIn boundsNumber endNumber
   lower-same =
-      ap (λ (b : Bounds). endValue vs (endOf (b .lower))) (getD-tabulate 16 (boundsIn (endsOf E R)) p nothingKnown few)
-      ∙ sum-same _ _ _ _ _ _ (number (6 * p) 0 (omega arith) (omega arith)) (number (6 * p + 1) 1 refl (omega arith)) (number (6 * p + 2) 2 refl (omega arith))
+      ap (λ (b : Bounds). endValue vs (elementSize (declaredIn (endsOf E R)) p) (endOf (b .lower)))
+      (getD-tabulate 16 (boundsIn (endsOf E R)) p nothingKnown few)
+      ∙ sum-same _ _ _ _ _ _ _ _ (size-same E R p few) (number (6 * p) 0 (omega arith) (omega arith)) (number (6 * p + 1) 1 refl (omega arith))
+      (number (6 * p + 2) 2 refl (omega arith))
 
   upper-same : upperEnd (declaredIn (endsOf E R)) vs p ≡ upperEnd (inForce E R) vs p
   unfolding declaredIn boundsNumber endNumber
   upper-same =
-      ap (λ (b : Bounds). endValue vs (endOf (b .upper))) (getD-tabulate 16 (boundsIn (endsOf E R)) p nothingKnown few)
-      ∙ sum-same _ _ _ _ _ _ (number (6 * p + 3) 3 refl (omega arith)) (number (6 * p + 3 + 1) 4 (omega arith) (omega arith)) (number (6 * p + 3 + 2) 5 (omega arith) (omega arith))
+      ap (λ (b : Bounds). endValue vs (elementSize (declaredIn (endsOf E R)) p) (endOf (b .upper)))
+      (getD-tabulate 16 (boundsIn (endsOf E R)) p nothingKnown few)
+      ∙ sum-same _ _ _ _ _ _ _ _ (size-same E R p few) (number (6 * p + 3) 3 refl (omega arith)) (number (6 * p + 3 + 1) 4 (omega arith) (omega arith))
+      (number (6 * p + 3 + 2) 5 (omega arith) (omega arith))
 
   access-same : (a : ℕ) → accessFailing (declaredIn (endsOf E R)) vs p a ≡ accessFailing (inForce E R) vs p a
   unfolding accessFailing
   access-same a = ap₂ (λ (l u : ℕ). firstOf (eqb (value vs p) 0) 2 (firstOf (ltb a l || leb u a) 3 none)) lower-same upper-same
+
+address-same : (E : Environment) (R vs : List ℕ) (p i k : ℕ) → p < 16
+    → accessFailing (declaredIn (endsOf E R)) vs p (address (declaredIn (endsOf E R)) vs p i k) ≡ accessFailing (declaredIn (endsOf E R)) vs p
+    (address E vs p i k)
+address-same E R vs p i k few = ap (λ (s : ℕ). accessFailing (declaredIn (endsOf E R)) vs p (value vs p + s * value vs i + k)) (size-same E R p few)
+
+-- Results by the laid-out sizes are those by the declared ones.
+pub address-laid : (E : Environment) (R vs : List ℕ) (p i k : ℕ) → p < 16 → address (declaredIn (endsOf E R)) vs p i k ≡ address E vs p i k
+address-laid E R vs p i k few = ap (λ (s : ℕ). value vs p + s * value vs i + k) (size-same E R p few)
+
+pub indexed-laid : (E : Environment) (R vs : List ℕ) (q i : ℕ) → q < 16 → indexed (declaredIn (endsOf E R)) vs q i ≡ indexed E vs q i
+indexed-laid E R vs q i few = ap (λ (s : ℕ). value vs q + s * value vs i) (size-same E R q few)
 
 -- The first check that fails is the same.
 pub failing-same : (T : List ℤ) (h : Sections) (E : Environment) (R vs : List ℕ) (s : Simple) → Limits h → SimpleTyped T h s → failing (declaredIn (endsOf E R)) vs s ≡ failing (inForce E R) vs s
@@ -95,9 +129,12 @@ failing-same T h E R vs (Arithmetic x y z op) l t = refl
 failing-same T h E R vs (Null p) l t = refl
 failing-same T h E R vs (Address p o) l t = refl
 failing-same T h E R vs (PointerOffset p q k) l t = refl
-failing-same T h E R vs (PointerIndex p q i) l t = refl
-failing-same T h E R vs (Load x p i k) l t = access-same E R vs p (omega (arith, t .pointer .below, l .variables)) (address vs p i k)
-failing-same T h E R vs (Store p i k x) l t = access-same E R vs p (omega (arith, t .pointer .below, l .variables)) (address vs p i k)
+failing-same T h E R vs (PointerIndex p q i) l t =
+    ap (λ (s : ℕ). arithmeticFailing (value vs q) (value vs q + s * value vs i + bias)) (size-same E R q (omega (arith, t .source .below, l .variables)))
+failing-same T h E R vs (Load x p i k) l t =
+    let few : p < 16 = omega (arith, t .pointer .below, l .variables) in address-same E R vs p i k few ∙ access-same E R vs p few (address E vs p i k)
+failing-same T h E R vs (Store p i k x) l t =
+    let few : p < 16 = omega (arith, t .pointer .below, l .variables) in address-same E R vs p i k few ∙ access-same E R vs p few (address E vs p i k)
 failing-same T h E R vs (Test c) l t = refl
 failing-same T h E R vs (Declare p r) l t = refl
 
@@ -129,7 +166,7 @@ place-own E R p r l e =
 ends-declared : (E : Environment) (R : List ℕ) (p r : ℕ) → p < 16 → r < 64 → length R ≡ 16 → copied 6 p r (endsOf E R) ≡ endsOf E (set R p (r + 1))
 ends-declared E R p r l b e =
     same-list (copied 6 p r (endsOf E R)) (endsOf E (set R p (r + 1))) (copied-long p r (endsOf E R) 6 ∙ ends-long E R ∙ sym (ends-long E (set R p (r + 1))))
-    (λ i m. by-place i (omega (arith, m, copied-long p r (endsOf E R) 6, ends-long E R)) (ℕ-discrete (i / 6) p))
+    (λ i m. by-range i (omega (arith, m, copied-long p r (endsOf E R) 6, ends-long E R)) (ltb i 480) refl)
   where
     by-place : (i : ℕ) → i < 480 → Dec (i / 6 ≡ p) → getD (copied 6 p r (endsOf E R)) i 0 ≡ getD (endsOf E (set R p (r + 1))) i 0
     by-place i m (yes s) =
@@ -139,7 +176,8 @@ ends-declared E R p r l b e =
         ap (λ (n : ℕ). getD (copied 6 p r (endsOf E R)) n 0) g
         ∙ copied-inside p r (endsOf E R) 6 (i % 6) k (omega (arith, ends-long E R))
         ∙ number-at E R (96 + 6 * r + i % 6) (16 + r) (i % 6) (omega arith) k (omega arith)
-        ∙ ap (λ (x : Bounds). boundsNumber x (i % 6)) (place-row E R r p ∙ sym (place-own E R p r l e))
+        ∙ place-row E R r p (i % 6)
+        ∙ ap (λ (x : Bounds). boundsNumber x (i % 6)) (sym (place-own E R p r l e))
         ∙ sym (number-at E (set R p (r + 1)) i p (i % 6) g k (omega arith))
     by-place i m (no n) =
         let q : i / 6 < 80 = omega arith in
@@ -149,6 +187,17 @@ ends-declared E R p r l b e =
         ∙ number-at E R i (i / 6) (i % 6) g k q
         ∙ ap (λ (x : Bounds). boundsNumber x (i % 6)) (sym (place-other E R p (r + 1) (i / 6) n))
         ∙ sym (number-at E (set R p (r + 1)) i (i / 6) (i % 6) g k q)
+
+    by-range : (i : ℕ) → i < 496 → (b : Bool) → ltb i 480 ≡ b → getD (copied 6 p r (endsOf E R)) i 0 ≡ getD (endsOf E (set R p (r + 1))) i 0
+    by-range i m true q = by-place i (ltb-true i 480 q) (ℕ-discrete (i / 6) p)
+    by-range i m false q =
+        let s : 480 ≤ i = ltb-false i 480 q in
+        let g : 480 + (i - 480) ≡ i = omega arith in
+        copied-outside p r (endsOf E R) 6 i (λ j c z. omega arith)
+        ∙ (ap (λ (n : ℕ). getD (endsOf E R) n 0) (sym g)
+        ∙ (size-number E R (i - 480) (omega arith)
+        ∙ (sym (size-number E (set R p (r + 1)) (i - 480) (omega arith))
+        ∙ ap (λ (n : ℕ). getD (endsOf E (set R p (r + 1))) n 0) g)))
 
 pub ends-after : (T : List ℤ) (h : Sections) (E : Environment) (R : List ℕ) (s : Simple) → Limits h → SimpleTyped T h s → length R ≡ 16
     → endsAfter s (endsOf E R) ≡ endsOf E (rowsAfter s R)
@@ -164,6 +213,11 @@ ends-after T h E R (Load x p i k) l t e = refl
 ends-after T h E R (Store p i k x) l t e = refl
 ends-after T h E R (Test c) l t e = refl
 ends-after T h E R (Declare p r) l t e = ends-declared E R p r (omega (arith, t .pointer .below, l .variables)) (omega (arith, t .row, l .rows)) e
+
+-- The numbers of bounds do not speak of their size.
+sized-number : (s : ℕ) (b : Bounds) (j : ℕ) → boundsNumber (sized s b) j ≡ boundsNumber b j
+unfolding boundsNumber
+sized-number s b j = refl
 
 -- ---- the ends of a table are small, so that no sum of an end wraps
 
@@ -195,10 +249,10 @@ module _ (T : List ℤ) (h : Sections) where
   variable-small : (v : ℕ) (r : VariableRead) → variableAt T h v ≡ r → (j : ℕ) → boundsNumber (boundsOf r) j < 2 ^ 34
   variable-small v Unread e j = bounds-small nothingKnown none-small none-small j
   variable-small v (Read Integer) e j = bounds-small nothingKnown none-small none-small j
-  variable-small v (Read (Pointer low high)) e j =
-      let t = variable-read-typed T h v (Pointer low high) e in
-      let l = variable-read-limits T h v (Pointer low high) e .0 in
-      bounds-small (boundsOf (Read (Pointer low high))) (end-small low l (t .lower)) (end-small high l (t .upper)) j
+  variable-small v (Read (Pointer s low high)) e j =
+      let t = variable-read-typed T h v (Pointer s low high) e in
+      let l = variable-read-limits T h v (Pointer s low high) e .0 in
+      bounds-small (boundsOf (Read (Pointer s low high))) (end-small low l (t .lower)) (end-small high l (t .upper)) j
 
   row-small : (r : ℕ) (x : RowRead) → rowAt T h r ≡ x → Limits h → (j : ℕ) → boundsNumber (rowBounds x) j < 2 ^ 34
   row-small r row.Unread e l j = bounds-small nothingKnown none-small none-small j
@@ -216,10 +270,14 @@ module _ (T : List ℤ) (h : Sections) where
           let k : length (tabulate n f) ≤ i = omega (arith, length-tabulate n f, ltb-false i n q) in
           rw (List·getD-eq-default (tabulate n f) nothingKnown {n = i} k) (bounds-small nothingKnown none-small none-small j)
 
+  rows-small : Limits h → (r j : ℕ) → boundsNumber (getD (environmentOf T h .rows) r nothingKnown) j < 2 ^ 34
+  unfolding environmentOf
+  rows-small l r j = list-small 64 (λ v. rowBounds (rowAt T h v)) (λ v k. row-small v (rowAt T h v) refl l k) r j
+
   number-small : Limits h → (n p j : ℕ) → boundsNumber (rowBound (environmentOf T h) n p) j < 2 ^ 34
   unfolding rowBound environmentOf
   number-small l zero p j = list-small 16 (λ v. boundsOf (variableAt T h v)) (λ v k. variable-small v (variableAt T h v) refl k) p j
-  number-small l (suc r) p j = list-small 64 (λ v. rowBounds (rowAt T h v)) (λ v k. row-small v (rowAt T h v) refl l k) r j
+  number-small l (suc r) p j = rw (sized-number (elementSize (environmentOf T h) p) (getD (environmentOf T h .rows) r nothingKnown) j) (rows-small l r j)
 
   place-small : Limits h → (R : List ℕ) (q j : ℕ) → boundsNumber (placeBounds (environmentOf T h) R q) j < 2 ^ 34
   unfolding placeBounds rowBound
@@ -227,16 +285,29 @@ module _ (T : List ℤ) (h : Sections) where
     where
       go : (b : Bool) → ltb q 16 ≡ b → boundsNumber (cond b (declared (inForce (environmentOf T h) R) q) (getD (environmentOf T h .rows) (q - 16) nothingKnown)) j < 2 ^ 34
       go true e = rw (declared-in-force (environmentOf T h) R q (ltb-true q 16 e)) (number-small l (getD R q 0) q j)
-      go false e = number-small l (suc (q - 16)) q j
+      go false e = rows-small l (q - 16) j
 
   pub ends-small : Limits h → (R : List ℕ) (i : ℕ) → getD (endsOf (environmentOf T h) R) i 0 < 2 ^ 34
   unfolding endsOf
-  ends-small l R i = go (ltb i 480) (ltb-true i 480) (ltb-false i 480)
+  ends-small l R i = go (ltb i 496) (ltb-true i 496) (ltb-false i 496)
     where
-      go : (b : Bool) → (b ≡ true → i < 480) → (b ≡ false → 480 ≤ i) → getD (endsOf (environmentOf T h) R) i 0 < 2 ^ 34
+      go : (b : Bool) → (b ≡ true → i < 496) → (b ≡ false → 496 ≤ i) → getD (endsOf (environmentOf T h) R) i 0 < 2 ^ 34
       go true p q =
-          rw (getD-tabulate 480 (λ (n : ℕ). boundsNumber (placeBounds (environmentOf T h) R (n / 6)) (n % 6)) i 0 (p refl)) (place-small l R (i / 6) (i % 6))
+          rw (getD-tabulate 496 (placeNumber (environmentOf T h) R) i 0 (p refl))
+          (pick-small (ltb i 480) (boundsNumber (placeBounds (environmentOf T h) R (i / 6)) (i % 6)) (elementSize (environmentOf T h) (i - 480))
+          (place-small l R (i / 6) (i % 6)) (omega (arith, sizes-small T h (i - 480))))
       go false p q =
           let m = q refl in
           let g : length (endsOf (environmentOf T h) R) ≤ i = omega (arith, ends-long (environmentOf T h) R) in
+          omega (arith, List·getD-eq-default (endsOf (environmentOf T h) R) 0 g)
+
+  -- Point 10: the element sizes are at most 8.
+  pub ends-sizes : (R : List ℕ) (p : ℕ) → sizeIn (endsOf (environmentOf T h) R) p ≤ 8
+  ends-sizes R p = go (ltb p 16) refl
+    where
+      go : (b : Bool) → ltb p 16 ≡ b → sizeIn (endsOf (environmentOf T h) R) p ≤ 8
+      go true q = rw (size-number (environmentOf T h) R p (ltb-true p 16 q)) (sizes-small T h p)
+      go false q =
+          let m : 16 ≤ p = ltb-false p 16 q in
+          let g : length (endsOf (environmentOf T h) R) ≤ 480 + p = omega (arith, ends-long (environmentOf T h) R) in
           omega (arith, List·getD-eq-default (endsOf (environmentOf T h) R) 0 g)

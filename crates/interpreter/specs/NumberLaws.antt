@@ -81,8 +81,8 @@ failing-numbered E vs (Null p) = tt
 failing-numbered E vs (Address p o) = tt
 failing-numbered E vs (PointerOffset p q k) = unless-numbered (eqb k bias) _ (arithmetic-numbered _ _)
 failing-numbered E vs (PointerIndex p q i) = arithmetic-numbered _ _
-failing-numbered E vs (Load x p i k) = access-numbered E vs p (address vs p i k)
-failing-numbered E vs (Store p i k x) = access-numbered E vs p (address vs p i k)
+failing-numbered E vs (Load x p i k) = access-numbered E vs p (address E vs p i k)
+failing-numbered E vs (Store p i k x) = access-numbered E vs p (address E vs p i k)
 failing-numbered E vs (simple.Check c) = first-numbered (not (conditionHolds vs c)) 1 none (omega arith) (omega arith) tt
 failing-numbered E vs (simple.Declare p r) = tt
 
@@ -105,7 +105,8 @@ branched-held false P n = tt
 
 statement-held : (E : Environment) (D : List ℕ) (s : StatementRead) (n : Successors) (P : Point) → Held (statementStep E D s n P .status)
 unfolding statementStep
-statement-held E D (Read (Plain s)) n P = checks-held (failing (inForce E (P .rows)) (P .values) s) P (n .next) (performed D s (memoryOf P)) (failing-numbered (inForce E (P .rows)) (P .values) s)
+statement-held E D (Read (Plain s)) n P =
+    checks-held (failing (inForce E (P .rows)) (P .values) s) P (n .next) (performed E D s (memoryOf P)) (failing-numbered (inForce E (P .rows)) (P .values) s)
 statement-held E D (Read (If c x y)) n P = branched-held (conditionHolds (P .values) c) P n
 statement-held E D (Read (While c x)) n P = branched-held (conditionHolds (P .values) c) P n
 statement-held E D (Read (Bundle x)) n P = tt

@@ -29,7 +29,7 @@ use Rattle.entry.specs.Entry.{memoryRight, endBefore, pairRight, lengthsRight, 
 use Rattle.steps.specs.Bare.{Prepared}
 use Rattle.runs.specs.BareRun.{bareRun, SafeRun}
 use Rattle.ends.specs.Ends.{endsOf}
-use Rattle.interpreter.specs.EndsLaws.{ends-long, ends-small}
+use Rattle.interpreter.specs.EndsLaws.{ends-long, ends-small, ends-sizes}
 use Rattle.interpreter.specs.Agreement.{resultShown, Runnable}
 use Rattle.interpreter.specs.AgreementLaws.{safe-run, run-agrees}
 
@@ -139,6 +139,7 @@ module _ (T : List ℤ) (h : Sections) (D cs vs os w : List ℕ)
         table = omega (arith, formed .long);
         ends = ends-long E ownRows;
         small = ends-small T h (formed .limits) ownRows;
+        sizes = ends-sizes T h ownRows;
         directory = omega (arith, A .pairs);
         successors = omega (arith, length-written (tableFlow T h) w);
         values = omega (arith, A .values);

@@ -58,7 +58,7 @@ branch-facts false P n = moves P (branched false P n) refl refl
 
 step-facts : (E : Environment) (D : List ℕ) (s : StatementRead) (n : Successors) (P : Point) → statementStep E D s n P .status ≢ stuck → StepFacts (failingAt (inForce E (P .rows)) s (P .values)) P (statementStep E D s n P)
 unfolding statementStep
-step-facts E D (Read (Plain s)) n P u = simple-facts (failing (inForce E (P .rows)) (P .values) s) (performed D s (memoryOf P)) P (n .next) u
+step-facts E D (Read (Plain s)) n P u = simple-facts (failing (inForce E (P .rows)) (P .values) s) (performed E D s (memoryOf P)) P (n .next) u
 step-facts E D (Read (If c x y)) n P u = branch-facts (conditionHolds (P .values) c) P n
 step-facts E D (Read (While c x)) n P u = branch-facts (conditionHolds (P .values) c) P n
 step-facts E D (Read (Bundle x)) n P u = moves P (moved P (memoryOf P) (n .next)) refl refl

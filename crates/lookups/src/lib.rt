@@ -5,7 +5,7 @@ use rules::KnownEnd;
 ghost use mathlib.Core.Path.{_≡_};
 ghost use mathlib.Core.Bool.{false};
 ghost use lib.ListN.{getD};
-ghost use Rattle.rules.specs.BoundsRules.{nothingKnown, rowBound, inForce};
+ghost use Rattle.rules.specs.BoundsRules.{nothingKnown, sized, rowBound, inForce};
 
 // v is a pointer.
 pub fn is_pointer(pointers: [bool; 17], v: usize) -> bool
@@ -25,6 +25,7 @@ pub fn bounds_at(each: [Bounds; 16], p: usize) -> Bounds
         return each[p];
     }
     Bounds {
+        size: 1,
         lower: KnownEnd::Unknown,
         upper: KnownEnd::Unknown,
     }
@@ -48,9 +49,29 @@ fn row_at(each: [Bounds; 64], r: usize) -> Bounds
         return each[r];
     }
     Bounds {
+        size: 1,
         lower: KnownEnd::Unknown,
         upper: KnownEnd::Unknown,
     }
+}
+
+// The element size of a variable.
+pub fn size_at(sizes: [u64; 16], v: usize) -> u64
+    ensures { λ r. ⌜ r ≡ getD sizes v 1 ⌝ }
+{
+    if v < 16 {
+        return sizes[v];
+    }
+    1
+}
+
+// The ends of b for a pointer with this element size.
+fn sized(size: u64, b: Bounds) -> Bounds
+    ensures { λ r. ⌜ r ≡ sized size b ⌝ }
+{
+    let lower = b.lower;
+    let upper = b.upper;
+    Bounds { size, lower, upper }
 }
 
 // The rows in force: for each pointer 0, its own bound, or the row's number and 1.
@@ -64,10 +85,11 @@ pub fn row_bound(environment: Environment, n: usize, p: usize) -> Bounds
 {
     let own = environment.declared;
     let rows = environment.rows;
+    let sizes = environment.sizes;
     if n == 0 {
         return bounds_at(own, p);
     }
-    row_at(rows, n - 1)
+    sized(size_at(sizes, p), row_at(rows, n - 1))
 }
 
 // The environment in force.
@@ -75,6 +97,7 @@ pub fn in_force(environment: Environment, rows: Rows) -> Environment
     ensures { λ r. ⌜ r ≡ inForce environment (rows .each) ⌝ }
 {
     let pointers = environment.pointers;
+    let sizes = environment.sizes;
     let lengths = environment.lengths;
     let all = environment.rows;
     let mut declared = environment.declared;
@@ -83,6 +106,7 @@ pub fn in_force(environment: Environment, rows: Rows) -> Environment
     }
     Environment {
         pointers,
+        sizes,
         declared,
         lengths,
         rows: all,

@@ -12,7 +12,7 @@ use Rattle.sums.specs.Numbers.{bias}
 use Rattle.statements.specs.declared.Simple.{Simple}
 use Rattle.statements.specs.declared.Simple.the-variants.{Literal, AddConstant, Arithmetic, Null, Address, PointerOffset, PointerIndex, Load, Store, Check, Declare}
 use Rattle.rules.specs.FactsTrue.{neither}
-use Rattle.rules.specs.BoundsRules.{declared}
+use Rattle.rules.specs.BoundsRules.{declared, elementSize}
 use Rattle.rules.specs.BoundsTrue.{endAt, BoundsHold}
 use Rattle.rules.specs.EnvironmentLaws.{DeclaredEnds}
 use Rattle.rules.specs.declared.KnownEnd.the-variants.{Known}
@@ -52,15 +52,16 @@ Ready E D objects (Declare p r) m = Unit {0}
 
 module _ (E : Environment) (D : List ℕ) (objects : ℕ) (m : Memory) (p : ℕ) (ends : DeclaredEnds E p) where
   -- The declared ends by their values.
-  pub lower-value : lowerEnd E (m .values) p ≡ endAt (value (m .values)) (ends .low)
+  pub lower-value : lowerEnd E (m .values) p ≡ endAt (value (m .values)) (elementSize E p) (ends .low)
   lower-value = rw (ends .bounds)
 
-  pub upper-value : upperEnd E (m .values) p ≡ endAt (value (m .values)) (ends .high)
+  pub upper-value : upperEnd E (m .values) p ≡ endAt (value (m .values)) (elementSize E p) (ends .high)
   upper-value = rw (ends .bounds)
 
   pub ends-inside : (l u : ℕ) → BoundsHold l u (declared E p) (value (m .values)) → (l ≤ lowerEnd E (m .values) p) × (upperEnd E (m .values) p ≤ u)
   ends-inside l u b =
-      let c : BoundsHold l u (record { lower = Known (ends .low); upper = Known (ends .high) }) (value (m .values)) = rw (ends .bounds) at b in
+      let c : BoundsHold l u (record { size = elementSize E p; lower = Known (ends .low); upper = Known (ends .high) }) (value (m .values)) = rw
+      (ends .bounds) at b in
       (omega (arith, c .lower .1, lower-value), omega (arith, c .upper .1, upper-value))
 
   pub access-inside : (a : ℕ) → accessFailing E (m .values) p a ≡ none → TrueOf D objects m p (declared E p) → Inside D objects (getD (m .origins) p 0) a

@@ -144,11 +144,11 @@ module _ (T : List ℤ) (h : Sections) (E : Environment) (D : List ℕ) (room : 
         let shown = access-passed (accessIn E F K s) a (no-first _ _ q) in
         let next = lead (a + 1) (length ss) after in
         rw (step-at P a _ _ (i .0) (l .0) (l .1))
-        (checked (GoalLine a (s ∷ ss) F K after (memoryOf P)) P next (failing (inForce E (P .rows)) (P .values) s) (performed D s (memoryOf P))
+        (checked (GoalLine a (s ∷ ss) F K after (memoryOf P)) P next (failing (inForce E (P .rows)) (P .values) s) (performed E D s (memoryOf P))
         (λ e.
         done-map
         (λ n w. (into (enter-line (a + 1) ss (stateAfter s F) (boundsAfter (effect E (F .facts) s) K) after next n refl (w .good)), λ z r. w .agree z (among-left z (target s) (targets ss) r)))
-        (performed D s (memoryOf P)) (performed-good T h E D room S F K (memoryOf P) (i .1) s typed (ready-inside s F K (memoryOf P) typed shown (i .1)) e)))
+        (performed E D s (memoryOf P)) (performed-good T h E D room S F K (memoryOf P) (i .1) s typed (ready-inside s F K (memoryOf P) typed shown (i .1)) e)))
     line-step a (s ∷ ss) F K after P l q (inr i) =
         fine-map (λ d n w. (into (w .0), λ z r. w .1 z (among-right z (target s) (targets ss) r)))
         (line-step (a + 1) ss (stateAfter s F) (boundsAfter (effect E (F .facts) s) K) after P (l .2) (no-rest _ _ (no-rest _ _ q)) i)
@@ -289,14 +289,15 @@ module _ (T : List ℤ) (h : Sections) (E : Environment) (D : List ℕ) (room : 
         let typed = read-typed T h a (Plain s) (l .0) in
         let shown = bounds-passed a _ (no-first _ _ (no-rest _ _ q)) in
         rw (step-at P a _ _ (i .0) (l .0) (l .1))
-        (checked (Goal (plain a s r) F after (memoryOf P)) P (entry r after) (failing (inForce E (P .rows)) (P .values) s) (performed D s (memoryOf P))
+        (checked (Goal (plain a s r) F after (memoryOf P)) P (entry r after) (failing (inForce E (P .rows)) (P .values) s) (performed E D s (memoryOf P))
         (λ e.
         done-map
         (λ n w. (
           into (enter r (stateAfter s F) after (entry r after) n (l .2) refl (redeclared T h E D room S (stateAfter s F) (boundsAfter (effect E (F .facts) s) (declaredIn E F)) n shown (w .good))),
           λ z u. w .agree z (among-left z (target s) (assigned r) u),
         ))
-        (performed D s (memoryOf P)) (performed-good T h E D room S F (declaredIn E F) (memoryOf P) (i .1) s typed (ready-outside s F (memoryOf P) typed (i .1)) e)))
+        (performed E D s (memoryOf P))
+        (performed-good T h E D room S F (declaredIn E F) (memoryOf P) (i .1) s typed (ready-outside s F (memoryOf P) typed (i .1)) e)))
     block-step (plain a s r) F after P l q (inr i) =
         fine-map (λ d n w. (into (w .0), λ z u. w .1 z (among-right z (target s) (assigned r) u)))
         (block-step r (stateAfter s F) after P (l .2) (no-rest _ _ (no-rest _ _ q)) i)

@@ -97,7 +97,7 @@ module _ (D : List ℕ) (R : ℕ → Type 0) where
     framed-values : (vs os rs : List ℕ) (n : ℕ) → Origins R os → Framed D R P (moved P (record { cells = P .cells; values = vs; origins = os; rows = rs }) n)
     framed-values vs os rs n r = record { origins = r; long = refl; elsewhere = λ i e. refl }
 
-    simple-framed : (s : Simple) (n : ℕ) → ((p o : ℕ) → s ≡ Address p o → R o) → Framed D R P (afterPerformed P n (performed D s (memoryOf P)))
+    simple-framed : (s : Simple) (n : ℕ) → ((p o : ℕ) → s ≡ Address p o → R o) → Framed D R P (afterPerformed P n (performed E D s (memoryOf P)))
     unfolding performed
     simple-framed (Literal x k) n named = framed-values _ _ _ n origins
     simple-framed (AddConstant x y k) n named = framed-values _ _ _ n origins
@@ -107,25 +107,25 @@ module _ (D : List ℕ) (R : ℕ → Type 0) where
         framed-values _ _ _ n (set-origins D R (P .origins) p (o + 1) origins (λ k e. let q : k ≡ o = omega arith in rw q (named p o refl)))
     simple-framed (PointerOffset p q k) n named = framed-values _ _ _ n (set-origins D R (P .origins) p _ origins (origins q))
     simple-framed (PointerIndex p q i) n named = framed-values _ _ _ n (set-origins D R (P .origins) p _ origins (origins q))
-    simple-framed (Load x p i k) n named = go (inOrigin D (getD (P .origins) p 0) (address (P .values) p i k))
+    simple-framed (Load x p i k) n named = go (inOrigin D (getD (P .origins) p 0) (address E (P .values) p i k))
       where
-        go : (b : Bool) → Framed D R P (afterPerformed P n (stepIf b (setInteger (memoryOf P) x (getD (P .cells) (address (P .values) p i k - bias) 0))))
+        go : (b : Bool) → Framed D R P (afterPerformed P n (stepIf b (setInteger (memoryOf P) x (getD (P .cells) (address E (P .values) p i k - bias) 0))))
         go true = framed-values _ _ _ n origins
         go false = framed-none P _ origins refl refl
-    simple-framed (Store p i k x) n named = go (inOrigin D (getD (P .origins) p 0) (address (P .values) p i k)) refl
+    simple-framed (Store p i k x) n named = go (inOrigin D (getD (P .origins) p 0) (address E (P .values) p i k)) refl
       where
-        go : (b : Bool) → inOrigin D (getD (P .origins) p 0) (address (P .values) p i k) ≡ b
-            → Framed D R P (afterPerformed P n (stepIf b (done (record { cells = set (P .cells) (address (P .values) p i k - bias) (value (P .values) x); values = P .values; origins = P .origins; rows = P .rows }))))
+        go : (b : Bool) → inOrigin D (getD (P .origins) p 0) (address E (P .values) p i k) ≡ b
+            → Framed D R P (afterPerformed P n (stepIf b (done (record { cells = set (P .cells) (address E (P .values) p i k - bias) (value (P .values) x); values = P .values; origins = P .origins; rows = P .rows }))))
         go true e = record {
           origins = origins;
           long = length-set (P .cells) _ _;
-          elsewhere = λ j f. set-elsewhere D R (P .cells) _ _ j (reached p (address (P .values) p i k) e) f;
+          elsewhere = λ j f. set-elsewhere D R (P .cells) _ _ j (reached p (address E (P .values) p i k) e) f;
         }
         go false e = framed-none P _ origins refl refl
     simple-framed (Check c) n named = framed-none P _ origins refl refl
     simple-framed (Declare p r) n named = framed-values _ _ _ n origins
 
-    checked-framed : (f : Failing) (s : Simple) (n : ℕ) → ((p o : ℕ) → s ≡ Address p o → R o) → Framed D R P (afterChecks f P n (performed D s (memoryOf P)))
+    checked-framed : (f : Failing) (s : Simple) (n : ℕ) → ((p o : ℕ) → s ≡ Address p o → R o) → Framed D R P (afterChecks f P n (performed E D s (memoryOf P)))
     checked-framed (fails k) s n named = framed-none P _ origins refl refl
     checked-framed none s n named = simple-framed s n named
 
@@ -146,7 +146,8 @@ module _ (D : List ℕ) (R : ℕ → Type 0) where
       abbrev other : Point
       other = withCells P ds
 
-      simple-alike : (s : Simple) (n : ℕ) → Alike D R (afterPerformed P n (performed D s (memoryOf P))) (afterPerformed other n (performed D s (memoryOf other)))
+      simple-alike : (s : Simple) (n : ℕ)
+          → Alike D R (afterPerformed P n (performed E D s (memoryOf P))) (afterPerformed other n (performed E D s (memoryOf other)))
       unfolding performed
       simple-alike (Literal x k) n = alike-with _ ds same
       simple-alike (AddConstant x y k) n = alike-with _ ds same
@@ -155,24 +156,26 @@ module _ (D : List ℕ) (R : ℕ → Type 0) where
       simple-alike (Address p o) n = alike-with _ ds same
       simple-alike (PointerOffset p q k) n = alike-with _ ds same
       simple-alike (PointerIndex p q i) n = alike-with _ ds same
-      simple-alike (Load x p i k) n = go (inOrigin D (getD (P .origins) p 0) (address (P .values) p i k)) refl
+      simple-alike (Load x p i k) n = go (inOrigin D (getD (P .origins) p 0) (address E (P .values) p i k)) refl
         where
-          go : (b : Bool) → inOrigin D (getD (P .origins) p 0) (address (P .values) p i k) ≡ b
-              → Alike D R (afterPerformed P n (stepIf b (setInteger (memoryOf P) x (getD (P .cells) (address (P .values) p i k - bias) 0))))
-              (afterPerformed other n (stepIf b (setInteger (memoryOf other) x (getD ds (address (P .values) p i k - bias) 0))))
-          go true e = rw (same .cells _ (reached p (address (P .values) p i k) e)) (alike-with _ ds same)
+          go : (b : Bool) → inOrigin D (getD (P .origins) p 0) (address E (P .values) p i k) ≡ b
+              → Alike D R (afterPerformed P n (stepIf b (setInteger (memoryOf P) x (getD (P .cells) (address E (P .values) p i k - bias) 0))))
+              (afterPerformed other n (stepIf b (setInteger (memoryOf other) x (getD ds (address E (P .values) p i k - bias) 0))))
+          go true e = rw (same .cells _ (reached p (address E (P .values) p i k) e)) (alike-with _ ds same)
           go false e = alike-with _ ds same
-      simple-alike (Store p i k x) n = go (inOrigin D (getD (P .origins) p 0) (address (P .values) p i k))
+      simple-alike (Store p i k x) n = go (inOrigin D (getD (P .origins) p 0) (address E (P .values) p i k))
         where
           go : (b : Bool)
-              → Alike D R (afterPerformed P n (stepIf b (done (record { cells = set (P .cells) (address (P .values) p i k - bias) (value (P .values) x); values = P .values; origins = P .origins; rows = P .rows }))))
-              (afterPerformed other n (stepIf b (done (record { cells = set ds (address (P .values) p i k - bias) (value (P .values) x); values = P .values; origins = P .origins; rows = P .rows }))))
+              → Alike D R (afterPerformed P n (stepIf b (done (record { cells = set (P .cells) (address E (P .values) p i k - bias) (value (P .values) x); values = P .values; origins = P .origins; rows = P .rows }))))
+              (afterPerformed other n
+              (stepIf b (done (record { cells = set ds (address E (P .values) p i k - bias) (value (P .values) x); values = P .values; origins = P .origins; rows = P .rows }))))
           go true = alike-with _ _ (set-same D R (P .cells) ds _ _ same)
           go false = alike-with _ ds same
       simple-alike (Check c) n = alike-with _ ds same
       simple-alike (Declare p r) n = alike-with _ ds same
 
-      checked-alike : (f : Failing) (s : Simple) (n : ℕ) → Alike D R (afterChecks f P n (performed D s (memoryOf P))) (afterChecks f other n (performed D s (memoryOf other)))
+      checked-alike : (f : Failing) (s : Simple) (n : ℕ)
+          → Alike D R (afterChecks f P n (performed E D s (memoryOf P))) (afterChecks f other n (performed E D s (memoryOf other)))
       checked-alike (fails k) s n = alike-with _ ds same
       checked-alike none s n = simple-alike s n
 

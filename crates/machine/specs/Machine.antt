@@ -17,7 +17,7 @@ use Rattle.statements.specs.declared.StatementRead.{StatementRead}
 use Rattle.statements.specs.declared.StatementRead.the-variants.{Read, Unread}
 use Rattle.variables.specs.declared.End.{End}
 use Rattle.flow.specs.Flow.{Successors, successors, tableFlow, tableEntry}
-use Rattle.rules.specs.BoundsRules.{declared, ownRows, inForce, rowsAfter}
+use Rattle.rules.specs.BoundsRules.{declared, ownRows, inForce, rowsAfter, elementSize}
 use Rattle.rules.specs.declared.KnownEnd.{KnownEnd}
 use Rattle.rules.specs.declared.KnownEnd.the-variants.{Known, Unknown}
 use Rattle.rules.specs.declared.Environment.{Environment}
@@ -29,8 +29,9 @@ abbrev pub value : List ℕ → ℕ → ℕ
 value vs x = getD vs x 0
 
 -- "An end's value is the whole number pointer + integer + k, never wrapped; null is 0, a missing integer is 0." With the bias.
-abbrev pub endValue : List ℕ → End → ℕ
-endValue vs e = value vs (e .pointer) + value vs (e .integer) + e .constant
+-- Point 10: "an end's integer is multiplied by the s of the pointer it bounds".
+abbrev pub endValue : List ℕ → ℕ → End → ℕ
+endValue vs s e = value vs (e .pointer) + s * value vs (e .integer) + e .constant
 
 -- The end of a declared bound; an integer has none.
 abbrev pub endOf : KnownEnd → End
@@ -38,10 +39,10 @@ endOf (Known e) = e
 endOf Unknown = record { pointer = 0; integer = 0; constant = 0 }
 
 abbrev pub lowerEnd : Environment → List ℕ → ℕ → ℕ
-lowerEnd E vs p = endValue vs (endOf (declared E p .lower))
+lowerEnd E vs p = endValue vs (elementSize E p) (endOf (declared E p .lower))
 
 abbrev pub upperEnd : Environment → List ℕ → ℕ → ℕ
-upperEnd E vs p = endValue vs (endOf (declared E p .upper))
+upperEnd E vs p = endValue vs (elementSize E p) (endOf (declared E p .upper))
 
 -- "The memory directory is one pair of offset and length per object": object o is the cells low to high - 1.
 abbrev pub low : List ℕ → ℕ → ℕ
@@ -88,9 +89,13 @@ abbrev pub firstUnless : Bool → Failing → Failing
 firstUnless true rest = none
 firstUnless false rest = rest
 
--- The address p + i + k of an access, with the bias.
-abbrev pub address : List ℕ → ℕ → ℕ → ℕ → ℕ
-address vs p i k = value vs p + value vs i + k
+-- Point 10: "an access is at p + s times i + k; each k stays in cells". With the bias.
+abbrev pub address : Environment → List ℕ → ℕ → ℕ → ℕ → ℕ
+address E vs p i k = value vs p + elementSize E p * value vs i + k
+
+-- Point 10: "Kind 7 moves by s of q times i": the whole number.
+abbrev pub indexed : Environment → List ℕ → ℕ → ℕ → ℕ
+indexed E vs q i = value vs q + elementSize E q * value vs i
 
 -- "2 access through null; 3 address p + i + k below the lower end or not below the upper"
 unfoldable pub accessFailing : Environment → List ℕ → ℕ → ℕ → Failing
@@ -108,9 +113,9 @@ failing E vs (Null p) = none
 failing E vs (Address p o) = none
 -- "(kind 6 with k not 0, kind 7)"
 failing E vs (PointerOffset p q k) = firstUnless (eqb k bias) (arithmeticFailing (value vs q) (value vs q + k))
-failing E vs (PointerIndex p q i) = arithmeticFailing (value vs q) (value vs q + value vs i + bias)
-failing E vs (Load x p i k) = accessFailing E vs p (address vs p i k)
-failing E vs (Store p i k x) = accessFailing E vs p (address vs p i k)
+failing E vs (PointerIndex p q i) = arithmeticFailing (value vs q) (indexed E vs q i + bias)
+failing E vs (Load x p i k) = accessFailing E vs p (address E vs p i k)
+failing E vs (Store p i k x) = accessFailing E vs p (address E vs p i k)
 -- "1 dynamic check false"
 failing E vs (Check c) = firstOf (not (conditionHolds vs c)) 1 none
 failing E vs (Declare p r) = none
@@ -161,23 +166,28 @@ stepIf false p = no-step
 
 -- "Kinds 1 to 3 set x, modulo 4,294,967,296. Kind 4 gives p 0 and origin 0; kind 5 the offset of o and origin o + 1; 6 and 7 the whole number q + k or
 -- q + i and q's origin. Kinds 8 and 9 read or write the cell at the whole number p + i + k; where no check fails, they have a step only if it lies in
--- p's origin object. Kind 10 changes nothing."
-unfoldable pub performed : List ℕ → Simple → Memory → Performed
-performed D (Literal x k) m = setInteger m x k
-performed D (AddConstant x y k) m = setInteger m x ((value (m .values) y + k) % 2 ^ 32)
-performed D (Arithmetic x y z op) m = setInteger m x (combined op (value (m .values) y) (value (m .values) z))
-performed D (Null p) m = setPointer m p 0 0
-performed D (Address p o) m = setPointer m p (low D o) (o + 1)
-performed D (PointerOffset p q k) m = setPointer m p (value (m .values) q + k - bias) (getD (m .origins) q 0)
-performed D (PointerIndex p q i) m = setPointer m p (value (m .values) q + value (m .values) i) (getD (m .origins) q 0)
-performed D (Load x p i k) m =
-    stepIf (inOrigin D (getD (m .origins) p 0) (address (m .values) p i k)) (setInteger m x (getD (m .cells) (address (m .values) p i k - bias) 0))
-performed D (Store p i k x) m =
-    stepIf (inOrigin D (getD (m .origins) p 0) (address (m .values) p i k))
-    (done (record { cells = set (m .cells) (address (m .values) p i k - bias) (value (m .values) x); values = m .values; origins = m .origins; rows = m .rows }))
-performed D (Check c) m = done m
+-- p's origin object. Kind 10 changes nothing." Each i is multiplied by an element size (`indexed`, `address`).
+unfoldable pub performed : Environment → List ℕ → Simple → Memory → Performed
+performed E D (Literal x k) m = setInteger m x k
+performed E D (AddConstant x y k) m = setInteger m x ((value (m .values) y + k) % 2 ^ 32)
+performed E D (Arithmetic x y z op) m = setInteger m x (combined op (value (m .values) y) (value (m .values) z))
+performed E D (Null p) m = setPointer m p 0 0
+performed E D (Address p o) m = setPointer m p (low D o) (o + 1)
+performed E D (PointerOffset p q k) m = setPointer m p (value (m .values) q + k - bias) (getD (m .origins) q 0)
+performed E D (PointerIndex p q i) m = setPointer m p (indexed E (m .values) q i) (getD (m .origins) q 0)
+performed E D (Load x p i k) m =
+    stepIf (inOrigin D (getD (m .origins) p 0) (address E (m .values) p i k)) (setInteger m x (getD (m .cells) (address E (m .values) p i k - bias) 0))
+performed E D (Store p i k x) m =
+    stepIf (inOrigin D (getD (m .origins) p 0) (address E (m .values) p i k))
+    (done (record {
+      cells = set (m .cells) (address E (m .values) p i k - bias) (value (m .values) x);
+      values = m .values;
+      origins = m .origins;
+      rows = m .rows;
+    }))
+performed E D (Check c) m = done m
 -- Point 2: a kind 14 changes the row in force, and nothing else.
-performed D (Declare p r) m = done (record { cells = m .cells; values = m .values; origins = m .origins; rows = rowsAfter (Declare p r) (m .rows) })
+performed E D (Declare p r) m = done (record { cells = m .cells; values = m .values; origins = m .origins; rows = rowsAfter (Declare p r) (m .rows) })
 
 -- ---- steps. The machine is fed the routine (T, with its sections h and what it declares, E), the directory D, and a point.
 
@@ -210,7 +220,7 @@ branched false P s = moved P (memoryOf P) (s .other)
 -- "An if, a bundle, or a while whose condition holds makes its block (of an if the chosen one) due from its first statement. After any other statement, and
 -- after a while whose condition fails, the next in the same block is due." The successors are those of the flow.
 unfoldable pub statementStep : Environment → List ℕ → StatementRead → Successors → Point → Point
-statementStep E D (Read (Plain s)) n P = afterChecks (failing (inForce E (P .rows)) (P .values) s) P (n .next) (performed D s (memoryOf P))
+statementStep E D (Read (Plain s)) n P = afterChecks (failing (inForce E (P .rows)) (P .values) s) P (n .next) (performed E D s (memoryOf P))
 statementStep E D (Read (If c x y)) n P = branched (conditionHolds (P .values) c) P n
 statementStep E D (Read (While c x)) n P = branched (conditionHolds (P .values) c) P n
 statementStep E D (Read (Bundle x)) n P = moved P (memoryOf P) (n .next)

@@ -27,7 +27,7 @@ use Rattle.rules.specs.BoundsTrue.{known-after}
 use Rattle.rules.specs.declared.Bounds.{Bounds}
 use Rattle.rules.specs.declared.Effect.the-variants.{Keep}
 use Rattle.rules.specs.declared.Environment.{Environment}
-use Rattle.machine.specs.Machine.{value, low, conditionHolds, none, firstOf, firstUnless, address, arithmeticFailing, accessFailing, failing, Memory, combined, performed}
+use Rattle.machine.specs.Machine.{value, low, conditionHolds, none, firstOf, firstUnless, address, arithmeticFailing, accessFailing, failing, Memory, combined, performed, indexed}
 use Rattle.machine.specs.Good.{Setting, TrueOf, Steady, Good}
 use Rattle.machine.specs.ConditionSound.{condition-holds}
 use Rattle.machine.specs.AccessSound.{Inside, Ready, inside-origin, access-inside, first-none}
@@ -105,20 +105,23 @@ module _ (T : List ℤ) (h : Sections) (E : Environment) (D : List ℕ) (room : 
         agree = pointer-agree T h E D room S W K m g p (value (m .values) q + k - bias) (getD (m .origins) q 0) (t .target) small;
       }
 
-  index-done : (p q i : ℕ) → SimpleTyped T h (PointerIndex p q i) → arithmeticFailing (value (m .values) q) (value (m .values) q + value (m .values) i + bias) ≡ none
-      → Left T h E D room S W K (PointerIndex p q i) m (derivedSet m p q (value (m .values) q + value (m .values) i))
+  index-done : (p q i : ℕ) → SimpleTyped T h (PointerIndex p q i) → arithmeticFailing (value (m .values) q) (indexed E (m .values) q i + bias) ≡ none
+      → Left T h E D room S W K (PointerIndex p q i) m (derivedSet m p q (indexed E (m .values) q i))
   unfolding factRules.factsAfter boundsRules.effect rowsAfter
   index-done p q i t e =
-      let r = moves (value (m .values) q) (value (m .values) q + value (m .values) i + bias) e in
-      let above : bias < value (m .values) q + value (m .values) i + bias = r .above in
-      let below : value (m .values) q + value (m .values) i + bias ≤ bias + maxValue = r .below in
-      let small : value (m .values) q + value (m .values) i ≤ maxValue = omega arith in
+      let r = moves (value (m .values) q) (indexed E (m .values) q i + bias) e in
+      let above : bias < indexed E (m .values) q i + bias = r .above in
+      let below : indexed E (m .values) q i + bias ≤ bias + maxValue = r .below in
+      let small : indexed E (m .values) q i ≤ maxValue = omega arith in
       record {
-        good = index-left T h E D room S W K m g p q (value (m .values) q + value (m .values) i) (t .target) (t .source) small (λ z. absurd (r .some z)) (omega arith) (eqb p q) refl;
-        agree = pointer-agree T h E D room S W K m g p (value (m .values) q + value (m .values) i) (getD (m .origins) q 0) (t .target) small;
+        good =
+            index-left T h E D room S W K m g p q (indexed E (m .values) q i) (t .target) (t .source) small (λ z. absurd (r .some z)) (omega arith)
+            (eqb p q) refl;
+        agree = pointer-agree T h E D room S W K m g p (indexed E (m .values) q i) (getD (m .origins) q 0) (t .target) small;
       }
 
-  pub performed-good : (s : Simple) → SimpleTyped T h s → Ready (inForce E (m .rows)) D (h .objects) s m → failing (inForce E (m .rows)) (m .values) s ≡ none → Done (Left T h E D room S W K s m) (performed D s m)
+  pub performed-good : (s : Simple) → SimpleTyped T h s → Ready (inForce E (m .rows)) D (h .objects) s m → failing (inForce E (m .rows)) (m .values) s ≡ none
+      → Done (Left T h E D room S W K s m) (performed E D s m)
   unfolding performed failing factRules.factsAfter boundsRules.effect rowsAfter boundsRules.effectOn
   performed-good (Literal x k) t r e =
       let small : k ≤ maxValue = omega (arith, t .value) in
@@ -140,13 +143,13 @@ module _ (T : List ℤ) (h : Sections) (E : Environment) (D : List ℕ) (room : 
   performed-good (PointerOffset p q k) t r e = offset-done p q k t (eqb k bias) refl e
   performed-good (PointerIndex p q i) t r e = index-done p q i t e
   performed-good (Load x p i k) t r e =
-      let a = address (m .values) p i k in
+      let a = address E (m .values) p i k in
       let b = getD (m .cells) (a - bias) 0 in
       let small = g .steady .cells-small (a - bias) in
       rw (inside-origin D (h .objects) (getD (m .origins) p 0) a (pointer-inside p a (t .pointer) e r))
       (record { good = integer-dropped T h E D room S W K m g x b (t .value) small; agree = integer-agree T h E D room S W K m g x b (t .value) small })
   performed-good (Store p i k x) t r e =
-      let a = address (m .values) p i k in
+      let a = address E (m .values) p i k in
       let inside = pointer-inside p a (t .pointer) e r in
       rw (inside-origin D (h .objects) (getD (m .origins) p 0) a inside)
       (record { good = keep-good (W .facts) (set (m .cells) (a - bias) (value (m .values) x)) (g .facts) (store-steady a x (getD (m .origins) p 0) inside); agree = λ z n. refl })

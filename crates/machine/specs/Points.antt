@@ -32,26 +32,26 @@ pub data Access : Type 0 where
   no-access : Access
   access : ℕ → ℕ → Access
 
--- "Kinds 8 and 9 read or write the cell at the whole number p + i + k".
-abbrev pub simpleAccess : Simple → Memory → Access
-simpleAccess (Literal x k) m = no-access
-simpleAccess (AddConstant x y k) m = no-access
-simpleAccess (Arithmetic x y z op) m = no-access
-simpleAccess (Null p) m = no-access
-simpleAccess (Address p o) m = no-access
-simpleAccess (PointerOffset p q k) m = no-access
-simpleAccess (PointerIndex p q i) m = no-access
-simpleAccess (Load x p i k) m = access (address (m .values) p i k) (getD (m .origins) p 0)
-simpleAccess (Store p i k x) m = access (address (m .values) p i k) (getD (m .origins) p 0)
-simpleAccess (Check c) m = no-access
-simpleAccess (Declare p r) m = no-access
+-- "Kinds 8 and 9 read or write the cell at the whole number p + i + k"; point 10: "an access is at p + s times i + k".
+abbrev pub simpleAccess : Environment → Simple → Memory → Access
+simpleAccess E (Literal x k) m = no-access
+simpleAccess E (AddConstant x y k) m = no-access
+simpleAccess E (Arithmetic x y z op) m = no-access
+simpleAccess E (Null p) m = no-access
+simpleAccess E (Address p o) m = no-access
+simpleAccess E (PointerOffset p q k) m = no-access
+simpleAccess E (PointerIndex p q i) m = no-access
+simpleAccess E (Load x p i k) m = access (address E (m .values) p i k) (getD (m .origins) p 0)
+simpleAccess E (Store p i k x) m = access (address E (m .values) p i k) (getD (m .origins) p 0)
+simpleAccess E (Check c) m = no-access
+simpleAccess E (Declare p r) m = no-access
 
 abbrev pub unlessFailing : Failing → Access → Access
 unlessFailing none a = a
 unlessFailing (fails n) a = no-access
 
 abbrev pub statementAccess : Environment → StatementRead → Memory → Access
-statementAccess E (Read (Plain s)) m = unlessFailing (failing (inForce E (m .rows)) (m .values) s) (simpleAccess s m)
+statementAccess E (Read (Plain s)) m = unlessFailing (failing (inForce E (m .rows)) (m .values) s) (simpleAccess E s m)
 statementAccess E (Read (If c x y)) m = no-access
 statementAccess E (Read (While c x)) m = no-access
 statementAccess E (Read (Bundle x)) m = no-access

@@ -146,7 +146,7 @@ module _ (T : List ℤ) (h : Sections) (E : Environment) (D : List ℕ) (room : 
         }
 
     simple-allowed : (s : Simple) (a : ℕ) (m : Memory) → Steady h room m → Named h (m .rows) → statementAt T h a ≡ Read (Plain s) → Ready (inForce E (m .rows)) D (h .objects) s m → failing (inForce E (m .rows)) (m .values) s ≡ none
-        → AccessAllowed D (length (m .cells)) (simpleAccess s m)
+        → AccessAllowed D (length (m .cells)) (simpleAccess E s m)
     unfolding failing
     simple-allowed (Literal x k) a m w n r y e = tt
     simple-allowed (AddConstant x q k) a m w n r y e = tt
@@ -166,10 +166,10 @@ module _ (T : List ℤ) (h : Sections) (E : Environment) (D : List ℕ) (room : 
 
     -- The access of the statement that is due at a point, where no check fails.
     pub due-allowed : (P : Point) → Invariant P → (s : Simple) → statementAt T h (P .due) ≡ Read (Plain s) → failing (inForce E (P .rows)) (P .values) s ≡ none
-        → AccessAllowed D (length (P .cells)) (simpleAccess s (memoryOf P))
+        → AccessAllowed D (length (P .cells)) (simpleAccess E s (memoryOf P))
     due-allowed P i s r e = go (somewhere P i)
       where
-        go : Somewhere P → AccessAllowed D (length (P .cells)) (simpleAccess s (memoryOf P))
+        go : Somewhere P → AccessAllowed D (length (P .cells)) (simpleAccess E s (memoryOf P))
         go (inl w) = simple-allowed s (P .due) (memoryOf P) (w .good .steady) (rw (w .good .rows) (w .good .named)) r (w .ready s r) e
         go (inr w) = absurd (omega (arith, w .0, read-within T h (P .due) (Plain s) r))
 
@@ -178,7 +178,7 @@ module _ (T : List ℤ) (h : Sections) (E : Environment) (D : List ℕ) (room : 
     from-allowed P going i = due (ltb (P .due) (h .statements))
       where
         checked : (s : Simple) → statementAt T h (P .due) ≡ Read (Plain s) → (c : Failing) → failing (inForce E (P .rows)) (P .values) s ≡ c
-            → AccessAllowed D (length (P .cells)) (unlessFailing c (simpleAccess s (memoryOf P)))
+            → AccessAllowed D (length (P .cells)) (unlessFailing c (simpleAccess E s (memoryOf P)))
         checked s r (fails n) e = tt
         checked s r none e = due-allowed P i s r e
 

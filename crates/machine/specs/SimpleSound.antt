@@ -21,7 +21,7 @@ use Rattle.blocks.specs.Tree.{target}
 use Rattle.rules.specs.Stored.{equated, sumFacts, offsetFacts, effect, effectOn, boundsAfter, stateAfter}
 use Rattle.rules.specs.BoundsRules as boundsRules
 use Rattle.rules.specs.FactsTrue.{Agree, among-one, equated-holds, positive-holds, sum-in-range}
-use Rattle.rules.specs.BoundsRules.{objectLength, known, forgetBounds, objectBounds}
+use Rattle.rules.specs.BoundsRules.{objectLength, known, forgetBounds, objectBounds, elementSize}
 use Rattle.rules.specs.BoundsTrue.{BoundsHold, forget-holds, shift-holds, object-holds}
 use Rattle.rules.specs.declared.Bounds.{Bounds}
 use Rattle.rules.specs.declared.Effect.{Effect}
@@ -87,9 +87,10 @@ module _ (T : List ℤ) (h : Sections) (E : Environment) (D : List ℕ) (room : 
   unfolding boundsRules.effectOn
   others-copy K v w x q a is r l u n b = rw (ne-eqb r x n) (forget-holds v w x (is .except) l u (known K r) b)
 
-  others-object : (K : List Bounds) (v w : ℕ → ℕ) (x k a : ℕ) → Assigned v w x a → (r l u : ℕ) → r ≢ x → BoundsHold l u (known K r) v → BoundsHold l u (effectOn (Object x k) K r) w
+  others-object : (K : List Bounds) (v w : ℕ → ℕ) (x s k a : ℕ) → Assigned v w x a → (r l u : ℕ) → r ≢ x → BoundsHold l u (known K r) v
+      → BoundsHold l u (effectOn (Object x s k) K r) w
   unfolding boundsRules.effectOn
-  others-object K v w x k a is r l u n b = rw (ne-eqb r x n) (forget-holds v w x (is .except) l u (known K r) b)
+  others-object K v w x s k a is r l u n b = rw (ne-eqb r x n) (forget-holds v w x (is .except) l u (known K r) b)
 
   module _ (W : State FactSet) (K : List Bounds) (m : Memory) (g : Good h E D room W K m) where
     abbrev F : FactSet
@@ -184,16 +185,17 @@ module _ (T : List ℤ) (h : Sections) (E : Environment) (D : List ℕ) (room : 
         pointer-good p 0 0 i (omega arith) (ranged F p 0 0) (Forget p) (ranged-fact p 0 0 i (omega arith) 0 0 (omega arith) (omega arith))
         (others-forget K v (valuesSet m p 0) p 0) (λ is e. inl (is .value-is))
 
-    pub address-left : (p o : ℕ) → IsPointer T h p → o < h .objects → GoodAfter (ranged F p 1 maxValue) (boundsAfter (Object p (objectLength E o)) K) (pointerSet m p (low D o) (o + 1))
+    pub address-left : (p o : ℕ) → IsPointer T h p → o < h .objects
+        → GoodAfter (ranged F p 1 maxValue) (boundsAfter (Object p (elementSize E p) (objectLength E o)) K) (pointerSet m p (low D o) (o + 1))
     unfolding boundsRules.effectOn
     address-left p o i l =
         let placed = S .placed o l in
         let long : getD D (2 * o + 1) 0 ≡ objectLength E o = placed .long in
         let inside : high D o ≤ room = placed .inside in
         let small : low D o ≤ maxValue = omega (arith, S .memory) in
-        pointer-good p (low D o) (o + 1) i small (ranged F p 1 maxValue) (Object p (objectLength E o))
+        pointer-good p (low D o) (o + 1) i small (ranged F p 1 maxValue) (Object p (elementSize E p) (objectLength E o))
         (ranged-fact p (low D o) (o + 1) i small 1 maxValue (placed .first) small)
-        (others-object K v (valuesSet m p (low D o)) p (objectLength E o) (low D o))
+        (others-object K v (valuesSet m p (low D o)) p (elementSize E p) (objectLength E o) (low D o))
         (λ is e.
         inr (record {
           object = o;
@@ -203,12 +205,14 @@ module _ (T : List ℤ) (h : Sections) (E : Environment) (D : List ℕ) (room : 
         }))
       where
         own : Assigned v (valuesSet m p (low D o)) p (low D o)
-            → BoundsHold (low D o + bias) (high D o + bias) (cond (eqb p p) (objectBounds p (objectLength E o)) (forgetBounds p (known K p))) (valuesSet m p (low D o))
+            → BoundsHold (low D o + bias) (high D o + bias)
+            (cond (eqb p p) (objectBounds p (elementSize E p) (objectLength E o)) (forgetBounds p (known K p))) (valuesSet m p (low D o))
         own is =
             let placed = S .placed o l in
             let long : getD D (2 * o + 1) 0 ≡ objectLength E o = placed .long in
             let inside : high D o ≤ room = placed .inside in
-            let b = object-holds (low D o) (objectLength E o) p (valuesSet m p (low D o)) (is .range) (variable-small p (i .below)) (omega (arith, S .memory)) (is .value-is) in
+            let b = object-holds (low D o) (elementSize E p) (objectLength E o) p (valuesSet m p (low D o)) (is .range) (variable-small p (i .below))
+            (is .value-is) in
             rw (eq-eqb p p refl, long) b
 
     -- p becomes q moved to the address a, with the origin of q.

@@ -33,7 +33,7 @@ use Rattle.blocks.specs.Tree.{Block, nil, plain, branch, loop, bundle, unread, 
 use Rattle.flow.specs.Shape.{size, ReadsLine, Reads, Formed as Shaped}
 use Rattle.flow.specs.ShapeLaws.{table-laid}
 use Rattle.rules.specs.States.{State}
-use Rattle.rules.specs.BoundsRules.{isPointer, declared, known, names, consIf, shiftEnd, shiftBounds, effectOn, boundsAfter, effect, endAtMost, knownAtMost, boundsShown, unshownFrom, unshown, accessShown, rowBound, inForce, rowUnshown}
+use Rattle.rules.specs.BoundsRules.{isPointer, declared, known, names, weight, comparableEnds, consIf, shiftEnd, shiftBounds, effectOn, boundsAfter, effect, endAtMost, knownAtMost, boundsShown, unshownFrom, unshown, accessShown, rowBound, inForce, rowUnshown}
 use Rattle.rules.specs.Rules.{accessAt, boundsAt, bundleBounds, bundleFaults, blockFaults, rowsAt, stateAfter, assumed, unshownIn, accessIn, declaredIn, bundleAfter, blockAfter}
 use Rattle.rules.specs.Verdict.{environmentOf, sectionFaults, formFaults, faults, verdictOf}
 use Rattle.rules.specs.RuleLaws.{no-first, no-rest}
@@ -42,7 +42,7 @@ use Rattle.rules.specs.Stored.{store}
 use Rattle.rules.specs.ByChains.{Decider, Decides, byChains, variables, DecidesTable}
 use Rattle.rules.specs.Representation.{Represents, shown-represented, end-represented, range-represented}
 use Rattle.rules.specs.StateRepresentation.{StateRepresents, new-represented, meets, state-after, state-assumed, state-negated, state-at-head}
-use Rattle.rules.specs.Fair.{FairKnown, FairBounds, FairAll, FairEffect, later, constant-moved, after-fair, declared-fair, statement-fair, number-fair}
+use Rattle.rules.specs.Fair.{weight-small, FairKnown, FairBounds, FairAll, FairEffect, later, constant-moved, after-fair, declared-fair, statement-fair, number-fair}
 use Rattle.rules.specs.declared.KnownEnd.{KnownEnd}
 use Rattle.rules.specs.declared.KnownEnd.the-variants.{Known, Unknown}
 use Rattle.rules.specs.declared.Bounds.{Bounds}
@@ -80,8 +80,9 @@ same-verdict [] (y ∷ ys) s = absurd s
 same-verdict (x ∷ xs) [] s = absurd s
 same-verdict (x ∷ xs) (y ∷ ys) s = ap Refused s
 
-same-bounds : {a b c d : KnownEnd} → a ≡ c → b ≡ d → _≡_ {A = Bounds} (record { lower = a; upper = b }) (record { lower = c; upper = d })
-same-bounds p q = rw (p, q)
+same-bounds : (s : ℕ) {a b c d : KnownEnd} → a ≡ c → b ≡ d
+    → _≡_ {A = Bounds} (record { size = s; lower = a; upper = b }) (record { size = s; lower = c; upper = d })
+same-bounds s p q = rw (p, q)
 
 three : {a b c x y z : Bool} → a ≡ x → b ≡ y → c ≡ z → (a || b && c) ≡ (x || y && z)
 three p q r = rw (p, q, r)
@@ -98,35 +99,44 @@ module _ (T : List ℤ) (h : Sections) (w : Formed T h) (q : Decider) (right : D
   -- ---- bounds
 
   -- The constants of ends in range are moved alike.
-  shift-agrees : (n v k : ℕ) (e : KnownEnd) → n ≤ 16 → IsSmall k → FairKnown vars n e → shiftEnd (byChains q) v k e ≡ shiftEnd store v k e
+  shift-agrees : (n s v k : ℕ) (e : KnownEnd) → n ≤ 16 → s ≤ 8 → IsSmall k → FairKnown vars n e → shiftEnd (byChains q) s v k e ≡ shiftEnd store s v k e
   unfolding shiftEnd
-  shift-agrees n v k Unknown l s a = refl
-  shift-agrees n v k (Known e) l s a = ap (λ (g : KnownEnd). cond (names e v) g (Known e)) (sym (constant-moved vars n k e l a s))
+  shift-agrees n s v k Unknown l m i a = refl
+  shift-agrees n s v k (Known e) l m i a =
+      ap (λ (g : KnownEnd). cond (names e v) g (Known e)) (sym (constant-moved vars n (weight s v e) k e l (weight-small s v e m) a i))
 
   on-agrees : (n : ℕ) (e : Effect) (K : List Bounds) → n ≤ 16 → FairEffect vars e → FairAll vars n K → (p : ℕ) → effectOn (byChains q) e K p ≡ effectOn store e K p
   unfolding effectOn shiftBounds
   on-agrees n Keep K l g a p = refl
   on-agrees n (Forget v) K l g a p = refl
-  on-agrees n (Shift v k) K l g a p = same-bounds (shift-agrees n v k (known K p .lower) l g (a p .lower)) (shift-agrees n v k (known K p .upper) l g (a p .upper))
+  on-agrees n (Shift v k) K l g a p =
+      let b = known K p in
+      same-bounds (b .size) (shift-agrees n (b .size) v k (b .lower) l (a p .size) g (a p .lower))
+      (shift-agrees n (b .size) v k (b .upper) l (a p .size) g (a p .upper))
   on-agrees n (Copy v r) K l g a p = refl
-  on-agrees n (Object v m) K l g a p = refl
+  on-agrees n (Object v s m) K l g a p = refl
 
   moved-agree : (n : ℕ) (e : Effect) (K : List Bounds) → n ≤ 16 → FairEffect vars e → FairAll vars n K → boundsAfter (byChains q) e K ≡ boundsAfter store e K
   unfolding boundsAfter
   moved-agree n e K l g a = tabulate-alike 16 (λ p i. on-agrees n e K l g a p)
 
   module _ {H : History} {f : FactSet} (t : Represents vars H f) where
-    known-agrees : (n : ℕ) (e g : KnownEnd) → n ≤ 16 → FairKnown vars n e → FairKnown vars n g → knownAtMost store f e g ≡ knownAtMost (byChains q) H e g
+    known-agrees : (n s t : ℕ) (e g : KnownEnd) → n ≤ 16 → s ≤ 8 → FairKnown vars n e → FairKnown vars n g
+        → knownAtMost store f s e t g ≡ knownAtMost (byChains q) H s e t g
     unfolding knownAtMost endAtMost
-    known-agrees n Unknown g l a b = refl
-    known-agrees n (Known e) Unknown l a b = refl
-    known-agrees n (Known e) (Known g) l a b =
-        end-represented vars q right t (e .pointer) (e .integer) (e .constant) (g .pointer) (g .integer) (g .constant) (a .pointer) (a .integer) (b .pointer) (b .integer) (omega (arith, a .high))
+    known-agrees n s z Unknown g l m a b = refl
+    known-agrees n s z (Known e) Unknown l m a b = refl
+    known-agrees n s z (Known e) (Known g) l m a b =
+        ap (λ (x : Bool). comparableEnds s e z g && x)
+        (end-represented vars q right t s (e .pointer) (e .integer) (e .constant) (g .pointer) (g .integer) (g .constant) m (a .pointer) (a .integer)
+        (b .pointer) (b .integer) (omega (arith, a .high)) (omega (arith, b .high)))
 
     bounds-agree : (n p : ℕ) (k d : Bounds) → n ≤ 16 → p < h .variables → FairBounds vars n k → FairBounds vars n d → boundsShown store f p k d ≡ boundsShown (byChains q) H p k d
     unfolding boundsShown
     bounds-agree n p k d l i a b =
-        three (shown-represented vars q right t p zeroVar bias (inr i) (inl refl)) (known-agrees n (k .lower) (d .lower) l (a .lower) (b .lower)) (known-agrees n (d .upper) (k .upper) l (b .upper) (a .upper))
+        three (shown-represented vars q right t p zeroVar bias (inr i) (inl refl))
+        (known-agrees n (k .size) (d .size) (k .lower) (d .lower) l (a .size) (a .lower) (b .lower))
+        (known-agrees n (d .size) (k .size) (d .upper) (k .upper) l (b .size) (b .upper) (a .upper))
 
     -- The row of a kind 14.
     number-agrees : (n p m : ℕ) (K : List Bounds) → n ≤ 16 → p < h .variables → FairAll vars n K

@@ -21,10 +21,14 @@ use Rattle.rules.specs.declared.Effect.the-variants.{Keep, Forget, Shift
 -- ---- what is declared and what is known
 
 abbrev pub nothingKnown : Bounds
-nothingKnown = record { lower = Unknown; upper = Unknown }
+nothingKnown = record { size = 1; lower = Unknown; upper = Unknown }
 
 abbrev pub isPointer : Environment → ℕ → Bool
 isPointer E p = getD (E .pointers) p false
+
+-- Point 10: the element size of a pointer, in cells.
+abbrev pub elementSize : Environment → ℕ → ℕ
+elementSize E p = getD (E .sizes) p 1
 
 -- The declared bounds of a pointer: those of the environment in force.
 abbrev pub declared : Environment → ℕ → Bounds
@@ -36,14 +40,24 @@ declared E p = getD (E .declared) p nothingKnown
 abbrev pub ownRows : List ℕ
 ownRows = tabulate 16 (λ p. 0)
 
--- The bounds that a number stands for.
+-- The ends of b for a pointer with the element size s.
+abbrev pub sized : ℕ → Bounds → Bounds
+sized s b = record { size = s; lower = b .lower; upper = b .upper }
+
+-- The bounds that a number stands for. Point 10: "the s of the pointer it bounds", of a row the pointer of the kind 14.
 unfoldable pub rowBound : Environment → ℕ → ℕ → Bounds
 rowBound E zero p = getD (E .declared) p nothingKnown
-rowBound E (suc r) p = getD (E .rows) r nothingKnown
+rowBound E (suc r) p = sized (elementSize E p) (getD (E .rows) r nothingKnown)
 
 -- The environment in force: what each pointer declares is the bound of its row.
 abbrev pub inForce : Environment → List ℕ → Environment
-inForce E R = record { pointers = E .pointers; declared = tabulate 16 (λ p. rowBound E (getD R p 0) p); lengths = E .lengths; rows = E .rows }
+inForce E R = record {
+  pointers = E .pointers;
+  sizes = E .sizes;
+  declared = tabulate 16 (λ p. rowBound E (getD R p 0) p);
+  lengths = E .lengths;
+  rows = E .rows;
+}
 
 -- "Kind 14 names a pointer and a row", which is in force after it.
 unfoldable pub rowsAfter : Simple → List ℕ → List ℕ
@@ -75,13 +89,24 @@ unfoldable pub forgetEnd : ℕ → KnownEnd → KnownEnd
 forgetEnd v Unknown = Unknown
 forgetEnd v (Known e) = cond (names e v) Unknown (Known e)
 
-unfoldable pub forgetBounds : ℕ → Bounds → Bounds
-forgetBounds v b = record { lower = forgetEnd v (b .lower); upper = forgetEnd v (b .upper) }
+-- How often the value of an end with the size s counts the variable v that it names: its pointer once, its integer s times (point 10).
+unfoldable pub weight : ℕ → ℕ → End → ℕ
+weight s v e = cond (eqb (e .pointer) v) 1 s
 
--- "Kind 5 then gives (p, p + length)"
-unfoldable pub objectBounds : ℕ → ℕ → Bounds
-objectBounds p n =
-    record { lower = Known (record { pointer = p; integer = zeroVar; constant = bias }); upper = Known (record { pointer = p; integer = zeroVar; constant = bias + n }) }
+unfoldable pub forgetBounds : ℕ → Bounds → Bounds
+forgetBounds v b = record { size = b .size; lower = forgetEnd v (b .lower); upper = forgetEnd v (b .upper) }
+
+-- "Kind 5 then gives (p, p + length)". Point 10: "Known bounds carry the size they came with, those of kind 5 the size of p."
+unfoldable pub objectBounds : ℕ → ℕ → ℕ → Bounds
+objectBounds p s n = record {
+  size = s;
+  lower = Known (record { pointer = p; integer = zeroVar; constant = bias });
+  upper = Known (record { pointer = p; integer = zeroVar; constant = bias + n });
+}
+
+-- Point 10: "With equal sizes" two ends are comparable, "with different sizes an end is comparable only when neither names an integer".
+abbrev pub comparableEnds : ℕ → End → ℕ → End → Bool
+comparableEnds s e t g = eqb s t || eqb (e .integer) zeroVar && eqb (g .integer) zeroVar
 
 abbrev pub consIf : Bool → ℕ → List ℕ → List ℕ
 consIf true p ps = p ∷ ps
@@ -90,13 +115,13 @@ consIf false p ps = ps
 module _ (S : FactSets) where
   open FactSets S using (Facts, endLess, shown, endShown)
 
-  -- "(v := v + k, by kind 2 where facts are shifted or by kind 6: replace v by v - k in the end's value)"
-  unfoldable pub shiftEnd : ℕ → ℕ → KnownEnd → KnownEnd
-  shiftEnd v k Unknown = Unknown
-  shiftEnd v k (Known e) = cond (names e v) (endLess k e) (Known e)
+  -- "(v := v + k, by kind 2 where facts are shifted or by kind 6: replace v by v - k in the end's value)"; the end has the size s.
+  unfoldable pub shiftEnd : ℕ → ℕ → ℕ → KnownEnd → KnownEnd
+  shiftEnd s v k Unknown = Unknown
+  shiftEnd s v k (Known e) = cond (names e v) (endLess (weight s v e) k e) (Known e)
 
   unfoldable pub shiftBounds : ℕ → ℕ → Bounds → Bounds
-  shiftBounds v k b = record { lower = shiftEnd v k (b .lower); upper = shiftEnd v k (b .upper) }
+  shiftBounds v k b = record { size = b .size; lower = shiftEnd (b .size) v k (b .lower); upper = shiftEnd (b .size) v k (b .upper) }
 
   -- What the known bounds of one pointer become.
   unfoldable pub effectOn : Effect → List Bounds → ℕ → Bounds
@@ -105,7 +130,7 @@ module _ (S : FactSets) where
   effectOn (Shift v k) K p = shiftBounds v k (known K p)
   -- "Kinds 6 and 7 to another pointer first copy the known bounds of q to p."
   effectOn (Copy v q) K p = forgetBounds v (cond (eqb p v) (known K q) (known K p))
-  effectOn (Object v n) K p = cond (eqb p v) (objectBounds v n) (forgetBounds v (known K p))
+  effectOn (Object v s n) K p = cond (eqb p v) (objectBounds v s n) (forgetBounds v (known K p))
 
   unfoldable pub boundsAfter : Effect → List Bounds → List Bounds
   boundsAfter e K = tabulate 16 (effectOn e K)
@@ -117,7 +142,7 @@ module _ (S : FactSets) where
   effect E f (Arithmetic x y z op) = Forget x
   -- "kind 4 leaves p's own": nothing new is put in their place.
   effect E f (Null p) = Forget p
-  effect E f (Address p o) = Object p (objectLength E o)
+  effect E f (Address p o) = Object p (elementSize E p) (objectLength E o)
   effect E f (PointerOffset p q k) = cond (eqb p q) (Shift p k) (Copy p q)
   effect E f (PointerIndex p q i) = cond (eqb p q) (Forget p) (Copy p q)
   effect E f (Load x p i k) = Forget x
@@ -129,17 +154,20 @@ module _ (S : FactSets) where
   -- ---- "Declared bounds of p are shown when p <= 0 is shown, or known lower <= declared lower and declared upper <= known upper."
 
   -- "End (q, n, k) <= end (r, m, j) when chains from q to r and from n to m have sums s and t with s + t + k <= j."
-  unfoldable pub endAtMost : Facts → End → End → Bool
-  endAtMost f e g = endShown f (e .pointer) (e .integer) (e .constant) (g .pointer) (g .integer) (g .constant)
+  -- Point 10: "With equal sizes the integer chain's sum is multiplied by s"; with different sizes no end here names an integer, and the chain is one from
+  -- zero to zero, whatever its factor (end-alone in crate chains). The end e has the size s, the end g the size t.
+  unfoldable pub endAtMost : Facts → ℕ → End → ℕ → End → Bool
+  endAtMost f s e t g = comparableEnds s e t g && endShown f s (e .pointer) (e .integer) (e .constant) (g .pointer) (g .integer) (g .constant)
 
   -- An unknown end is below or above no end.
-  unfoldable pub knownAtMost : Facts → KnownEnd → KnownEnd → Bool
-  knownAtMost f Unknown g = false
-  knownAtMost f (Known e) Unknown = false
-  knownAtMost f (Known e) (Known g) = endAtMost f e g
+  unfoldable pub knownAtMost : Facts → ℕ → KnownEnd → ℕ → KnownEnd → Bool
+  knownAtMost f s Unknown t g = false
+  knownAtMost f s (Known e) t Unknown = false
+  knownAtMost f s (Known e) t (Known g) = endAtMost f s e t g
 
   unfoldable pub boundsShown : Facts → ℕ → Bounds → Bounds → Bool
-  boundsShown f p k d = shown f p zeroVar bias || knownAtMost f (k .lower) (d .lower) && knownAtMost f (d .upper) (k .upper)
+  boundsShown f p k d =
+      shown f p zeroVar bias || knownAtMost f (k .size) (k .lower) (d .size) (d .lower) && knownAtMost f (d .size) (d .upper) (k .size) (k .upper)
 
   -- The pointers whose declared bounds are not shown, from number p on, lowest first.
   unfoldable pub unshownFrom : Environment → Facts → List Bounds → ℕ → ℕ → List ℕ

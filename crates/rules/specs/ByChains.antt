@@ -1,6 +1,6 @@
 -- The verdict in the paper's own words. What is known is told by the operations that were done (a history), and each question is answered by a decider of
 -- the paper's sentence about chains. Nothing here speaks of sums or rows.
-use Prim.Native.Nat.{ℕ, _+_, _-_}
+use Prim.Native.Nat.{ℕ, _+_, _-_, _*_}
 use mathlib.Core.Path.{_≡_}
 use mathlib.Core.Logic.{_↔_}
 use mathlib.Core.Bool.{Bool, true}
@@ -23,14 +23,14 @@ use Rattle.rules.specs.declared.Verdict.{Verdict}
 -- Answers to the questions about what is known after a history.
 pub record Decider : Type 0 where
   pub shown : History → ℕ → ℕ → ℕ → Bool
-  pub endShown : History → ℕ → ℕ → ℕ → ℕ → ℕ → ℕ → Bool
+  pub endShown : History → ℕ → ℕ → ℕ → ℕ → ℕ → ℕ → ℕ → Bool
 
 -- The decider says yes exactly where the paper's sentence about chains of the known facts is true.
 -- (What it says after histories that no routine has, or of numbers that no variable has, is left open: no verdict depends on it.)
 pub record Decides (vars : Variables) (d : Decider) : Type 0 where
   pub shown : (h : History) → Legal vars h → (x y k : ℕ) → Node vars x → Node vars y → (d .shown h x y k ≡ true) ↔ Shown (known vars h) x y k
-  pub endShown : (h : History) → Legal vars h → (q n k r m j : ℕ) → Node vars q → Node vars n → Node vars r → Node vars m
-      → (d .endShown h q n k r m j ≡ true) ↔ EndShown (known vars h) q n k r m j
+  pub endShown : (h : History) → Legal vars h → (s q n k r m j : ℕ) → Node vars q → Node vars n → Node vars r → Node vars m
+      → (d .endShown h s q n k r m j ≡ true) ↔ EndShown (known vars h) s q n k r m j
 
 -- The paper's facts, for the rules: an operation is put on record, a question is decided, and an end's constant is a whole number.
 abbrev pub byChains : Decider → FactSets
@@ -44,7 +44,7 @@ byChains d = record {
   joined = λ pointer h g. join h g;
   shown = d .shown;
   endShown = d .endShown;
-  endLess = λ k e. Known (record { pointer = e .pointer; integer = e .integer; constant = e .constant + bias - k });
+  endLess = λ w k e. Known (record { pointer = e .pointer; integer = e .integer; constant = e .constant + w * bias - w * k });
 }
 
 -- The variables that a table declares.

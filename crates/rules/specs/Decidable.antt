@@ -1,5 +1,5 @@
 -- There is a decider of the paper's sentences about a table, the store's; and the verdict by the store is the one by the paper's chains.
-use Prim.Native.Nat.{ℕ, _+_, _≤_}
+use Prim.Native.Nat.{ℕ, _+_, _*_}
 use mathlib.Core.Path.{_≡_, refl, sym, _∙_, ap}
 use mathlib.Core.Logic.{_↔_}
 use mathlib.Core.Bool.{Bool, true, false, cond}
@@ -8,12 +8,14 @@ use native.Mathlib.Omega.{arith}
 use borrow.Author.Tests.{leb-true, le-leb}
 use lib.Dec.{leb}
 use lib.IntN.{ℤ}
+use native.Mathlib.Nat.{mul-zero}
 use Rattle.sums.specs.Numbers.{bias}
+use Rattle.sums.specs.Scale.{scale-sums}
 use Rattle.facts.specs.Store.{sumAt, shown, contradictory}
 use Rattle.facts.specs.declared.FactSet.{FactSet}
-use Rattle.chains.specs.Facts.{Variables, Node, Known, ChainWithin, EndShown}
+use Rattle.chains.specs.Facts.{Variables, Node, Known, EndShown}
 use Rattle.chains.specs.LeastSums.{LeastSums}
-use Rattle.chains.specs.Chains.{sinks}
+use Rattle.chains.specs.Chains.{sinks, two-chains}
 use Rattle.chains.specs.Exact.{Exact}
 use Rattle.chains.specs.History.{known}
 use Rattle.chains.specs.HistoryLaws.{made, exact, shows-exactly}
@@ -28,23 +30,25 @@ use Rattle.rules.specs.ByChains.{Decider, Decides, variables, DecidesTab
 use Rattle.rules.specs.Agreement.{verdict-agrees}
 use Rattle.rules.specs.declared.Verdict.{Verdict}
 
--- Two least sums and a constant, by plain addition, whatever the constant.
-abbrev endTest : FactSet → ℕ → ℕ → ℕ → ℕ → ℕ → ℕ → Bool
-endTest f q n k r m j = cond (contradictory f) true (leb (sumAt f q r + sumAt f n m + k) (j + (bias + bias)))
+-- Two least sums, the second one times the size, and a constant, by plain addition, whatever the constant and the size.
+abbrev endTest : FactSet → ℕ → ℕ → ℕ → ℕ → ℕ → ℕ → ℕ → Bool
+endTest f s q n k r m j = cond (contradictory f) true (leb (sumAt f q r + s * sumAt f n m + k) (j + bias + s * bias))
 
-end-test : (vars : Variables) (f : FactSet) (K : Known) → Exact vars f K → (q n k r m j : ℕ) → Node vars q → Node vars n → Node vars r → Node vars m
-    → (endTest f q n k r m j ≡ true) ↔ EndShown K q n k r m j
-end-test vars f K h q n k r m j hq hn hr hm = go (f .contradiction) refl
+end-test : (vars : Variables) (f : FactSet) (K : Known) → Exact vars f K → (s q n k r m j : ℕ) → Node vars q → Node vars n → Node vars r → Node vars m
+    → (endTest f s q n k r m j ≡ true) ↔ EndShown K s q n k r m j
+end-test vars f K h s q n k r m j hq hn hr hm = go (f .contradiction) refl
   where
-    two : {p₁ m₁ p₂ m₂ : ℕ} → ChainWithin K q r p₁ m₁ → ChainWithin K n m p₂ m₂ → p₁ + p₂ + k ≤ j + (m₁ + m₂) → EndShown K q n k r m j
-    two a b l = record { up₁ = a .up; down₁ = a .down; first = a .chain; up₂ = b .up; down₂ = b .down; second = b .chain; within = omega arith }
-
-    go : (b : Bool) → f .contradiction ≡ b → (cond b true (leb (sumAt f q r + sumAt f n m + k) (j + (bias + bias))) ≡ true) ↔ EndShown K q n k r m j
-    go true e = ((λ s. two (sinks vars K (h .sane) (h .clash e) q r k hq hr) (sinks vars K (h .sane) (h .clash e) n m 0 hn hm) (omega arith)), (λ s. refl))
+    go : (b : Bool) → f .contradiction ≡ b → (cond b true (leb (sumAt f q r + s * sumAt f n m + k) (j + bias + s * bias)) ≡ true) ↔ EndShown K s q n k r m j
+    go true e = (
+      (λ t. two-chains s k j (sinks vars K (h .sane) (h .clash e) q r k hq hr) (sinks vars K (h .sane) (h .clash e) n m 0 hn hm) (omega (arith, mul-zero s))),
+      (λ t. refl),
+    )
     go false e =
         let l : LeastSums vars (sumAt f) K = h .least e in (
-          (λ s. two (l .attained q r hq hr) (l .attained n m hn hm) (omega (arith, leb-true (sumAt f q r + sumAt f n m + k) (j + (bias + bias)) s))),
-          (λ t. le-leb (sumAt f q r + sumAt f n m + k) (j + (bias + bias)) (omega (arith, l .lowest hq hr (t .first), l .lowest hn hm (t .second), t .within))),
+          (λ t. two-chains s k j (l .attained q r hq hr) (l .attained n m hn hm)
+              (omega (arith, leb-true (sumAt f q r + s * sumAt f n m + k) (j + bias + s * bias) t))),
+          (λ t. le-leb (sumAt f q r + s * sumAt f n m + k) (j + bias + s * bias)
+              (omega (arith, l .lowest hq hr (t .first), scale-sums s (sumAt f n m) (t .down₂) (t .up₂) bias (l .lowest hn hm (t .second)), t .within))),
         )
 
 abbrev storeDecider : (ℕ → Bool) → Decider

@@ -23,28 +23,28 @@ use Rattle.variables.specs.declared.End.{End}
 use Rattle.variables.specs.declared.Variable.{Variable}
 use Rattle.variables.specs.declared.Variable.the-variants.{Integer, Pointer}
 use Rattle.variables.specs.declared.VariableRead.{VariableRead}
-use Rattle.variables.specs.declared.VariableRead.the-variants.{Read}
+use Rattle.variables.specs.declared.VariableRead.the-variants.{Read, Unread}
 use Rattle.variables.specs.declared.RowRead.{RowRead}
 use Rattle.table.specs.FormLaws.{Formed}
-use Rattle.rules.specs.BoundsRules.{nothingKnown, isPointer, declared, rowBound, inForce}
+use Rattle.rules.specs.BoundsRules.{nothingKnown, isPointer, declared, rowBound, inForce, elementSize, sized}
 use Rattle.rules.specs.BoundsTrue.{Proper, declared-in-force}
-use Rattle.rules.specs.Verdict.{boundsOf, environmentOf, rowBounds}
+use Rattle.rules.specs.Verdict.{boundsOf, environmentOf, rowBounds, variableSize}
 use Rattle.rules.specs.declared.KnownEnd.the-variants.{Known}
 use Rattle.rules.specs.declared.Bounds.{Bounds}
 use Rattle.rules.specs.declared.Environment.{Environment}
 use Rattle.variables.specs.declared.RowRead.the-variants as row
 
--- Bounds with both ends.
-pub record Ends (b : Bounds) : Type 0 where
+-- Bounds of the element size s with both ends.
+pub record Ends (s : ℕ) (b : Bounds) : Type 0 where
   pub low : End
   pub high : End
-  pub bounds : b ≡ record { lower = Known low; upper = Known high }
+  pub bounds : b ≡ record { size = s; lower = Known low; upper = Known high }
   pub low-proper : Proper low
   pub high-proper : Proper high
 
 -- The declared ends of a pointer.
 abbrev pub DeclaredEnds : Environment → ℕ → Type 0
-DeclaredEnds E p = Ends (declared E p)
+DeclaredEnds E p = Ends (elementSize E p) (declared E p)
 
 -- Each row in force is one of the table's.
 abbrev pub Named : Sections → List ℕ → Type 0
@@ -71,9 +71,32 @@ module _ (T : List ℤ) (h : Sections) where
   unfolding environmentOf rowBound
   declared-at p l = getD-tabulate 16 (λ v. boundsOf (variableAt T h v)) p nothingKnown l
 
-  row-at : (p r : ℕ) → r < 64 → rowBound (environmentOf T h) (suc r) p ≡ rowBounds (rowAt T h r)
+  row-at : (p r : ℕ) → r < 64 → rowBound (environmentOf T h) (suc r) p ≡ sized (elementSize (environmentOf T h) p) (rowBounds (rowAt T h r))
   unfolding environmentOf rowBound
-  row-at p r l = getD-tabulate 64 (λ v. rowBounds (rowAt T h v)) r nothingKnown l
+  row-at p r l =
+      ap (λ (b : Bounds). sized (getD (tabulate 16 (λ v. variableSize (variableAt T h v))) p 1) b)
+      (getD-tabulate 64 (λ v. rowBounds (rowAt T h v)) r nothingKnown l)
+
+  size-at : (p : ℕ) → p < 16 → elementSize (environmentOf T h) p ≡ variableSize (variableAt T h p)
+  unfolding environmentOf
+  size-at p l = getD-tabulate 16 (λ v. variableSize (variableAt T h v)) p 1 l
+
+  -- Sizes are at most 8.
+  size-read : (p : ℕ) (r : VariableRead) → variableAt T h p ≡ r → variableSize r ≤ 8
+  size-read p (Read (Pointer s l u)) e = variable-read-typed T h p (Pointer s l u) e .few
+  size-read p (Read Integer) e = omega arith
+  size-read p Unread e = omega arith
+
+  pub sizes-small : (p : ℕ) → elementSize (environmentOf T h) p ≤ 8
+  unfolding environmentOf
+  sizes-small p = go (ltb p 16) refl
+    where
+      go : (b : Bool) → ltb p 16 ≡ b → getD (tabulate 16 (λ v. variableSize (variableAt T h v))) p 1 ≤ 8
+      go true q = rw (getD-tabulate 16 (λ v. variableSize (variableAt T h v)) p 1 (ltb-true p 16 q)) (size-read p (variableAt T h p) refl)
+      go false q =
+          let long : length (tabulate 16 (λ v. variableSize (variableAt T h v))) ≤ p = omega
+          (arith, length-tabulate 16 (λ v. variableSize (variableAt T h v)), ltb-false p 16 q) in
+          rw (List·getD-eq-default (tabulate 16 (λ v. variableSize (variableAt T h v))) 1 long) (omega arith)
 
   -- A number that the list of kinds does not have is no pointer.
   pointer-kind : (p : ℕ) → isPointer (environmentOf T h) p ≡ true → pointerAt T h p ≡ true
@@ -100,34 +123,37 @@ module _ (T : List ℤ) (h : Sections) where
         pointer = omega (arith, t .pointer .below);
         integer = index-below (e .integer) few (t .integer);
         distinct = apart (e .pointer) (e .integer) few (t .pointer) (t .integer);
-        constant = omega (arith, t .constant .high);
       }
 
-  ends-of : h .variables ≤ 16 → (p : ℕ) → p < 16 → pointerAt T h p ≡ true → (x : Variable) → variableAt T h p ≡ Read x → Ends (rowBound (environmentOf T h) 0 p)
+  ends-of : h .variables ≤ 16 → (p : ℕ) → p < 16 → pointerAt T h p ≡ true → (x : Variable) → variableAt T h p ≡ Read x
+      → Ends (elementSize (environmentOf T h) p) (rowBound (environmentOf T h) 0 p)
   ends-of few p l k Integer e = absurd (false≢true (sym (integer-no-pointer p (variable-read-typed T h p Integer e)) ∙ k))
-  ends-of few p l k (Pointer low high) e =
-      let t : PointerTyped T h p low high = variable-read-typed T h p (Pointer low high) e in
+  ends-of few p l k (Pointer s low high) e =
+      let t : PointerTyped T h p s low high = variable-read-typed T h p (Pointer s low high) e in
+      let z : elementSize (environmentOf T h) p ≡ s = size-at p l ∙ ap (λ (r : VariableRead). variableSize r) e in
       record {
         low = low;
         high = high;
-        bounds = declared-at p l ∙ ap (λ (r : VariableRead). boundsOf r) e;
+        bounds = rw z (declared-at p l ∙ ap (λ (r : VariableRead). boundsOf r) e);
         low-proper = end-proper low few (t .lower);
         high-proper = end-proper high few (t .upper);
       }
 
-  row-ends : h .variables ≤ 16 → (p r : ℕ) → r < 64 → (l u : End) → rowAt T h r ≡ row.Read l u → Ends (rowBound (environmentOf T h) (suc r) p)
+  row-ends : h .variables ≤ 16 → (p r : ℕ) → r < 64 → (l u : End) → rowAt T h r ≡ row.Read l u
+      → Ends (elementSize (environmentOf T h) p) (rowBound (environmentOf T h) (suc r) p)
   row-ends few p r b l u e =
       let t = row-read-typed T h r l u e in
       record {
         low = l;
         high = u;
-        bounds = row-at p r b ∙ ap (λ (x : RowRead). rowBounds x) e;
+        bounds = row-at p r b ∙ ap (λ (x : RowRead). sized (elementSize (environmentOf T h) p) (rowBounds x)) e;
         low-proper = end-proper l few (t .lower);
         high-proper = end-proper u few (t .upper);
       }
 
   -- The ends of a number in force.
-  number-ends : Formed T h → (p : ℕ) → isPointer (environmentOf T h) p ≡ true → (n : ℕ) → n ≤ h .rows → Ends (rowBound (environmentOf T h) n p)
+  number-ends : Formed T h → (p : ℕ) → isPointer (environmentOf T h) p ≡ true → (n : ℕ) → n ≤ h .rows
+      → Ends (elementSize (environmentOf T h) p) (rowBound (environmentOf T h) n p)
   number-ends f p e zero s =
       let k = pointer-kind p e in
       let l : p < h .variables = pointer-limits T h p k .1 in

@@ -20,7 +20,7 @@ pub record FactSets : Type 1 where
   pub joined : (ℕ → Bool) → Facts → Facts → Facts
   -- shown f x y k: x <= y + k
   pub shown : Facts → ℕ → ℕ → ℕ → Bool
-  -- endShown f q n k r m j: the end (q, n, k) is at most the end (r, m, j).
-  pub endShown : Facts → ℕ → ℕ → ℕ → ℕ → ℕ → ℕ → Bool
-  -- endLess k e: the end e less k, with the bias in k.
-  pub endLess : ℕ → End → KnownEnd
+  -- endShown f s q n k r m j: the end (q, n, k) is at most the end (r, m, j), the integers n and m s times.
+  pub endShown : Facts → ℕ → ℕ → ℕ → ℕ → ℕ → ℕ → ℕ → Bool
+  -- endLess w k e: the end e less w times k, with the bias in k.
+  pub endLess : ℕ → ℕ → End → KnownEnd

@@ -1,8 +1,8 @@
--- The ranges that sums of 64 bits allow: of a statement, of the lengths of objects, of an effect.
-use Prim.Native.Nat.{ℕ, _^_, _<_}
+-- The ranges that sums of 64 bits allow: of a statement, of element sizes, of the lengths of objects, of an effect.
+use Prim.Native.Nat.{ℕ, _^_, _≤_, _<_}
 use Rattle.statements.specs.declared.Simple.{Simple}
 use Rattle.statements.specs.declared.Simple.the-variants.{Literal, AddConstant, Arithmetic, Null, Address, PointerOffset, PointerIndex, Load, Store, Check, Declare}
-use Rattle.rules.specs.BoundsRules.{objectLength}
+use Rattle.rules.specs.BoundsRules.{elementSize, objectLength}
 use Rattle.rules.specs.declared.Environment.{Environment}
 use Rattle.rules.specs.declared.Effect.{Effect}
 use Rattle.rules.specs.declared.Effect.the-variants.{Keep, Forget, Shift, Copy, Object}
@@ -21,6 +21,10 @@ InRange (Store p i k x) = Unit
 InRange (Check c) = c .offset < 2 ^ 32
 InRange (Declare p r) = Unit
 
+-- Element sizes are in range.
+abbrev pub Sized : Environment → Type 0
+Sized E = (p : ℕ) → elementSize E p ≤ 8
+
 -- The lengths of objects are in range.
 abbrev pub Measured : Environment → Type 0
 Measured E = (o : ℕ) → objectLength E o < 2 ^ 40
@@ -31,4 +35,4 @@ Short Keep = Unit
 Short (Forget v) = Unit
 Short (Shift v k) = Unit
 Short (Copy v q) = q < 16
-Short (Object v n) = n < 2 ^ 40
+Short (Object v s n) = n < 2 ^ 40

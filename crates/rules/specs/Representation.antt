@@ -48,10 +48,11 @@ same-test false true p q = p .1 (q .0 refl)
 same-test false false p q = refl
 
 -- The same end is at most itself, by two empty chains.
-same-end : {K : Known} (p n k r m j : ℕ) (b : Bool) → (b ≡ true) ↔ EndShown K p n k r m j → ((eqb p r && eqb n m && eqb k j || b) ≡ true) ↔ EndShown K p n k r m j
-same-end {K} p n k r m j b i = ((λ s. from (eqb p r && eqb n m && eqb k j) refl s), (λ s. back (eqb p r && eqb n m && eqb k j) (i .1 s)))
+same-end : {K : Known} (z p n k r m j : ℕ) (b : Bool) → (b ≡ true) ↔ EndShown K z p n k r m j
+    → ((eqb p r && eqb n m && eqb k j || b) ≡ true) ↔ EndShown K z p n k r m j
+same-end {K} z p n k r m j b i = ((λ s. from (eqb p r && eqb n m && eqb k j) refl s), (λ s. back (eqb p r && eqb n m && eqb k j) (i .1 s)))
   where
-    same : (eqb p r && eqb n m && eqb k j) ≡ true → EndShown K p n k r m j
+    same : (eqb p r && eqb n m && eqb k j) ≡ true → EndShown K z p n k r m j
     same s =
         let a = both (eqb p r && eqb n m) (eqb k j) s in
         let c = both (eqb p r) (eqb n m) (a .0) in
@@ -60,7 +61,7 @@ same-end {K} p n k r m j b i = ((λ s. from (eqb p r && eqb n m && eqb k j) refl
         let e₃ : k ≡ j = eqb-true k j (a .1) in
         rw (e₁, e₂) (record { up₁ = 0; down₁ = 0; first = empty; up₂ = 0; down₂ = 0; second = empty; within = omega arith })
 
-    from : (x : Bool) → (eqb p r && eqb n m && eqb k j) ≡ x → (x || b) ≡ true → EndShown K p n k r m j
+    from : (x : Bool) → (eqb p r && eqb n m && eqb k j) ≡ x → (x || b) ≡ true → EndShown K z p n k r m j
     from true e s = same e
     from false e s = i .0 s
 
@@ -110,10 +111,12 @@ module _ (vars : Variables) where
           let e = t .same in
           rw e at (same-test (shown (made (vars .pointer) H) x y k) (q .shown H x y k) (shows-exactly vars H (t .legal) x y k hx hy) (right .shown H (t .legal) x y k hx hy))
 
-      pub end-represented : (p n k r m j : ℕ) → Node vars p → Node vars n → Node vars r → Node vars m → k < 2 ^ 40 → store .endShown f p n k r m j ≡ q .endShown H p n k r m j
-      end-represented p n k r m j hp hn hr hm l =
-          same-test (store .endShown f p n k r m j) (q .endShown H p n k r m j)
-          (same-end p n k r m j (endShown f p n k r m j) (end-exact vars f (known vars H) (represents-exact t) p n k r m j hp hn hr hm l)) (right .endShown H (t .legal) p n k r m j hp hn hr hm)
+      pub end-represented : (z p n k r m j : ℕ) → z ≤ 8 → Node vars p → Node vars n → Node vars r → Node vars m → k < 2 ^ 40 → j < 2 ^ 40
+          → store .endShown f z p n k r m j ≡ q .endShown H z p n k r m j
+      end-represented z p n k r m j hz hp hn hr hm l i =
+          same-test (store .endShown f z p n k r m j) (q .endShown H z p n k r m j)
+          (same-end z p n k r m j (endShown f z p n k r m j) (end-exact vars f (known vars H) (represents-exact t) z p n k r m j hz hp hn hr hm l i))
+          (right .endShown H (t .legal) z p n k r m j hp hn hr hm)
 
       pub range-represented : (y k : ℕ) → Node vars y → inRange store f y k ≡ inRange (byChains q) H y k
       range-represented y k h =

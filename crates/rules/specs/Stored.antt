@@ -1,5 +1,5 @@
 -- The rules over the fact store: what the code computes with.
-use Prim.Native.Nat.{ℕ, _+_, _-_, _^_}
+use Prim.Native.Nat.{ℕ, _+_, _-_, _*_, _^_}
 use mathlib.Core.Bool.{Bool, _&&_, _||_, cond}
 use mathlib.Core.List.{List}
 use lib.IntN.{ℤ}
@@ -30,10 +30,10 @@ abbrev pub sameEnd : End → End → Bool
 sameEnd e g = eqb (e .pointer) (g .pointer) && eqb (e .integer) (g .integer) && eqb (e .constant) (g .constant)
 
 -- Sums of 64 bits hold the constants that arise; any other end is unknown.
-unfoldable pub shiftConstant : ℕ → End → KnownEnd
-shiftConstant k e =
-    cond (ltb (e .constant) (2 ^ 40) && leb k (e .constant + bias))
-    (Known (record { pointer = e .pointer; integer = e .integer; constant = e .constant + bias - k })) Unknown
+unfoldable pub shiftConstant : ℕ → ℕ → End → KnownEnd
+shiftConstant w k e =
+    cond (leb w 8 && ltb k (2 ^ 40) && ltb (e .constant) (2 ^ 40) && leb (w * k) (e .constant + w * bias))
+    (Known (record { pointer = e .pointer; integer = e .integer; constant = e .constant + w * bias - w * k })) Unknown
 
 abbrev pub store : FactSets
 store = record {
@@ -46,7 +46,7 @@ store = record {
   joined = sets.joined;
   shown = sets.shown;
   -- The same end is at most itself, by two empty chains: the facts need not be asked.
-  endShown = λ f q n k r m j. eqb q r && eqb n m && eqb k j || sets.endShown f q n k r m j;
+  endShown = λ f s q n k r m j. eqb q r && eqb n m && eqb k j || sets.endShown f s q n k r m j;
   endLess = shiftConstant;
 }
 
@@ -84,7 +84,7 @@ loopFacts = facts.loopFacts store
 
 -- ---- bounds
 
-abbrev pub shiftEnd : ℕ → ℕ → KnownEnd → KnownEnd
+abbrev pub shiftEnd : ℕ → ℕ → ℕ → KnownEnd → KnownEnd
 shiftEnd = bounds.shiftEnd store
 
 abbrev pub shiftBounds : ℕ → ℕ → Bounds → Bounds
@@ -99,10 +99,10 @@ boundsAfter = bounds.boundsAfter store
 abbrev pub effect : Environment → FactSet → Simple → Effect
 effect = bounds.effect store
 
-abbrev pub endAtMost : FactSet → End → End → Bool
+abbrev pub endAtMost : FactSet → ℕ → End → ℕ → End → Bool
 endAtMost = bounds.endAtMost store
 
-abbrev pub knownAtMost : FactSet → KnownEnd → KnownEnd → Bool
+abbrev pub knownAtMost : FactSet → ℕ → KnownEnd → ℕ → KnownEnd → Bool
 knownAtMost = bounds.knownAtMost store
 
 abbrev pub boundsShown : FactSet → ℕ → Bounds → Bounds → Bool

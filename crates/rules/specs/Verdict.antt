@@ -27,23 +27,31 @@ use Rattle.rules.specs.declared.Environment.{Environment}
 use Rattle.rules.specs.declared.Verdict.{Verdict}
 use Rattle.rules.specs.declared.Verdict.the-variants.{Accepted, Refused}
 use Rattle.variables.specs.declared.RowRead.the-variants as row
+use Prim.Native.Nat.{ℕ}
 
 -- ---- what a table declares
 
 abbrev pub boundsOf : VariableRead → Bounds
-boundsOf (Read (Pointer l u)) = record { lower = Known l; upper = Known u }
+boundsOf (Read (Pointer s l u)) = record { size = s; lower = Known l; upper = Known u }
 boundsOf (Read Integer) = nothingKnown
 boundsOf Unread = nothingKnown
 
--- Point 2: "bounds rows of six words, two ends each".
+-- Point 10: the element size of a pointer; of any other variable 1.
+abbrev pub variableSize : VariableRead → ℕ
+variableSize (Read (Pointer s l u)) = s
+variableSize (Read Integer) = 1
+variableSize Unread = 1
+
+-- Point 2: "bounds rows of six words, two ends each". (Their size is that of the pointer of the kind 14: `rowBound`.)
 abbrev pub rowBounds : RowRead → Bounds
-rowBounds (row.Read l u) = record { lower = Known l; upper = Known u }
+rowBounds (row.Read l u) = record { size = 1; lower = Known l; upper = Known u }
 rowBounds row.Unread = nothingKnown
 
 unfoldable pub environmentOf : List ℤ → Sections → Environment
 environmentOf T h =
     record {
       pointers = tabulate 17 (pointerAt T h);
+      sizes = tabulate 16 (λ v. variableSize (variableAt T h v));
       declared = tabulate 16 (λ v. boundsOf (variableAt T h v));
       lengths = tabulate 16 (objectAt T h);
       rows = tabulate 64 (λ r. rowBounds (rowAt T h r));

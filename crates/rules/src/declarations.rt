@@ -10,13 +10,14 @@ ghost use mathlib.Core.Path.{_≡_};
 ghost use Rattle.arrays.specs.Tabulate.{tabulate};
 ghost use Rattle.sections.specs.Sections.{pointerAt};
 ghost use Rattle.variables.specs.Variables.{variableAt, rowAt, objectAt};
-ghost use Rattle.rules.specs.Verdict.{boundsOf, rowBounds, environmentOf};
+ghost use Rattle.rules.specs.Verdict.{boundsOf, variableSize, rowBounds, environmentOf};
 
 // The declared bounds of a variable; an integer has none.
 fn bounds_of(read: VariableRead) -> Bounds
     ensures { λ r. ⌜ r ≡ boundsOf read ⌝ }
 {
     let unknown = Bounds {
+        size: 1,
         lower: KnownEnd::Unknown,
         upper: KnownEnd::Unknown,
     };
@@ -25,7 +26,8 @@ fn bounds_of(read: VariableRead) -> Bounds
     };
     match variable {
         Variable::Integer => unknown,
-        Variable::Pointer { lower, upper } => Bounds {
+        Variable::Pointer { size, lower, upper } => Bounds {
+            size,
             lower: KnownEnd::Known(lower),
             upper: KnownEnd::Known(upper),
         },
@@ -38,14 +40,43 @@ fn row_bounds(read: RowRead) -> Bounds
 {
     let RowRead::Read { lower, upper } = read else {
         return Bounds {
+            size: 1,
             lower: KnownEnd::Unknown,
             upper: KnownEnd::Unknown,
         };
     };
     Bounds {
+        size: 1,
         lower: KnownEnd::Known(lower),
         upper: KnownEnd::Known(upper),
     }
+}
+
+// The element size of a variable; 1 for an integer.
+fn variable_size(read: VariableRead) -> u64
+    ensures { λ r. ⌜ r ≡ variableSize read ⌝ }
+{
+    let VariableRead::Read(variable) = read else {
+        return 1;
+    };
+    match variable {
+        Variable::Integer => 1,
+        Variable::Pointer {
+            size,
+            lower: _,
+            upper: _,
+        } => size,
+    }
+}
+
+fn read_sizes(table: &[i32], sections: Sections) -> [u64; 16]
+    ensures { λ r. ⌜ r ≡ tabulate 16 (λ v. variableSize (variableAt (now (table .entry)) sections v)) ⌝ }
+{
+    let mut sizes = [1; 16];
+    for v in 0..16 {
+        sizes[v] = variable_size(variables::read_variable(table, sections, v));
+    }
+    sizes
 }
 
 fn read_pointers(table: &[i32], sections: Sections) -> [bool; 17]
@@ -62,6 +93,7 @@ fn read_declared(table: &[i32], sections: Sections) -> [Bounds; 16]
     ensures { λ r. ⌜ r ≡ tabulate 16 (λ v. boundsOf (variableAt (now (table .entry)) sections v)) ⌝ }
 {
     let unknown = Bounds {
+        size: 1,
         lower: KnownEnd::Unknown,
         upper: KnownEnd::Unknown,
     };
@@ -86,6 +118,7 @@ fn read_rows(table: &[i32], sections: Sections) -> [Bounds; 64]
     ensures { λ r. ⌜ r ≡ tabulate 64 (λ v. rowBounds (rowAt (now (table .entry)) sections v)) ⌝ }
 {
     let unknown = Bounds {
+        size: 1,
         lower: KnownEnd::Unknown,
         upper: KnownEnd::Unknown,
     };
@@ -101,6 +134,7 @@ pub fn read_environment(table: &[i32], sections: Sections) -> Environment
 {
     Environment {
         pointers: read_pointers(table, sections),
+        sizes: read_sizes(table, sections),
         declared: read_declared(table, sections),
         lengths: read_lengths(table, sections),
         rows: read_rows(table, sections),

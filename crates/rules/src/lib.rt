@@ -10,16 +10,18 @@ pub enum KnownEnd {
     Unknown,
 }
 
-// The bounds that are known of a pointer.
+// The bounds that are known of a pointer, with the element size they came with: an end's value is pointer + size times integer + constant.
 pub struct Bounds {
+    pub size: u64,
     pub lower: KnownEnd,
     pub upper: KnownEnd,
 }
 
-// What a table declares, read once: which variables are pointers, the declared bounds (unknown for an integer), the lengths of the objects, the
-// bounds rows (unknown where there is none).
+// What a table declares, read once: which variables are pointers, their element sizes (1 for an integer), the declared bounds (unknown for an integer), the
+// lengths of the objects, the bounds rows (unknown where there is none; the size of a row's bounds is that of the pointer it is in force for).
 pub struct Environment {
     pub pointers: [bool; 17],
+    pub sizes: [u64; 16],
     pub declared: [Bounds; 16],
     pub lengths: [u64; 16],
     pub rows: [Bounds; 64],
@@ -28,10 +30,22 @@ pub struct Environment {
 // What a statement does to known bounds.
 pub enum Effect {
     Keep,
-    Forget { target: usize },
-    Shift { target: usize, constant: u64 },
-    Copy { target: usize, source: usize },
-    Object { target: usize, length: u64 },
+    Forget {
+        target: usize,
+    },
+    Shift {
+        target: usize,
+        constant: u64,
+    },
+    Copy {
+        target: usize,
+        source: usize,
+    },
+    Object {
+        target: usize,
+        size: u64,
+        length: u64,
+    },
 }
 
 pub enum Verdict {

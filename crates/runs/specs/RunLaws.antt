@@ -8,6 +8,7 @@ use borrow.Author.Tests.{lt-ltb, le-ltb}
 use lib.IntN.{ℤ}
 use lib.ListN.{length, getD}
 use Rattle.sections.specs.declared.Sections.{Sections}
+use Rattle.checks.specs.Checked.{sizeIn}
 use Rattle.steps.specs.Bare.{bareMove, Ready, Prepared, Moves}
 use Rattle.runs.specs.BareRun.{Result, follow, bareRun, Onward, SafeRun, Ends}
 use Rattle.stops.specs.declared.Check.{Check}
@@ -21,9 +22,11 @@ pub carry : {o p : Result} {r : Outcome} {W vs cs : List ℕ} → o ≡ p → En
 carry e m = rw e m
 
 -- Buffers of the same length serve as well.
-pub still-prepared : {T : List ℤ} {h : Sections} {W D S vs : List ℕ} (W′ ws : List ℕ) → length W′ ≡ length W → ((i : ℕ) → getD W′ i 0 < 2 ^ 34) → length ws ≡ length vs
+pub still-prepared : {T : List ℤ} {h : Sections} {W D S vs : List ℕ} (W′ ws : List ℕ) → length W′ ≡ length W → ((i : ℕ) → getD W′ i 0 < 2 ^ 34)
+    → ((x : ℕ) → sizeIn W′ x ≤ 8) → length ws ≡ length vs
     → Prepared T h W D S vs → Prepared T h W′ D S ws
-still-prepared W′ ws l b e p = record { table = p .table; ends = l ∙ p .ends; small = b; directory = p .directory; successors = p .successors; values = omega (arith, p .values) }
+still-prepared W′ ws l b s e p =
+    record { table = p .table; ends = l ∙ p .ends; small = b; sizes = s; directory = p .directory; successors = p .successors; values = omega (arith, p .values) }
 
 module _ (T : List ℤ) (h : Sections) (W D S : List ℕ) where
   abbrev run : ℕ → ℕ → ℕ → List ℕ → List ℕ → Result

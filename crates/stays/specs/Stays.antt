@@ -23,7 +23,7 @@ stays Keep p b = boundsStay 17 b
 stays (Forget v) p b = boundsStay v b
 stays (Shift v k) p b = boundsStay v b
 stays (Copy v q) p b = not (eqb p v) && boundsStay v b
-stays (Object v n) p b = not (eqb p v) && boundsStay v b
+stays (Object v z n) p b = not (eqb p v) && boundsStay v b
 
 -- The variable that an effect changes, and the pointer whose bounds it replaces; 17 where there is none.
 abbrev pub changedBy : Effect → ℕ
@@ -31,14 +31,14 @@ changedBy Keep = 17
 changedBy (Forget v) = v
 changedBy (Shift v k) = v
 changedBy (Copy v q) = v
-changedBy (Object v n) = v
+changedBy (Object v z n) = v
 
 abbrev pub replacedBy : Effect → ℕ
 replacedBy Keep = 17
 replacedBy (Forget v) = 17
 replacedBy (Shift v k) = 17
 replacedBy (Copy v q) = v
-replacedBy (Object v n) = v
+replacedBy (Object v z n) = v
 
 -- As `stays`, given the two numbers of the effect.
 unfoldable pub leftAlone : ℕ → ℕ → ℕ → Bounds → Bool

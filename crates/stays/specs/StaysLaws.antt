@@ -16,7 +16,8 @@ use Rattle.stays.specs.Stays.{boundsStay, stays, changedBy, replacedBy, 
 
 -- What the code reads at an index of an array of bounds; past the array's end, which it never reads, this stands.
 abbrev blank : Bounds
-blank = record { lower = Known (record { pointer = 0; integer = 0; constant = 0 }); upper = Known (record { pointer = 0; integer = 0; constant = 0 }) }
+blank =
+    record { size = 0; lower = Known (record { pointer = 0; integer = 0; constant = 0 }); upper = Known (record { pointer = 0; integer = 0; constant = 0 }) }
 
 abbrev pub stored : List Bounds → ℕ → Bounds
 stored K p = getD K p blank
@@ -31,7 +32,7 @@ left-alone Keep p b h = ap (λ (t : Bool). not t && boundsStay 17 b) (ne-eqb p 1
 left-alone (Forget v) p b h = ap (λ (t : Bool). not t && boundsStay v b) (ne-eqb p 17 (λ e. omega arith))
 left-alone (Shift v k) p b h = ap (λ (t : Bool). not t && boundsStay v b) (ne-eqb p 17 (λ e. omega arith))
 left-alone (Copy v q) p b h = refl
-left-alone (Object v n) p b h = refl
+left-alone (Object v z n) p b h = refl
 
 pub stays-read : (e : Effect) (p : ℕ) (b : Bounds) {c r : ℕ} {st : Bool} → p < 16 → c ≡ changedBy e → r ≡ replacedBy e → st ≡ leftAlone c r p b → st ≡ stays e p b
 stays-read e p b h x y s = rw (x, y) at s ∙ left-alone e p b h

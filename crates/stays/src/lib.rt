@@ -43,7 +43,11 @@ pub fn changed_by(effect: Effect) -> usize
             constant: _,
         } => target,
         Effect::Copy { target, source: _ } => target,
-        Effect::Object { target, length: _ } => target,
+        Effect::Object {
+            target: pointer,
+            size: _,
+            length: _,
+        } => pointer,
     }
 }
 
@@ -59,7 +63,11 @@ pub fn replaced_by(effect: Effect) -> usize
             constant: _,
         } => 17,
         Effect::Copy { target, source: _ } => target,
-        Effect::Object { target, length: _ } => target,
+        Effect::Object {
+            target: pointer,
+            size: _,
+            length: _,
+        } => pointer,
     }
 }
 

@@ -11,8 +11,9 @@ use Rattle.sums.specs.Numbers.{bias, maxValue}
 use Rattle.conditions.specs.declared.Condition.{Condition}
 use Rattle.statements.specs.declared.Simple.{Simple}
 use Rattle.statements.specs.declared.Simple.the-variants.{Literal, AddConstant, Arithmetic, Null, Address, PointerOffset, PointerIndex, Load, Store, Check as Test, Declare}
-use Rattle.machine.specs.Machine.{value, address, conditionHolds, Failing, none, fails, firstOf, failing, accessFailing, arithmeticFailing, combined}
-use Rattle.checks.specs.Checked.{declaredIn, stepUnless}
+use Rattle.machine.specs.Machine.{value, address, conditionHolds, Failing, none, fails, firstOf, failing, accessFailing, arithmeticFailing, combined, indexed}
+use Rattle.checks.specs.Checked.{declaredIn, stepUnless, sizeIn}
+use Rattle.checks.specs.CheckLaws.{size-in}
 use Rattle.steps.specs.Bare.{offsetFailing, indexFailing, changedUnless, valuesAfter, cellsAfter, simpleMove, Moves, Assigns, copied, endsAfter}
 use Rattle.stops.specs.declared.Check.{Check}
 use Rattle.checks.specs.declared.Step.{Step}
@@ -72,11 +73,12 @@ module _ (a n p q : ℕ) (vs : List ℕ) where
       Assigns (offsetFailing vs q k) a n p (value vs q + k - bias) vs r ws
   assigns-offset k b r ws ne e m = rw (ne-eqb k bias ne) (rw e at m)
 
-  pub assigns-index : (i b w : ℕ) (r : Step) (ws : List ℕ) → b ≡ value vs q → w ≡ value vs i → Assigns (arithmeticFailing b (b + w + bias)) a n p (b + w + bias - bias) vs r ws →
-      Assigns (indexFailing vs q i) a n p (value vs q + value vs i) vs r ws
-  assigns-index i b w r ws e g m =
-      let l : value vs q + value vs i + bias - bias ≡ value vs q + value vs i = omega arith in
-      rw l at (rw (e, g) at m)
+  pub assigns-index : (W : List ℕ) (i b w : ℕ) (r : Step) (ws : List ℕ) → q < 16 → b ≡ value vs q → w ≡ sizeIn W q * value vs i
+      → Assigns (arithmeticFailing b (b + w + bias)) a n p (b + w + bias - bias) vs r ws →
+      Assigns (indexFailing W vs q i) a n p (indexed (declaredIn W) vs q i) vs r ws
+  assigns-index W i b w r ws few e g m =
+      let l : value vs q + sizeIn W q * value vs i + bias - bias ≡ value vs q + sizeIn W q * value vs i = omega arith in
+      rw (size-in W q few) (rw l at (rw (e, g) at m))
 
 -- ---- the kinds
 
@@ -108,18 +110,19 @@ module _ (W D : List ℕ) (a n : ℕ) (vs cs : List ℕ) where
   unfolding simpleMove failing valuesAfter cellsAfter endsAfter
   moves-offset p q k r ws m = record { said = m .said; ends = unchanged _ W; values = m .buffer; cells = unchanged _ cs }
 
-  pub moves-index : (p q i : ℕ) (r : Step) (ws : List ℕ) → Assigns (indexFailing vs q i) a n p (value vs q + value vs i) vs r ws → Moves (simpleMove W D (PointerIndex p q i) a n vs cs) r W ws cs
+  pub moves-index : (p q i : ℕ) (r : Step) (ws : List ℕ) → Assigns (indexFailing W vs q i) a n p (indexed (declaredIn W) vs q i) vs r ws
+      → Moves (simpleMove W D (PointerIndex p q i) a n vs cs) r W ws cs
   unfolding simpleMove failing valuesAfter cellsAfter endsAfter
   moves-index p q i r ws m = record { said = m .said; ends = unchanged _ W; values = m .buffer; cells = unchanged _ cs }
 
   pub moves-load : (x p i k : ℕ) (r : Step) (ws : List ℕ) →
-      Assigns (accessFailing (declaredIn W) vs p (address vs p i k)) a n x (getD cs (address vs p i k - bias) 0) vs r ws →
+      Assigns (accessFailing (declaredIn W) vs p (address (declaredIn W) vs p i k)) a n x (getD cs (address (declaredIn W) vs p i k - bias) 0) vs r ws →
       Moves (simpleMove W D (Load x p i k) a n vs cs) r W ws cs
   unfolding simpleMove failing valuesAfter cellsAfter endsAfter
   moves-load x p i k r ws m = record { said = m .said; ends = unchanged _ W; values = m .buffer; cells = unchanged _ cs }
 
   pub moves-store : (p i k x : ℕ) (r : Step) (ds : List ℕ) →
-      Assigns (accessFailing (declaredIn W) vs p (address vs p i k)) a n (address vs p i k - bias) (value vs x) cs r ds →
+      Assigns (accessFailing (declaredIn W) vs p (address (declaredIn W) vs p i k)) a n (address (declaredIn W) vs p i k - bias) (value vs x) cs r ds →
       Moves (simpleMove W D (Store p i k x) a n vs cs) r W vs ds
   unfolding simpleMove failing valuesAfter cellsAfter endsAfter
   moves-store p i k x r ds m = record { said = m .said; ends = unchanged _ W; values = unchanged _ vs; cells = m .buffer }

@@ -18,38 +18,38 @@ use Rattle.statements.specs.declared.StatementRead.the-variants.{Read}
 use Rattle.decode.specs.Decode.{decodedAt}
 use Rattle.flow.specs.Flow.{Successors}
 use Rattle.flow.specs.Shape.{entriesAt}
-use Rattle.machine.specs.Machine.{value, low, conditionHolds, Failing, none, fails, firstUnless, failing, accessFailing, arithmeticFailing, address, combined}
-use Rattle.checks.specs.Checked.{declaredIn, stepUnless}
+use Rattle.machine.specs.Machine.{value, low, conditionHolds, Failing, none, fails, firstUnless, failing, accessFailing, arithmeticFailing, address, combined, indexed}
+use Rattle.checks.specs.Checked.{declaredIn, stepUnless, sizeIn}
 use Rattle.checks.specs.declared.Step.{Step}
 use Rattle.checks.specs.declared.Step.the-variants.{Go}
 
 -- ---- what a statement of kinds 1 to 10 leaves where no check fails: the values and cells of `performed`
 
-unfoldable pub valuesAfter : List ℕ → Simple → List ℕ → List ℕ → List ℕ
-valuesAfter D (Literal x k) vs cs = set vs x k
-valuesAfter D (AddConstant x y k) vs cs = set vs x ((value vs y + k) % 2 ^ 32)
-valuesAfter D (Arithmetic x y z op) vs cs = set vs x (combined op (value vs y) (value vs z))
-valuesAfter D (Null p) vs cs = set vs p 0
-valuesAfter D (Address p o) vs cs = set vs p (low D o)
-valuesAfter D (PointerOffset p q k) vs cs = set vs p (value vs q + k - bias)
-valuesAfter D (PointerIndex p q i) vs cs = set vs p (value vs q + value vs i)
-valuesAfter D (Load x p i k) vs cs = set vs x (getD cs (address vs p i k - bias) 0)
-valuesAfter D (Store p i k x) vs cs = vs
-valuesAfter D (Test c) vs cs = vs
-valuesAfter D (Declare p r) vs cs = vs
+unfoldable pub valuesAfter : List ℕ → List ℕ → Simple → List ℕ → List ℕ → List ℕ
+valuesAfter W D (Literal x k) vs cs = set vs x k
+valuesAfter W D (AddConstant x y k) vs cs = set vs x ((value vs y + k) % 2 ^ 32)
+valuesAfter W D (Arithmetic x y z op) vs cs = set vs x (combined op (value vs y) (value vs z))
+valuesAfter W D (Null p) vs cs = set vs p 0
+valuesAfter W D (Address p o) vs cs = set vs p (low D o)
+valuesAfter W D (PointerOffset p q k) vs cs = set vs p (value vs q + k - bias)
+valuesAfter W D (PointerIndex p q i) vs cs = set vs p (indexed (declaredIn W) vs q i)
+valuesAfter W D (Load x p i k) vs cs = set vs x (getD cs (address (declaredIn W) vs p i k - bias) 0)
+valuesAfter W D (Store p i k x) vs cs = vs
+valuesAfter W D (Test c) vs cs = vs
+valuesAfter W D (Declare p r) vs cs = vs
 
-unfoldable pub cellsAfter : Simple → List ℕ → List ℕ → List ℕ
-cellsAfter (Literal x k) vs cs = cs
-cellsAfter (AddConstant x y k) vs cs = cs
-cellsAfter (Arithmetic x y z op) vs cs = cs
-cellsAfter (Null p) vs cs = cs
-cellsAfter (Address p o) vs cs = cs
-cellsAfter (PointerOffset p q k) vs cs = cs
-cellsAfter (PointerIndex p q i) vs cs = cs
-cellsAfter (Load x p i k) vs cs = cs
-cellsAfter (Store p i k x) vs cs = set cs (address vs p i k - bias) (value vs x)
-cellsAfter (Test c) vs cs = cs
-cellsAfter (Declare p r) vs cs = cs
+unfoldable pub cellsAfter : List ℕ → Simple → List ℕ → List ℕ → List ℕ
+cellsAfter W (Literal x k) vs cs = cs
+cellsAfter W (AddConstant x y k) vs cs = cs
+cellsAfter W (Arithmetic x y z op) vs cs = cs
+cellsAfter W (Null p) vs cs = cs
+cellsAfter W (Address p o) vs cs = cs
+cellsAfter W (PointerOffset p q k) vs cs = cs
+cellsAfter W (PointerIndex p q i) vs cs = cs
+cellsAfter W (Load x p i k) vs cs = cs
+cellsAfter W (Store p i k x) vs cs = set cs (address (declaredIn W) vs p i k - bias) (value vs x)
+cellsAfter W (Test c) vs cs = cs
+cellsAfter W (Declare p r) vs cs = cs
 
 -- Point 2: the first n of the six numbers of the row r become those of the pointer p.
 unfoldable pub copied : ℕ → ℕ → ℕ → List ℕ → List ℕ
@@ -75,8 +75,8 @@ endsAfter (Declare p r) W = copied 6 p r W
 abbrev pub offsetFailing : List ℕ → ℕ → ℕ → Failing
 offsetFailing vs q k = firstUnless (eqb k bias) (arithmeticFailing (value vs q) (value vs q + k))
 
-abbrev pub indexFailing : List ℕ → ℕ → ℕ → Failing
-indexFailing vs q i = arithmeticFailing (value vs q) (value vs q + value vs i + bias)
+abbrev pub indexFailing : List ℕ → List ℕ → ℕ → ℕ → Failing
+indexFailing W vs q i = arithmeticFailing (value vs q) (indexed (declaredIn W) vs q i + bias)
 
 -- ---- steps
 
@@ -98,7 +98,7 @@ changedUnless (fails n) old new = old
 unfoldable pub simpleMove : List ℕ → List ℕ → Simple → ℕ → ℕ → List ℕ → List ℕ → Move
 simpleMove W D s a next vs cs =
     let f = failing (declaredIn W) vs s in
-    move (stepUnless f a next) (changedUnless f W (endsAfter s W)) (changedUnless f vs (valuesAfter D s vs cs)) (changedUnless f cs (cellsAfter s vs cs))
+    move (stepUnless f a next) (changedUnless f W (endsAfter s W)) (changedUnless f vs (valuesAfter W D s vs cs)) (changedUnless f cs (cellsAfter W s vs cs))
 
 unfoldable pub statementMove : List ℕ → List ℕ → Statement → ℕ → Successors → List ℕ → List ℕ → Move
 statementMove W D (Plain s) a n vs cs = simpleMove W D s a (n .next) vs cs
@@ -120,8 +120,8 @@ InsideSimple W (Null p) vs cs = Unit {0}
 InsideSimple W (Address p o) vs cs = Unit {0}
 InsideSimple W (PointerOffset p q k) vs cs = Unit {0}
 InsideSimple W (PointerIndex p q i) vs cs = Unit {0}
-InsideSimple W (Load x p i k) vs cs = failing (declaredIn W) vs (Load x p i k) ≡ none → InCells (address vs p i k) cs
-InsideSimple W (Store p i k x) vs cs = failing (declaredIn W) vs (Store p i k x) ≡ none → InCells (address vs p i k) cs
+InsideSimple W (Load x p i k) vs cs = failing (declaredIn W) vs (Load x p i k) ≡ none → InCells (address (declaredIn W) vs p i k) cs
+InsideSimple W (Store p i k x) vs cs = failing (declaredIn W) vs (Store p i k x) ≡ none → InCells (address (declaredIn W) vs p i k) cs
 InsideSimple W (Test c) vs cs = Unit {0}
 InsideSimple W (Declare p r) vs cs = Unit {0}
 
@@ -137,9 +137,10 @@ pub record Accessible (W : List ℕ) (x p i k : ℕ) (vs cs : List ℕ) : Type 0
   pub value : x < length vs
   pub pointer : p < 16
   pub constant : k < 2 ^ 34
-  pub ends : length W ≡ 480
+  pub ends : length W ≡ 496
   pub small : (n : ℕ) → getD W n 0 < 2 ^ 34
-  pub inside : accessFailing (declaredIn W) vs p (address vs p i k) ≡ none → InCells (address vs p i k) cs
+  pub sizes : (n : ℕ) → sizeIn W n ≤ 8
+  pub inside : accessFailing (declaredIn W) vs p (address (declaredIn W) vs p i k) ≡ none → InCells (address (declaredIn W) vs p i k) cs
 
 -- The same of each kind of statement.
 abbrev pub Operable : List ℕ → List ℕ → Simple → List ℕ → List ℕ → Type 0
@@ -149,11 +150,11 @@ Operable W D (Arithmetic x y z op) vs cs = (x < length vs) × (y < length vs) ×
 Operable W D (Null p) vs cs = p < length vs
 Operable W D (Address p o) vs cs = (p < length vs) × (2 * o < length D)
 Operable W D (PointerOffset p q k) vs cs = (p < length vs) × (q < length vs) × (k < 2 ^ 34)
-Operable W D (PointerIndex p q i) vs cs = (p < length vs) × (q < length vs) × (i < length vs)
+Operable W D (PointerIndex p q i) vs cs = (p < length vs) × (q < length vs) × (i < length vs) × (q < 16) × (length W ≡ 496) × ((x : ℕ) → sizeIn W x ≤ 8)
 Operable W D (Load x p i k) vs cs = Accessible W x p i k vs cs
 Operable W D (Store p i k x) vs cs = Accessible W x p i k vs cs
 Operable W D (Test c) vs cs = c .offset < 2 ^ 32
-Operable W D (Declare p r) vs cs = (p < 16) × (r < 64) × (length W ≡ 480)
+Operable W D (Declare p r) vs cs = (p < 16) × (r < 64) × (length W ≡ 496)
 
 -- The statement a reads, and its access is inside.
 pub record Ready (T : List ℤ) (h : Sections) (W : List ℕ) (a : ℕ) (vs cs : List ℕ) : Type 0 where
@@ -164,8 +165,9 @@ pub record Ready (T : List ℤ) (h : Sections) (W : List ℕ) (a : ℕ) (vs cs :
 -- The slices are long enough, and the ends small enough that no sum wraps.
 pub record Prepared (T : List ℤ) (h : Sections) (W D S vs : List ℕ) : Type 0 where
   pub table : statementStart h (h .statements) ≤ length T
-  pub ends : length W ≡ 480
+  pub ends : length W ≡ 496
   pub small : (i : ℕ) → getD W i 0 < 2 ^ 34
+  pub sizes : (p : ℕ) → sizeIn W p ≤ 8
   pub directory : 2 * h .objects ≤ length D
   pub successors : 2 * h .statements ≤ length S
   pub values : h .variables ≤ length vs

@@ -1,7 +1,8 @@
 -- A step keeps the ends as long as they were, and small.
-use Prim.Native.Nat.{ℕ, zero, suc, _+_, _*_, _^_, _<_}
-use mathlib.Core.Path.{_≡_, refl}
+use Prim.Native.Nat.{ℕ, zero, suc, _+_, _*_, _^_, _<_, _≤_}
+use mathlib.Core.Path.{_≡_, refl, ap}
 use mathlib.Core.List.{List, [], _∷_}
+use native.Mathlib.Omega.{arith}
 use lib.IntN.{ℤ}
 use lib.ListN.{length, getD, set}
 use Rattle.sections.specs.declared.Sections.{Sections}
@@ -13,10 +14,11 @@ use Rattle.decode.specs.Decode.{decodedAt}
 use Rattle.flow.specs.Flow.{Successors}
 use Rattle.flow.specs.Shape.{entriesAt}
 use Rattle.machine.specs.Machine.{Failing, none, fails, failing}
-use Rattle.checks.specs.Checked.{declaredIn}
+use Rattle.checks.specs.Checked.{declaredIn, sizeIn}
 use Rattle.checks.specs.declared.Step.{Step}
-use Rattle.steps.specs.Bare.{copied, endsAfter, changedUnless, simpleMove, statementMove, bareMove, Moves}
-use Rattle.steps.specs.CopiedLaws.{copied-long}
+use Rattle.steps.specs.Bare.{copied, endsAfter, changedUnless, simpleMove, statementMove, bareMove, Moves, Ready}
+use Rattle.steps.specs.CopiedLaws.{copied-long, copied-outside}
+use Rattle.steps.specs.ReadyLaws.{ready-declare}
 
 -- The ends W′ are as long as W, and small where W is.
 pub record EndsKept (W W′ : List ℕ) : Type 0 where
@@ -67,3 +69,39 @@ statement-kept W D (Bundle x) a n vs cs = same-kept W
 pub move-kept : (T : List ℤ) (h : Sections) (W D S : List ℕ) (a : ℕ) (vs cs : List ℕ) {r : Step} {W′ ws ds : List ℕ} → Moves (bareMove T h W D S a vs cs) r W′ ws ds → EndsKept W W′
 unfolding bareMove
 move-kept T h W D S a vs cs m = rw (m .ends) (statement-kept W D (decodedAt T h a) a (entriesAt S a) vs cs)
+
+-- ---- the element sizes stay: a kind 14 copies six numbers of a variable below 16
+
+after-sizes : (s : Simple) (W : List ℕ) → ((p r : ℕ) → s ≡ Declare p r → p < 16) → (x : ℕ) → sizeIn (endsAfter s W) x ≡ sizeIn W x
+unfolding endsAfter
+after-sizes (Literal x k) W f n = refl
+after-sizes (AddConstant x y k) W f n = refl
+after-sizes (Arithmetic x y z op) W f n = refl
+after-sizes (Null p) W f n = refl
+after-sizes (Address p o) W f n = refl
+after-sizes (PointerOffset p q k) W f n = refl
+after-sizes (PointerIndex p q i) W f n = refl
+after-sizes (Load x p i k) W f n = refl
+after-sizes (Store p i k x) W f n = refl
+after-sizes (Check c) W f n = refl
+after-sizes (Declare p r) W f n = let l : p < 16 = f p r refl in copied-outside p r W 6 (480 + n) (λ j m e. omega arith)
+
+unless-sizes : (f : Failing) (W W′ : List ℕ) (x : ℕ) → sizeIn W′ x ≡ sizeIn W x → sizeIn (changedUnless f W W′) x ≡ sizeIn W x
+unfolding changedUnless
+unless-sizes none W W′ x e = e
+unless-sizes (fails n) W W′ x e = refl
+
+statement-sizes : (W D : List ℕ) (s : Statement) (a : ℕ) (n : Successors) (vs cs : List ℕ) → ((p r : ℕ) → s ≡ Plain (Declare p r) → p < 16) → (x : ℕ)
+    → sizeIn (statementMove W D s a n vs cs .ends) x ≡ sizeIn W x
+unfolding statementMove simpleMove
+statement-sizes W D (Plain s) a n vs cs f x = unless-sizes (failing (declaredIn W) vs s) W (endsAfter s W) x (after-sizes s W (λ p r e. f p r (ap Plain e)) x)
+statement-sizes W D (If c y z) a n vs cs f x = refl
+statement-sizes W D (While c y) a n vs cs f x = refl
+statement-sizes W D (Bundle y) a n vs cs f x = refl
+
+pub move-sizes : (T : List ℤ) (h : Sections) (W D S : List ℕ) (a : ℕ) (vs cs : List ℕ) {r : Step} {W′ ws ds : List ℕ} → Ready T h W a vs cs
+    → Moves (bareMove T h W D S a vs cs) r W′ ws ds
+    → ((x : ℕ) → sizeIn W x ≤ 8) → (x : ℕ) → sizeIn W′ x ≤ 8
+unfolding bareMove
+move-sizes T h W D S a vs cs y m f x =
+    rw (m .ends, statement-sizes W D (decodedAt T h a) a (entriesAt S a) vs cs (λ p r e. ready-declare T h W a vs cs p r y e) x) (f x)

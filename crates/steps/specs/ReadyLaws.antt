@@ -27,7 +27,8 @@ use Rattle.checks.specs.declared.Step.{Step}
 use Rattle.checks.specs.declared.Step.the-variants.{Go}
 
 module _ (T : List ℤ) (h : Sections) (W D S vs cs : List ℕ) (few : Limits h) (P : Prepared T h W D S vs) where
-  accessible : (x p i k : ℕ) → AccessTyped T h x p i k → (accessFailing (declaredIn W) vs p (address vs p i k) ≡ none → InCells (address vs p i k) cs) → Accessible W x p i k vs cs
+  accessible : (x p i k : ℕ) → AccessTyped T h x p i k
+      → (accessFailing (declaredIn W) vs p (address (declaredIn W) vs p i k) ≡ none → InCells (address (declaredIn W) vs p i k) cs) → Accessible W x p i k vs cs
   accessible x p i k t n =
       record {
         value = omega (arith, t .value .below, P .values);
@@ -35,6 +36,7 @@ module _ (T : List ℤ) (h : Sections) (W D S vs cs : List ℕ) (few : Limits h)
         constant = omega (arith, t .constant .high);
         ends = P .ends;
         small = P .small;
+        sizes = P .sizes;
         inside = n;
       }
 
@@ -49,8 +51,15 @@ module _ (T : List ℤ) (h : Sections) (W D S vs cs : List ℕ) (few : Limits h)
   operable (Address p o) t n = (omega (arith, t .target .below, P .values), omega (arith, t .object, P .directory))
   operable (PointerOffset p q k) t n =
       (omega (arith, t .target .below, P .values), omega (arith, t .source .below, P .values), omega (arith, t .constant .high))
-  operable (PointerIndex p q i) t n =
-      (omega (arith, t .target .below, P .values), omega (arith, t .source .below, P .values), omega (arith, t .index .below, P .values))
+  operable (PointerIndex p q i) t n = (
+    omega (arith, t .target .below, P .values),
+    omega (arith, t .source .below, P .values),
+    omega (arith, t .index .below, P .values),
+    omega
+        (arith, t .source .below, few .variables),
+    P .ends,
+    P .sizes,
+  )
   operable (Load x p i k) t n = accessible x p i k t n
   operable (Store p i k x) t n = accessible x p i k t n
   operable (Test c) t n = offset-small t
@@ -68,6 +77,12 @@ module _ (T : List ℤ) (h : Sections) (W : List ℕ) (a : ℕ) (vs cs : List �
 
   pub ready-if : (c : Condition) (n m : ℕ) → Ready T h W a vs cs → decodedAt T h a ≡ If c n m → c .offset < 2 ^ 32
   ready-if c n m r e = offset-small (read-typed T h a (If c n m) (ready-reads (If c n m) r e .0) .condition)
+
+  -- A kind 14 names a variable.
+  pub ready-declare : (p q : ℕ) → Ready T h W a vs cs → decodedAt T h a ≡ Plain (Declare p q) → p < 16
+  ready-declare p q r e =
+      let g = ready-reads (Plain (Declare p q)) r e in
+      omega (arith, read-typed T h a (Plain (Declare p q)) (g .0) .pointer .below, read-limits T h a (Plain (Declare p q)) (g .0) .0 .variables)
 
   pub ready-while : (c : Condition) (n : ℕ) → Ready T h W a vs cs → decodedAt T h a ≡ While c n → c .offset < 2 ^ 32
   ready-while c n r e = offset-small (read-typed T h a (While c n) (ready-reads (While c n) r e .0) .condition)

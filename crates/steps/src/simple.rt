@@ -5,16 +5,18 @@ use checks::Step;
 use checks::check_access;
 use checks::check_arithmetic;
 use checks::check_condition;
+use checks::size_in;
+use machine::scaled;
 use machine::value_at;
 use machine::wide;
 use statements::Simple;
 use sums::BIAS;
 ghost use mathlib.Core.Path.{_≡_};
-ghost use Prim.Native.Nat.{_+_, _-_, _^_, _<_};
+ghost use Prim.Native.Nat.{ℕ, _+_, _-_, _^_, _<_, _≤_};
 ghost use lib.ListN.{length, getD};
 ghost use Rattle.sums.specs.Numbers.{bias};
-ghost use Rattle.machine.specs.Machine.{value, address, arithmeticFailing, accessFailing};
-ghost use Rattle.checks.specs.Checked.{declaredIn};
+ghost use Rattle.machine.specs.Machine.{value, address, indexed, arithmeticFailing, accessFailing};
+ghost use Rattle.checks.specs.Checked.{sizeIn, declaredIn};
 ghost use Rattle.checks.specs.declared.Step.the-variants.{Go};
 ghost use Rattle.steps.specs.Bare.{offsetFailing, indexFailing, copied, Accessible, Operable, simpleMove, Assigns, Moves};
 
@@ -58,8 +60,9 @@ fn offset_pointer(
     assign_pointer(at, next, target, base, base + constant, values)
 }
 
-// Kind 7: p := q + i, unless check 4 or 5 fails.
+// Kind 7: p := q + s of q times i, unless check 4 or 5 fails.
 fn index_pointer(
+    ends: &[u64],
     at: usize,
     next: usize,
     target: usize,
@@ -67,12 +70,21 @@ fn index_pointer(
     index: usize,
     values: &mut [u32],
 ) -> Step
-    requires { ⌜ (target < length (now values)) × (source < length (now values)) × (index < length (now values)) ⌝ }
-    ensures { λ r. ⌜ Assigns (indexFailing (now (values .entry)) source index) at next target (value (now (values .entry)) source + value (now (values .entry)) index) (now (values .entry)) r (now (values .exit)) ⌝ }
+    requires { ⌜ (target < length (now values)) × (source < length (now values)) × (index < length (now values)) × (source < 16) × (length (now ends) ≡ 496) × ((p : ℕ) → sizeIn (now ends) p ≤ 8) ⌝ }
+    ensures { λ r. ⌜ Assigns (indexFailing (now (ends .entry)) (now (values .entry)) source index) at next target (indexed (declaredIn (now (ends .entry))) (now (values .entry)) source index) (now (values .entry)) r (now (values .exit)) ⌝ }
 {
     let base = wide(values[source]);
-    let sum = base + wide(values[index]) + BIAS;
+    let sum = base + scaled(size_in(ends, source), wide(values[index])) + BIAS;
     assign_pointer(at, next, target, base, sum, values)
+}
+
+// The whole number p + s of p times i + k, with the bias.
+fn address_of(ends: &[u64], values: &[u32], pointer: usize, index: usize, constant: u64) -> u64
+    requires { ⌜ (pointer < 16) × (length (now ends) ≡ 496) × (sizeIn (now ends) pointer ≤ 8) × (constant < 2 ^ 34) ⌝ }
+    ensures { λ r. ⌜ r ≡ address (declaredIn (now (ends .entry))) (now (values .entry)) pointer index constant ⌝ }
+    ensures small { λ r. ⌜ r < 2 ^ 40 ⌝ }
+{
+    value_at(values, pointer) + scaled(size_in(ends, pointer), value_at(values, index)) + constant
 }
 
 // Kind 8: x := p[i + k], unless check 2 or 3 fails.
@@ -88,9 +100,9 @@ fn load(
     cells: &[u32],
 ) -> Step
     requires { ⌜ Accessible (now ends) target pointer index constant (now values) (now cells) ⌝ }
-    ensures { λ r. ⌜ Assigns (accessFailing (declaredIn (now (ends .entry))) (now (values .entry)) pointer (address (now (values .entry)) pointer index constant)) at next target (getD (now (cells .entry)) (address (now (values .entry)) pointer index constant - bias) 0) (now (values .entry)) r (now (values .exit)) ⌝ }
+    ensures { λ r. ⌜ Assigns (accessFailing (declaredIn (now (ends .entry))) (now (values .entry)) pointer (address (declaredIn (now (ends .entry))) (now (values .entry)) pointer index constant)) at next target (getD (now (cells .entry)) (address (declaredIn (now (ends .entry))) (now (values .entry)) pointer index constant - bias) 0) (now (values .entry)) r (now (values .exit)) ⌝ }
 {
-    let address = value_at(values, pointer) + value_at(values, index) + constant;
+    let address = address_of(ends, values, pointer, index, constant);
     let said = check_access(ends, values, at, next, pointer, address);
     let Step::Go(_) = said else {
         return said;
@@ -113,9 +125,9 @@ fn store(
     cells: &mut [u32],
 ) -> Step
     requires { ⌜ Accessible (now ends) source pointer index constant (now values) (now cells) ⌝ }
-    ensures { λ r. ⌜ Assigns (accessFailing (declaredIn (now (ends .entry))) (now (values .entry)) pointer (address (now (values .entry)) pointer index constant)) at next (address (now (values .entry)) pointer index constant - bias) (value (now (values .entry)) source) (now (cells .entry)) r (now (cells .exit)) ⌝ }
+    ensures { λ r. ⌜ Assigns (accessFailing (declaredIn (now (ends .entry))) (now (values .entry)) pointer (address (declaredIn (now (ends .entry))) (now (values .entry)) pointer index constant)) at next (address (declaredIn (now (ends .entry))) (now (values .entry)) pointer index constant - bias) (value (now (values .entry)) source) (now (cells .entry)) r (now (cells .exit)) ⌝ }
 {
-    let address = value_at(values, pointer) + value_at(values, index) + constant;
+    let address = address_of(ends, values, pointer, index, constant);
     let said = check_access(ends, values, at, next, pointer, address);
     let Step::Go(_) = said else {
         return said;
@@ -127,7 +139,7 @@ fn store(
 
 // Kind 14: the six numbers of the row become those of the pointer.
 fn declare(ends: &mut [u64], next: usize, pointer: usize, row: usize) -> Step
-    requires { ⌜ (pointer < 16) × (row < 64) × (length (now ends) ≡ 480) ⌝ }
+    requires { ⌜ (pointer < 16) × (row < 64) × (length (now ends) ≡ 496) ⌝ }
     ensures { λ r. ⌜ (r ≡ Go next) × (now (ends .exit) ≡ copied 6 pointer row (now (ends .entry))) ⌝ }
 {
     let mut j = 0;
@@ -190,7 +202,7 @@ pub(crate) fn advance_simple(
             target,
             source,
             index,
-        } => index_pointer(at, next, target, source, index, values),
+        } => index_pointer(ends, at, next, target, source, index, values),
         Simple::Load {
             target,
             pointer,

@@ -17,7 +17,7 @@ pub const MAX_SUM: u64 = 12884901887;
 pub const UNBOUNDED: u64 = 18446744073709551615;
 
 // Sums of a fact set stay far below this; so none that is added wraps.
-const LIMIT: u64 = 1099511627776;
+pub const LIMIT: u64 = 1099511627776;
 
 // The sum of two chains, one after the other.
 pub fn concat(a: u64, b: u64) -> u64

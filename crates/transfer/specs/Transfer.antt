@@ -14,7 +14,7 @@ sourceOf Keep = 0
 sourceOf (Forget v) = 0
 sourceOf (Shift v k) = 0
 sourceOf (Copy v q) = q
-sourceOf (Object v n) = 0
+sourceOf (Object v z n) = 0
 
 -- As `effectOn`, given the pointer's own bounds and those of the source.
 abbrev pub effectOnOne : Effect → ℕ → Bounds → Bounds → Bounds
@@ -22,4 +22,4 @@ effectOnOne Keep p own source = own
 effectOnOne (Forget v) p own source = forgetBounds v own
 effectOnOne (Shift v k) p own source = shiftBounds v k own
 effectOnOne (Copy v q) p own source = forgetBounds v (cond (eqb p v) source own)
-effectOnOne (Object v n) p own source = cond (eqb p v) (objectBounds v n) (forgetBounds v own)
+effectOnOne (Object v z n) p own source = cond (eqb p v) (objectBounds v z n) (forgetBounds v own)

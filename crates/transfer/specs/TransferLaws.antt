@@ -21,7 +21,7 @@ effect-on-one Keep K p = refl
 effect-on-one (Forget v) K p = refl
 effect-on-one (Shift v k) K p = refl
 effect-on-one (Copy v q) K p = refl
-effect-on-one (Object v n) K p = refl
+effect-on-one (Object v z n) K p = refl
 
 pub effect-on-read : (e : Effect) (K : List Bounds) (p : ℕ) {r : Bounds} (q : ℕ) → p < length K → q < length K → q ≡ sourceOf e
     → r ≡ effectOnOne e p (stored K p) (stored K q) → r ≡ effectOn e K p
@@ -34,7 +34,7 @@ source-below Keep s = omega arith
 source-below (Forget v) s = omega arith
 source-below (Shift v k) s = omega arith
 source-below (Copy v q) s = s
-source-below (Object v n) s = omega arith
+source-below (Object v z n) s = omega arith
 
 pub source-within : (K : List Bounds) (e : Effect) {q : ℕ} → q ≡ sourceOf e → Short e → length K ≡ 16 → q < length K
 source-within K e z s l = omega (arith, source-below e s)

@@ -4,11 +4,12 @@ use rules::Effect;
 use rules::KnownEnd;
 use stays::end_names;
 use sums::BIAS;
+use sums::LIMIT;
 use sums::ZERO;
 use variables::End;
 ghost use mathlib.Core.Path.{_≡_};
 ghost use Prim.Native.Nat.{_^_, _<_};
-ghost use Rattle.rules.specs.BoundsRules.{forgetEnd, forgetBounds, objectBounds};
+ghost use Rattle.rules.specs.BoundsRules.{forgetEnd, weight, forgetBounds, objectBounds};
 ghost use Rattle.rules.specs.Stored.{shiftConstant, shiftEnd, shiftBounds};
 ghost use Rattle.rules.specs.Ranges.{Short};
 ghost use Rattle.transfer.specs.Transfer.{sourceOf, effectOnOne};
@@ -25,32 +26,49 @@ fn forget_end(v: usize, end: KnownEnd) -> KnownEnd
     end
 }
 
-// The end with its constant lowered by k.
-fn shift_constant(k: u64, end: End) -> KnownEnd
-    ensures { λ r. ⌜ r ≡ shiftConstant k end ⌝ }
+// How often an end with this element size counts the variable v that it names.
+fn weight_of(size: u64, v: usize, end: End) -> u64
+    ensures { λ r. ⌜ r ≡ weight size v end ⌝ }
 {
-    if end.constant >= 1099511627776 {
+    if end.pointer == v {
+        return 1;
+    }
+    size
+}
+
+// The end with its constant lowered by `weight` times k.
+fn shift_constant(weight: u64, k: u64, end: End) -> KnownEnd
+    ensures { λ r. ⌜ r ≡ shiftConstant weight k end ⌝ }
+{
+    if weight > 8 {
         return KnownEnd::Unknown;
     }
-    let raised = end.constant + BIAS;
-    if k > raised {
+    if k >= LIMIT {
+        return KnownEnd::Unknown;
+    }
+    if end.constant >= LIMIT {
+        return KnownEnd::Unknown;
+    }
+    let moved = weight * k;
+    let raised = end.constant + weight * BIAS;
+    if moved > raised {
         return KnownEnd::Unknown;
     }
     KnownEnd::Known(End {
         pointer: end.pointer,
         integer: end.integer,
-        constant: raised - k,
+        constant: raised - moved,
     })
 }
 
-fn shift_end(v: usize, k: u64, end: KnownEnd) -> KnownEnd
-    ensures { λ r. ⌜ r ≡ shiftEnd v k end ⌝ }
+fn shift_end(size: u64, v: usize, k: u64, end: KnownEnd) -> KnownEnd
+    ensures { λ r. ⌜ r ≡ shiftEnd size v k end ⌝ }
 {
     let KnownEnd::Known(e) = end else {
         return KnownEnd::Unknown;
     };
     if end_names(e, v) {
-        return shift_constant(k, e);
+        return shift_constant(weight_of(size, v, e), k, e);
     }
     end
 }
@@ -60,7 +78,9 @@ fn forget_bounds(v: usize, b: Bounds) -> Bounds
 {
     let lower = b.lower;
     let upper = b.upper;
+    let size = b.size;
     Bounds {
+        size,
         lower: forget_end(v, lower),
         upper: forget_end(v, upper),
     }
@@ -71,17 +91,20 @@ fn shift_bounds(v: usize, k: u64, b: Bounds) -> Bounds
 {
     let lower = b.lower;
     let upper = b.upper;
+    let size = b.size;
     Bounds {
-        lower: shift_end(v, k, lower),
-        upper: shift_end(v, k, upper),
+        size,
+        lower: shift_end(size, v, k, lower),
+        upper: shift_end(size, v, k, upper),
     }
 }
 
-fn object_bounds(p: usize, length: u64) -> Bounds
+fn object_bounds(p: usize, size: u64, length: u64) -> Bounds
     requires { ⌜ length < 2 ^ 40 ⌝ }
-    ensures { λ r. ⌜ r ≡ objectBounds p length ⌝ }
+    ensures { λ r. ⌜ r ≡ objectBounds p size length ⌝ }
 {
     Bounds {
+        size,
         lower: KnownEnd::Known(End {
             pointer: p,
             integer: ZERO,
@@ -109,6 +132,7 @@ pub fn source_of(effect: Effect) -> usize
         Effect::Copy { target: _, source } => source,
         Effect::Object {
             target: _,
+            size: _,
             length: _,
         } => 0,
     }
@@ -129,9 +153,13 @@ pub fn effect_on(effect: Effect, p: usize, own: Bounds, source: Bounds) -> Bound
             }
             forget_bounds(target, own)
         }
-        Effect::Object { target, length } => {
+        Effect::Object {
+            target,
+            size,
+            length,
+        } => {
             if p == target {
-                return object_bounds(target, length);
+                return object_bounds(target, size, length);
             }
             forget_bounds(target, own)
         }

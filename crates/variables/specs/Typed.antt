@@ -1,5 +1,5 @@
 -- What holds of a variable that was read: what its ends name, and their ranges.
-use Prim.Native.Nat.{ℕ}
+use Prim.Native.Nat.{ℕ, _≤_}
 use mathlib.Core.Path.{_≡_}
 use mathlib.Core.Bool.{true}
 use mathlib.Core.List.{List}
@@ -16,9 +16,10 @@ pub record EndTyped (table : List ℤ) (h : Sections) (e : End) : Type 0 where
   pub integer : IsIndex table h (e .integer)
   pub constant : IsSmall (e .constant)
 
--- A pointer's record: its kind, and what its ends name.
-pub record PointerTyped (table : List ℤ) (h : Sections) (v : ℕ) (low high : End) : Type 0 where
+-- A pointer's record: its kind, its element size, and what its ends name.
+pub record PointerTyped (table : List ℤ) (h : Sections) (v size : ℕ) (low high : End) : Type 0 where
   pub kind : pointerAt table h v ≡ true
+  pub few : size ≤ 8
   pub lower : EndTyped table h low
   pub upper : EndTyped table h high
 
@@ -29,4 +30,4 @@ pub record RowTyped (table : List ℤ) (h : Sections) (low high : End) : Type 0 
 
 abbrev pub VariableTyped : List ℤ → Sections → ℕ → Variable → Type 0
 VariableTyped table h v Integer = integerAt table h v ≡ true
-VariableTyped table h v (Pointer lower upper) = PointerTyped table h v lower upper
+VariableTyped table h v (Pointer size lower upper) = PointerTyped table h v size lower upper

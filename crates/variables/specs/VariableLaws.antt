@@ -1,18 +1,19 @@
 -- Laws of the reading of variables.
-use Prim.Native.Nat.{ℕ, _+_, _<_}
+use Prim.Native.Nat.{ℕ, _+_, _<_, _≤_}
 use mathlib.Core.Path.{_≡_, refl, ap, _∙_}
 use mathlib.Core.Bool.{Bool, true, false, _&&_, cond}
 use mathlib.Core.List.{List}
 use lib.IntN.{ℤ}
-use lib.Dec.{eqb, ltb}
+use lib.Dec.{eqb, ltb, leb}
 use native.Mathlib.Omega.{arith}
+use borrow.Author.Tests.{leb-true}
 use Rattle.sums.specs.Numbers.{bias}
-use Rattle.fields.specs.Fields.{isZero, isConstant}
+use Rattle.fields.specs.Fields.{isZero, isConstant, plain}
 use Rattle.sections.specs.Sections.{isVariable, variableStart, kindAt, integerAt, pointerAt, namesPointer, namesIndex, Limits, inLimits, rowStart}
 use Rattle.sections.specs.SectionsLaws.{both, variable-limits}
 use Rattle.sections.specs.NameLaws.{constant-small, pointer-named, index-named}
 use Rattle.sections.specs.declared.Sections.{Sections}
-use Rattle.variables.specs.Variables.{variableWordsAt, endZero, endRight, endOf, integerRecord, pointerRecord, variableOf, variableAt, rowWordsAt, rowOf, rowAt}
+use Rattle.variables.specs.Variables.{variableWordsAt, endZero, endRight, endOf, integerRecord, pointerRecord, variableOf, variableAt, rowWordsAt, rowOf, rowAt, isSize, sizeOf}
 use Rattle.variables.specs.Typed.{EndTyped, PointerTyped, VariableTyped, RowTyped}
 use Rattle.variables.specs.declared.Variable.{Variable}
 use Rattle.variables.specs.declared.Variable.the-variants.{Integer, Pointer}
@@ -22,6 +23,15 @@ use Rattle.variables.specs.declared.RowRead.{RowRead}
 use Rattle.variables.specs.declared.EndWords.{EndWords}
 use Rattle.variables.specs.declared.End.{End}
 use Rattle.variables.specs.declared.RowRead.the-variants as row
+
+-- A size is at most 8.
+size-small : (w : ℕ) → isSize w ≡ true → sizeOf w ≤ 8
+unfolding isSize sizeOf
+size-small w t = go (eqb w bias)
+  where
+    go : (b : Bool) → cond b 1 (plain w) ≤ 8
+    go true = omega arith
+    go false = omega (arith, leb-true w (bias + 8) (both (leb bias w) (leb w (bias + 8)) t .1))
 
 module _ (table : List ℤ) (h : Sections) where
   abbrev TypedRead : ℕ → VariableRead → Type 0
@@ -44,19 +54,21 @@ module _ (table : List ℤ) (h : Sections) where
   unfolding integerAt integerRecord
   integer-kind v e t =
       let w = variableWordsAt table (variableStart h v) in
-      let p = both (isZero (w .kind) && isZero (w .second) && endZero (w .lower)) (endZero (w .upper)) t in
-      let q = both (isZero (w .kind) && isZero (w .second)) (endZero (w .lower)) (p .0) in
-      ap (λ (k : ℕ). eqb k bias) (kind-word v e) ∙ both (isZero (w .kind)) (isZero (w .second)) (q .0) .0
+      let p = both (isZero (w .kind) && isZero (w .size) && endZero (w .lower)) (endZero (w .upper)) t in
+      let q = both (isZero (w .kind) && isZero (w .size)) (endZero (w .lower)) (p .0) in
+      ap (λ (k : ℕ). eqb k bias) (kind-word v e) ∙ both (isZero (w .kind)) (isZero (w .size)) (q .0) .0
 
   pointer-kind : (v : ℕ) → isVariable h v ≡ true → pointerRecord table h (variableWordsAt table (variableStart h v)) ≡ true →
-      PointerTyped table h v (endOf (variableWordsAt table (variableStart h v) .lower)) (endOf (variableWordsAt table (variableStart h v) .upper))
+      PointerTyped table h v (sizeOf (variableWordsAt table (variableStart h v) .size)) (endOf (variableWordsAt table (variableStart h v) .lower))
+      (endOf (variableWordsAt table (variableStart h v) .upper))
   unfolding pointerAt pointerRecord
   pointer-kind v e t =
       let w = variableWordsAt table (variableStart h v) in
-      let p = both (eqb (w .kind) (bias + 1) && isZero (w .second) && endRight table h (w .lower)) (endRight table h (w .upper)) t in
-      let q = both (eqb (w .kind) (bias + 1) && isZero (w .second)) (endRight table h (w .lower)) (p .0) in
+      let p = both (eqb (w .kind) (bias + 1) && isSize (w .size) && endRight table h (w .lower)) (endRight table h (w .upper)) t in
+      let q = both (eqb (w .kind) (bias + 1) && isSize (w .size)) (endRight table h (w .lower)) (p .0) in
       record {
-        kind = ap (λ (k : ℕ). eqb k (bias + 1)) (kind-word v e) ∙ both (eqb (w .kind) (bias + 1)) (isZero (w .second)) (q .0) .0;
+        kind = ap (λ (k : ℕ). eqb k (bias + 1)) (kind-word v e) ∙ both (eqb (w .kind) (bias + 1)) (isSize (w .size)) (q .0) .0;
+        few = size-small (w .size) (both (eqb (w .kind) (bias + 1)) (isSize (w .size)) (q .0) .1);
         lower = end-typed (w .lower) (q .1);
         upper = end-typed (w .upper) (p .1);
       }
@@ -69,8 +81,8 @@ module _ (table : List ℤ) (h : Sections) where
     where
       go : (a b : Bool) →
           (a ≡ true → integerAt table h v ≡ true) →
-          (b ≡ true → PointerTyped table h v (endOf (variableWordsAt table (variableStart h v) .lower)) (endOf (variableWordsAt table (variableStart h v) .upper))) →
-          TypedRead v (cond a (Read Integer) (cond b (Read (Pointer (endOf (variableWordsAt table (variableStart h v) .lower)) (endOf (variableWordsAt table (variableStart h v) .upper)))) Unread))
+          (b ≡ true → PointerTyped table h v (sizeOf (variableWordsAt table (variableStart h v) .size)) (endOf (variableWordsAt table (variableStart h v) .lower)) (endOf (variableWordsAt table (variableStart h v) .upper))) →
+          TypedRead v (cond a (Read Integer) (cond b (Read (Pointer (sizeOf (variableWordsAt table (variableStart h v) .size)) (endOf (variableWordsAt table (variableStart h v) .lower)) (endOf (variableWordsAt table (variableStart h v) .upper)))) Unread))
       go true b i p = i refl
       go false true i p = p refl
       go false false i p = tt

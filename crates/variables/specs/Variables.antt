@@ -3,7 +3,7 @@ use Prim.Native.Nat.{ℕ, _+_}
 use mathlib.Core.Bool.{Bool, _&&_, cond}
 use mathlib.Core.List.{List}
 use lib.IntN.{ℤ}
-use lib.Dec.{ltb, eqb}
+use lib.Dec.{ltb, eqb, leb}
 use Rattle.sums.specs.Numbers.{bias}
 use Rattle.words.specs.Words.{word}
 use Rattle.fields.specs.Fields.{plain, indexOf, isZero, isConstant}
@@ -23,9 +23,9 @@ use Rattle.variables.specs.declared.RowRead.the-variants as row
 unfoldable pub endWordsAt : List ℤ → ℕ → EndWords
 endWordsAt table i = record { pointer = word table i; integer = word table (i + 1); constant = word table (i + 2) }
 
--- "Kind, a 0, then the lower end and the upper end": eight words.
+-- "Kind, a 0, then the lower end and the upper end": eight words. Point 10: "The word after a pointer's kind is now its element size s".
 unfoldable pub variableWordsAt : List ℤ → ℕ → VariableWords
-variableWordsAt table i = record { kind = word table i; second = word table (i + 1); lower = endWordsAt table (i + 2); upper = endWordsAt table (i + 5) }
+variableWordsAt table i = record { kind = word table i; size = word table (i + 1); lower = endWordsAt table (i + 2); upper = endWordsAt table (i + 5) }
 
 -- "an array_ptr variable, an integer variable or -1, a constant k"
 unfoldable pub endRight : List ℤ → Sections → EndWords → Bool
@@ -39,14 +39,21 @@ endOf e = record { pointer = plain (e .pointer); integer = indexOf (e .integer);
 
 -- "An integer has zeros after its kind."
 unfoldable pub integerRecord : VariableWords → Bool
-integerRecord w = isZero (w .kind) && isZero (w .second) && endZero (w .lower) && endZero (w .upper)
+integerRecord w = isZero (w .kind) && isZero (w .size) && endZero (w .lower) && endZero (w .upper)
+
+-- Point 10: "its element size s, 0 or 1 for one cell, at most 8 (else refusal 4)".
+unfoldable pub isSize : ℕ → Bool
+isSize w = leb bias w && leb w (bias + 8)
+
+unfoldable pub sizeOf : ℕ → ℕ
+sizeOf w = cond (eqb w bias) 1 (plain w)
 
 unfoldable pub pointerRecord : List ℤ → Sections → VariableWords → Bool
-pointerRecord table h w = eqb (w .kind) (bias + 1) && isZero (w .second) && endRight table h (w .lower) && endRight table h (w .upper)
+pointerRecord table h w = eqb (w .kind) (bias + 1) && isSize (w .size) && endRight table h (w .lower) && endRight table h (w .upper)
 
 unfoldable pub variableOf : List ℤ → Sections → VariableWords → VariableRead
 variableOf table h w =
-    cond (integerRecord w) (Read Integer) (cond (pointerRecord table h w) (Read (Pointer (endOf (w .lower)) (endOf (w .upper)))) Unread)
+    cond (integerRecord w) (Read Integer) (cond (pointerRecord table h w) (Read (Pointer (sizeOf (w .size)) (endOf (w .lower)) (endOf (w .upper)))) Unread)
 
 -- The variable of a number; a number that no variable has does not read.
 unfoldable pub variableAt : List ℤ → Sections → ℕ → VariableRead

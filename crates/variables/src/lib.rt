@@ -11,9 +11,9 @@ use sums::BIAS;
 use words::word;
 ghost use mathlib.Core.Path.{_≡_};
 ghost use Prim.Native.Nat.{_<_};
-ghost use Rattle.variables.specs.Variables.{endWordsAt, endRight, endZero, endOf, variableWordsAt, integerRecord, pointerRecord, variableOf, variableAt, rowWordsAt, rowOf, rowAt, objectAt};
+ghost use Rattle.variables.specs.Variables.{endWordsAt, endRight, endZero, endOf, variableWordsAt, integerRecord, isSize, sizeOf, pointerRecord, variableOf, variableAt, rowWordsAt, rowOf, rowAt, objectAt};
 
-// An end of declared bounds: pointer + integer + constant. A missing integer is 16, the number that stands for zero. The constant is biased.
+// An end of declared bounds: pointer + size times integer + constant. A missing integer is 16, the number that stands for zero. The constant is biased.
 pub struct End {
     pub pointer: usize,
     pub integer: usize,
@@ -22,7 +22,7 @@ pub struct End {
 
 pub enum Variable {
     Integer,
-    Pointer { lower: End, upper: End },
+    Pointer { size: u64, lower: End, upper: End },
 }
 
 pub enum VariableRead {
@@ -46,7 +46,7 @@ struct EndWords {
 // The eight words of a variable record.
 struct VariableWords {
     kind: u64,
-    second: u64,
+    size: u64,
     lower: EndWords,
     upper: EndWords,
 }
@@ -74,7 +74,7 @@ fn variable_words_at(table: &[i32], start: usize) -> VariableWords
 {
     VariableWords {
         kind: word(table, start),
-        second: word(table, start + 1),
+        size: word(table, start + 1),
         lower: end_words_at(table, start + 2),
         upper: end_words_at(table, start + 5),
     }
@@ -107,14 +107,31 @@ fn end_of(e: EndWords) -> End
 fn integer_record(w: VariableWords) -> bool
     ensures { λ r. ⌜ r ≡ integerRecord w ⌝ }
 {
-    is_zero(w.kind) & is_zero(w.second) & end_zero(w.lower) & end_zero(w.upper)
+    is_zero(w.kind) & is_zero(w.size) & end_zero(w.lower) & end_zero(w.upper)
+}
+
+// The word of an element size: 0 to 8.
+fn is_size(w: u64) -> bool
+    ensures { λ r. ⌜ r ≡ isSize w ⌝ }
+{
+    (w >= BIAS) & (w <= BIAS + 8)
+}
+
+// The element size, 0 for one cell.
+fn size_of(w: u64) -> u64
+    ensures { λ r. ⌜ r ≡ sizeOf w ⌝ }
+{
+    if w == BIAS {
+        return 1;
+    }
+    plain(w) as u64
 }
 
 fn pointer_record(table: &[i32], sections: Sections, w: VariableWords) -> bool
     ensures { λ r. ⌜ r ≡ pointerRecord (now (table .entry)) sections w ⌝ }
 {
     (w.kind == BIAS + 1)
-        & is_zero(w.second)
+        & is_size(w.size)
         & end_right(table, sections, w.lower)
         & end_right(table, sections, w.upper)
 }
@@ -127,6 +144,7 @@ fn variable_of(table: &[i32], sections: Sections, w: VariableWords) -> VariableR
     }
     if pointer_record(table, sections, w) {
         return VariableRead::Read(Variable::Pointer {
+            size: size_of(w.size),
             lower: end_of(w.lower),
             upper: end_of(w.upper),
         });

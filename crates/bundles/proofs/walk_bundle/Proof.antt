@@ -17,11 +17,11 @@ use Rattle.rules.specs.Verdict.{environmentOf}
 use Rattle.force.specs.Force.{stateOf}
 
 abbrev Inv-loop : tie.InvT-loop
-Inv-loop table sections head count lengths rows₀ seen₀ known₀ facts₀ at₀ left₀ rows seen known facts at left =
+Inv-loop table sections head count sizes lengths rows₀ seen₀ known₀ facts₀ at₀ left₀ rows seen known facts at left =
     Held table sections (environmentOf table sections) head count (stateOf facts₀ (rows₀ .each)) (inForce (environmentOf table sections) (rows₀ .each) .declared) at left facts (rows .each) seen (known .each)
 
 abbrev μ-loop : tie.MeasureT-loop
-μ-loop table sections head count lengths rows₀ seen₀ known₀ facts₀ at₀ left₀ rows seen known facts at left = left
+μ-loop table sections head count sizes lengths rows₀ seen₀ known₀ facts₀ at₀ left₀ rows seen known facts at left = left
 
 pub walk-bundle-spec : {M : Type 1} → statement M
 walk-bundle-spec =
@@ -29,7 +29,7 @@ walk-bundle-spec =
     (tie.spec
     Inv-loop μ-loop
     (λ c. search needs)  -- add-at
-    (λ c. held-none _ _ _ _ _ _ _ (c .before .before .before .before .pre .3 .seen) refl)
+    (λ c. held-none _ _ _ _ _ _ _ (c .before .before .before .before .before .pre .3 .seen) refl)
     (λ c κs. search needs) (λ c. search needs) (λ c. search needs) (λ c. search needs)
     (λ c. omega (arith, read-within _ _ _ _ (sym (c .before .before .before .before .before .before .read-due .ensures) ∙ c .before .before .before .before .got .given .1), read-limits _ _ _ _ (sym (c .before .before .before .before .before .before .read-due .ensures) ∙ c .before .before .before .before .got .given .1)))
     (λ c. search needs)
@@ -48,9 +48,9 @@ walk-bundle-spec =
     (λ c κs. (read-ranged _ _ _ _ ((sym (c .before .before .before .before .before .before .before .before .before .before .before .read-due .ensures) ∙ c .before .before .before .before .before .before .before .before .before .got .given .1) ∙ ap Read (c .before .before .before .before .before .before .statement .given .1))))
     (λ c κs. search needs)
     (λ c κs. (read-ranged _ _ _ _ ((sym (c .before .before .before .before .before .before .before .before .before .before .before .before .before .read-due .ensures) ∙ c .before .before .before .before .before .before .before .before .before .before .before .got .given .1) ∙ ap Read (c .before .before .before .before .before .before .before .before .statement .given .1))))
-    (λ c κs. applied-short (environmentOf (now (c .before .before .before .before .before .before .before .before .before .before .before .before .before .before .before .before .before .before .before .before .before .args .table)) (c .before .before .before .before .before .before .before .before .before .before .before .before .before .before .before .before .before .before .before .before .before .args .sections)) _ _ (measured-by _ _ (c .before .before .before .before .before .before .before .before .before .before .before .before .before .before .before .before .before .before .before .before .before .pre .2 .lengths) (carried-out _ _ _ _ (c .before .before .ask-statement .ensures) (c .before .answer .ensures) (c .plan-statement .ensures) refl)) (c .before .before .before .before .before .before .before .before .before .before .before .before .before .before .before .before .before .before .before .before .before .pre .0) (read-ranged _ _ _ _ ((sym (c .before .before .before .before .before .before .before .before .before .before .before .before .before .before .read-due .ensures) ∙ c .before .before .before .before .before .before .before .before .before .before .before .before .got .given .1) ∙ ap Read (c .before .before .before .before .before .before .before .before .before .statement .given .1))))
+    (λ c κs. applied-short (environmentOf (now (c .before .before .before .before .before .before .before .before .before .before .before .before .before .before .before .before .before .before .before .before .before .before .args .table)) (c .before .before .before .before .before .before .before .before .before .before .before .before .before .before .before .before .before .before .before .before .before .before .args .sections)) _ _ (measured-by _ _ (c .before .before .before .before .before .before .before .before .before .before .before .before .before .before .before .before .before .before .before .before .before .before .pre .2) (carried-out _ _ _ _ _ (c .before .before .ask-statement .ensures) (c .before .answer .ensures) (c .plan-statement .ensures) refl)) (c .before .before .before .before .before .before .before .before .before .before .before .before .before .before .before .before .before .before .before .before .before .before .pre .0) (read-ranged _ _ _ _ ((sym (c .before .before .before .before .before .before .before .before .before .before .before .before .before .before .read-due .ensures) ∙ c .before .before .before .before .before .before .before .before .before .before .before .before .got .given .1) ∙ ap Read (c .before .before .before .before .before .before .before .before .before .statement .given .1))))
     (λ c κs. search needs)
     (λ c. omega (arith, (c .before .before .before .before .before .before .before .before .before .before .before .before .before .before .before .before .before .loop-test .taken)))
-    (λ c. held-more (c .before .before .before .before .before .before .before .before .before .before .before .before .before .before .before .before .before .before .loop .inv) (c .before .before .before .before .before .before .before .before .before .before .before .before .before .before .before .before .before .loop-test .taken) (sym (c .before .before .before .before .before .before .before .before .before .before .before .before .before .before .before .before .read-due .ensures) ∙ c .before .before .before .before .before .before .before .before .before .before .before .before .before .before .got .given .1) (c .before .before .before .before .before .before .before .before .before .before .before .statement .given .1) (sym (c .before .before .before .before .before .before .before .before .before .declares-of .ensures) ∙ c .before .before .before .before .before .before .before .enum-told4 .given .1) (c .before .before .before .before .before .before .access-shown .ensures) (not-false _ (c .before .before .before .before .before .if1 .left)) (applied-facts (environmentOf (now (c .before .before .before .before .before .before .before .before .before .before .before .before .before .before .before .before .before .before .before .before .before .before .before .args .table)) (c .before .before .before .before .before .before .before .before .before .before .before .before .before .before .before .before .before .before .before .before .before .before .before .args .sections)) _ _ (measured-by _ _ (c .before .before .before .before .before .before .before .before .before .before .before .before .before .before .before .before .before .before .before .before .before .before .before .pre .2 .lengths) (carried-out _ _ _ _ (c .before .before .before .before .ask-statement .ensures) (c .before .before .before .answer .ensures) (c .before .before .plan-statement .ensures) (c .after .ensures)))) (applied-effect (environmentOf (now (c .before .before .before .before .before .before .before .before .before .before .before .before .before .before .before .before .before .before .before .before .before .before .before .args .table)) (c .before .before .before .before .before .before .before .before .before .before .before .before .before .before .before .before .before .before .before .before .before .before .before .args .sections)) _ _ (measured-by _ _ (c .before .before .before .before .before .before .before .before .before .before .before .before .before .before .before .before .before .before .before .before .before .before .before .pre .2 .lengths) (carried-out _ _ _ _ (c .before .before .before .before .ask-statement .ensures) (c .before .before .before .answer .ensures) (c .before .before .plan-statement .ensures) (c .after .ensures)))) (c .before .bounds-after2 .ensures))
+    (λ c. held-more (c .before .before .before .before .before .before .before .before .before .before .before .before .before .before .before .before .before .before .loop .inv) (c .before .before .before .before .before .before .before .before .before .before .before .before .before .before .before .before .before .loop-test .taken) (sym (c .before .before .before .before .before .before .before .before .before .before .before .before .before .before .before .before .read-due .ensures) ∙ c .before .before .before .before .before .before .before .before .before .before .before .before .before .before .got .given .1) (c .before .before .before .before .before .before .before .before .before .before .before .statement .given .1) (sym (c .before .before .before .before .before .before .before .before .before .declares-of .ensures) ∙ c .before .before .before .before .before .before .before .enum-told4 .given .1) (c .before .before .before .before .before .before .access-shown .ensures) (not-false _ (c .before .before .before .before .before .if1 .left)) (applied-facts (environmentOf (now (c .before .before .before .before .before .before .before .before .before .before .before .before .before .before .before .before .before .before .before .before .before .before .before .before .args .table)) (c .before .before .before .before .before .before .before .before .before .before .before .before .before .before .before .before .before .before .before .before .before .before .before .before .args .sections)) _ _ (measured-by _ _ (c .before .before .before .before .before .before .before .before .before .before .before .before .before .before .before .before .before .before .before .before .before .before .before .before .pre .2) (carried-out _ _ _ _ _ (c .before .before .before .before .ask-statement .ensures) (c .before .before .before .answer .ensures) (c .before .before .plan-statement .ensures) (c .after .ensures)))) (applied-effect (environmentOf (now (c .before .before .before .before .before .before .before .before .before .before .before .before .before .before .before .before .before .before .before .before .before .before .before .before .args .table)) (c .before .before .before .before .before .before .before .before .before .before .before .before .before .before .before .before .before .before .before .before .before .before .before .before .args .sections)) _ _ (measured-by _ _ (c .before .before .before .before .before .before .before .before .before .before .before .before .before .before .before .before .before .before .before .before .before .before .before .before .pre .2) (carried-out _ _ _ _ _ (c .before .before .before .before .ask-statement .ensures) (c .before .before .before .answer .ensures) (c .before .before .plan-statement .ensures) (c .after .ensures)))) (c .before .bounds-after2 .ensures))
     (λ c κs. search needs)
     (λ c. ⊎-elim (λ w. held-done (c .before .before .loop .inv) (w .left) (c .end-bundle .ensures)) (⊎-elim (λ w. held-unread (c .before .before .loop .inv) (w .0 .taken) (sym (w .1 .ensures) ∙ w .3 .given .1) (c .end-bundle .ensures)) (λ w. held-other (c .before .before .loop .inv) (w .0 .taken) (sym (w .1 .ensures) ∙ w .3 .given .1) (not-plain _ (w .5 .keys2)) (c .end-bundle .ensures))) (c .before .loop-test .came)))

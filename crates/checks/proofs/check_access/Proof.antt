@@ -10,10 +10,10 @@ pub check-access-spec : {M : Type 1} → statement M
 check-access-spec =
     tie.close
     (tie.spec
-    (λ c κs. search needs)
+    (λ c κs. search needs) (λ c κs. search needs)
     (λ c. search needs)
-    (λ c κs. (omega (arith, c .before .before .before .pre), c .before .before .before .pre .2 _))
+    (λ c κs. let p = c .before .before .before .before .pre in (omega (arith, p .0, p .1), p .2 _, rw (c .size-in .ensures) (p .3 _)))
     (λ c. search needs) (λ c. search needs)
-    (λ c κs. (omega (arith, c .before .before .before .before .pre), c .before .before .before .before .pre .2 _))
+    (λ c κs. let p = c .before .before .before .before .before .pre in (omega (arith, p .0, p .1), p .2 _, rw (c .before .size-in .ensures) (p .3 _)))
     (λ c κs. search needs)
-    (λ c. rw (c .before .before .before .value-at .ensures .0, c .before .before .end-value .ensures, c .before .end-value2 .ensures) at (c .step-unless .ensures) ∙ access-step _ _ _ _ _ _ (c .before .before .before .before .before .before .pre .0)))
+    (λ c. rw (c .before .before .before .before .value-at .ensures .0, c .before .before .end-value .ensures, c .before .end-value2 .ensures, c .before .before .before .size-in .ensures) at (c .step-unless .ensures) ∙ access-step _ _ _ _ _ _ (c .before .before .before .before .before .before .before .pre .0)))

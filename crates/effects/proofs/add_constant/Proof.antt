@@ -12,8 +12,8 @@ add-constant-spec =
     tie.close
     (tie.spec
     (λ c κs. search needs)
-    (λ c f. sum-dropped _ _ f _ _ _ (not-true _ (c .before .if1 .taken)) (c .forget .ensures f))
+    (λ c f. sum-dropped _ _ _ f _ _ _ (not-true _ (c .before .if1 .taken)) (c .forget .ensures f))
     (λ c κs. search needs) (λ c κs. search needs)
-    (λ c f. sum-shifted _ _ f _ _ _ (not-false _ (c .before .before .before .if1 .left)) (c .before .before .if2 .taken) (makes-shift (search needs) (c .shifting .ensures) f ∙ adds-none (c .before .no-fact .ensures) _))
+    (λ c f. sum-shifted _ _ _ f _ _ _ (not-false _ (c .before .before .before .if1 .left)) (c .before .before .if2 .taken) (makes-shift (search needs) (c .shifting .ensures) f ∙ adds-none (c .before .no-fact .ensures) _))
     (λ c κs. search needs) (λ c κs. search needs)
-    (λ c f. sum-equated _ _ f _ _ _ (not-false _ (c .before .before .before .if1 .left)) (c .before .before .if2 .left) (makes-equal (c .equating .ensures) f ∙ adds-none (c .before .no-fact2 .ensures) _)))
+    (λ c f. sum-equated _ _ _ f _ _ _ (not-false _ (c .before .before .before .if1 .left)) (c .before .before .if2 .left) (makes-equal (c .equating .ensures) f ∙ adds-none (c .before .no-fact2 .ensures) _)))

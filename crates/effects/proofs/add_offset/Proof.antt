@@ -11,6 +11,6 @@ add-offset-spec =
     tie.close
     (tie.spec
     (λ c κs. search needs) (λ c κs. search needs)
-    (λ c f. offset-shifted _ f _ _ _ (c .before .if1 .taken) (makes-shift (search needs) (c .shifting .ensures) f ∙ c .before .before .above-zero .ensures _))
+    (λ c f. offset-shifted _ _ f _ _ _ (c .before .if1 .taken) (makes-shift (search needs) (c .shifting .ensures) f ∙ c .before .before .above-zero .ensures _))
     (λ c κs. search needs)
-    (λ c f. offset-copied _ f _ _ _ (c .before .if1 .left) (makes-equal (c .equating .ensures) f ∙ c .before .before .above-zero .ensures _)))
+    (λ c f. offset-copied _ _ f _ _ _ (c .before .if1 .left) (makes-equal (c .equating .ensures) f ∙ c .before .before .above-zero .ensures _)))

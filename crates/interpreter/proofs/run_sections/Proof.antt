@@ -2,6 +2,7 @@
 use mathlib.Core.Path.{sym, _∙_}
 use native.Mathlib.Omega.{arith}
 use borrow.Author.Needs.{needs}
+use Rattle.rules.specs.EnvironmentLaws.{sizes-small}
 use Rattle.interpreter.specs.ClaimLaws.{entry-refused, launched, launched-ready, launched-ran}
 use Rattle.interpreter.proofs.run_sections.Statement.{statement}
 use Rattle.interpreter.proofs.run_sections.Tie as tie
@@ -10,7 +11,7 @@ pub run-sections-spec : {M : Type 1} → statement M
 run-sections-spec =
     tie.close
     (tie.spec
-    (λ c κs. search needs) (λ c κs. search needs) (λ c. search needs) (λ c. search needs) (λ c κs. search needs) (λ c. search needs)
+    (λ c κs. search needs) (λ c κs. λ p. rw (c .before .before .read-environment .ensures) (sizes-small _ _ p)) (λ c. search needs) (λ c. search needs) (λ c κs. search needs) (λ c. search needs)
     (λ c κs. search needs) (λ c. search needs) (λ c. search needs)
     (λ c κs. launched-ready (launched _ (c .before .before .before .before .before .before .before .before .before .before .before .before .before .before .before .before .before .before .pre .0) (c .before .before .before .before .before .before .before .before .before .before .before .before .before .before .before .before .before .before .pre .1) (record { cells-small = λ i. omega (arith, c .before .before .before .before .before .before .before .before .before .before .before .before .before .before .before .before .slice-known .given i); values-small = λ x. omega (arith, c .before .before .before .before .before .before .before .before .before .before .before .before .before .before .before .slice-known2 .given x) }) (c .before .before .before .before .before .before .before .before .before .before .before .before .before .read-environment .ensures) (c .before .before .before .before .before .before .before .before .before .before .enter .ensures) (c .before .before .before .before .before .before .before .before .enum-told .given .1) (c .before .before .before .before .before .before .before .lay-ends .ensures) (c .before .before .before .before .before .write-successors .ensures) (search needs)) _)
     (λ c. search needs) (λ c. search needs)

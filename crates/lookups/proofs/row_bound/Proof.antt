@@ -13,6 +13,8 @@ row-bound-spec =
     (tie.spec
     (λ c κs. search needs)
     (λ c. rw (c .before .if1 .taken) (c .bounds-at .ensures))
+    (λ c κs. search needs)
     (λ c. search needs)
     (λ c κs. search needs)
-    (λ c. c .row-at .ensures ∙ row-some _ _ _ (c .before .if1 .left)))
+    (λ c κs. search needs)
+    (λ c. c .sized .ensures ∙ (rw (c .before .row-at .ensures, c .before .before .size-at .ensures) (row-some _ _ _ (c .before .before .before .if1 .left)))))

@@ -5,7 +5,7 @@ use native.Mathlib.Omega.{arith}
 use borrow.Author.Needs.{needs}
 use lib.ListN.{length}
 use Rattle.steps.specs.Bare.{Prepared}
-use Rattle.steps.specs.KeptLaws.{move-kept}
+use Rattle.steps.specs.KeptLaws.{move-kept, move-sizes}
 use Rattle.runs.specs.BareRun.{SafeRun, bareRun}
 use Rattle.runs.specs.RunLaws.{carry, still-prepared, run-done, run-spent, safe-ready, run-go, safe-go, run-stop}
 use Rattle.runs.proofs.resume.Statement.{statement}
@@ -36,7 +36,7 @@ resume-spec =
     (λ c κs. (c .before .before .before .before .before .before .loop .inv .3, safe-ready _ _ _ _ _ _ 0 _ _ _ (c .before .before .before .before .if1 .taken) (c .before .before .before .before .before .before .before .before .before .before .before .before .args .limit - (c .before .before .before .before .before .before .loop .steps + 1)) (omega (arith, c .before .before .before .if2 .left, c .before .before .before .before .before .before .loop .inv .1)) (c .before .before .before .before .before .before .loop .inv .2)))
     (λ c. search needs)
     (λ c. omega (arith, c .before .before .before .before .before .before .before .before .before .before .before .before .before .if2 .left, c .before .before .before .before .before .before .before .before .before .before .before .before .before .before .before .before .loop .inv .1))
-    (λ c. let at = c .before .before .before .before .before .before .before .before .before .before .before .before .before .before .before .before .loop in (at .inv .0 ∙ run-go _ _ _ _ _ _ _ _ _ _ (c .before .before .before .before .before .before .before .before .before .before .before .before .before .before .if1 .taken) (c .before .before .before .before .before .before .before .before .before .before .before .before .before .before .before .before .before .before .before .before .before .before .args .limit - (c .before .before .before .before .before .before .before .before .before .before .before .before .before .before .before .before .loop .steps + 1)) (omega (arith, c .before .before .before .before .before .before .before .before .before .before .before .before .before .if2 .left, c .before .before .before .before .before .before .before .before .before .before .before .before .before .before .before .before .loop .inv .1)) _ _ _ _ (c .before .before .before .before .before .before .before .before .before .advance .ensures) _ (c .before .said .given .1), omega (arith, c .before .before .before .before .before .before .before .before .before .before .before .before .before .if2 .left), safe-go _ _ _ _ _ _ 0 _ _ _ (c .before .before .before .before .before .before .before .before .before .before .before .before .before .before .if1 .taken) (c .before .before .before .before .before .before .before .before .before .before .before .before .before .before .before .before .before .before .before .before .before .before .args .limit - (c .before .before .before .before .before .before .before .before .before .before .before .before .before .before .before .before .loop .steps + 1)) (omega (arith, c .before .before .before .before .before .before .before .before .before .before .before .before .before .if2 .left, c .before .before .before .before .before .before .before .before .before .before .before .before .before .before .before .before .loop .inv .1)) _ _ _ _ (c .before .before .before .before .before .before .before .before .before .advance .ensures) _ (c .before .said .given .1) (at .inv .2), still-prepared _ _ (c .before .before .before .before .before .before .before .before .before .advance .kept .1 .1 .0) (move-kept _ _ _ _ _ _ _ _ (c .before .before .before .before .before .before .before .before .before .advance .ensures) .small (at .inv .3 .small)) (c .before .before .before .before .before .before .before .before .before .advance .kept .1 .1 .1 .1 .1 .1 .0) (at .inv .3), c .before .before .before .before .before .before .before .before .before .advance .kept .1 .1 .0 ∙ at .inv .4, c .before .before .before .before .before .before .before .before .before .advance .kept .1 .1 .1 .1 .1 .1 .0 ∙ at .inv .5, c .before .before .before .before .before .before .before .before .before .advance .kept .1 .1 .1 .1 .1 .1 .1 .0 ∙ at .inv .6))
+    (λ c. let at = c .before .before .before .before .before .before .before .before .before .before .before .before .before .before .before .before .loop in (at .inv .0 ∙ run-go _ _ _ _ _ _ _ _ _ _ (c .before .before .before .before .before .before .before .before .before .before .before .before .before .before .if1 .taken) (c .before .before .before .before .before .before .before .before .before .before .before .before .before .before .before .before .before .before .before .before .before .before .args .limit - (c .before .before .before .before .before .before .before .before .before .before .before .before .before .before .before .before .loop .steps + 1)) (omega (arith, c .before .before .before .before .before .before .before .before .before .before .before .before .before .if2 .left, c .before .before .before .before .before .before .before .before .before .before .before .before .before .before .before .before .loop .inv .1)) _ _ _ _ (c .before .before .before .before .before .before .before .before .before .advance .ensures) _ (c .before .said .given .1), omega (arith, c .before .before .before .before .before .before .before .before .before .before .before .before .before .if2 .left), safe-go _ _ _ _ _ _ 0 _ _ _ (c .before .before .before .before .before .before .before .before .before .before .before .before .before .before .if1 .taken) (c .before .before .before .before .before .before .before .before .before .before .before .before .before .before .before .before .before .before .before .before .before .before .args .limit - (c .before .before .before .before .before .before .before .before .before .before .before .before .before .before .before .before .loop .steps + 1)) (omega (arith, c .before .before .before .before .before .before .before .before .before .before .before .before .before .if2 .left, c .before .before .before .before .before .before .before .before .before .before .before .before .before .before .before .before .loop .inv .1)) _ _ _ _ (c .before .before .before .before .before .before .before .before .before .advance .ensures) _ (c .before .said .given .1) (at .inv .2), still-prepared _ _ (c .before .before .before .before .before .before .before .before .before .advance .kept .1 .1 .0) (move-kept _ _ _ _ _ _ _ _ (c .before .before .before .before .before .before .before .before .before .advance .ensures) .small (at .inv .3 .small)) (move-sizes _ _ _ _ _ _ _ _ (safe-ready _ _ _ _ _ _ 0 _ _ _ (c .before .before .before .before .before .before .before .before .before .before .before .before .before .before .if1 .taken) (c .before .before .before .before .before .before .before .before .before .before .before .before .before .before .before .before .before .before .before .before .before .before .args .limit - (c .before .before .before .before .before .before .before .before .before .before .before .before .before .before .before .before .loop .steps + 1)) (omega (arith, c .before .before .before .before .before .before .before .before .before .before .before .before .before .if2 .left, c .before .before .before .before .before .before .before .before .before .before .before .before .before .before .before .before .loop .inv .1)) (at .inv .2)) (c .before .before .before .before .before .before .before .before .before .advance .ensures) (at .inv .3 .sizes)) (c .before .before .before .before .before .before .before .before .before .advance .kept .1 .1 .1 .1 .1 .1 .0) (at .inv .3), c .before .before .before .before .before .before .before .before .before .advance .kept .1 .1 .0 ∙ at .inv .4, c .before .before .before .before .before .before .before .before .before .advance .kept .1 .1 .1 .1 .1 .1 .0 ∙ at .inv .5, c .before .before .before .before .before .before .before .before .before .advance .kept .1 .1 .1 .1 .1 .1 .1 .0 ∙ at .inv .6))
     (λ c. search needs) (λ c. search needs) (λ c. search needs) (λ c. search needs)
     (λ c. carry (c .before .before .before .before .before .before .before .before .before .before .before .before .before .before .before .before .loop .inv .0) (run-stop _ _ _ _ _ _ _ _ _ _ (c .before .before .before .before .before .before .before .before .before .before .before .before .before .before .if1 .taken) (c .before .before .before .before .before .before .before .before .before .before .before .before .before .before .before .before .before .before .before .before .before .before .args .limit - (c .before .before .before .before .before .before .before .before .before .before .before .before .before .before .before .before .loop .steps + 1)) (omega (arith, c .before .before .before .before .before .before .before .before .before .before .before .before .before .if2 .left, c .before .before .before .before .before .before .before .before .before .before .before .before .before .before .before .before .loop .inv .1)) _ _ _ _ (c .before .before .before .before .before .before .before .before .before .advance .ensures) _ (c .before .said2 .given .1)))
     (λ c. search needs) (λ c. search needs) (λ c. search needs)

@@ -12,4 +12,4 @@ pointer-record-spec =
     (λ c κs. tt)
     (λ c κs. tt)
     (λ c κs. tt)
-    (λ c. simp (c .end-right2 .ensures, c .before .end-right .ensures, c .before .before .is-zero .ensures)))
+    (λ c. simp (c .end-right2 .ensures, c .before .end-right .ensures, c .before .before .is-size .ensures)))
