@@ -1,6 +1,6 @@
 //! Measurements of the fast forms and of the proved implementation, as ratios in one run.
 
-use crate::generate::{accepted, accepted_with_rows};
+use crate::generate::{accepted, accepted_with_rows, accepted_with_sizes};
 use crate::linked::Proved;
 use crate::proved::Implementation;
 use crate::{fast_check, fast_run};
@@ -12,6 +12,9 @@ use std::hint::black_box;
 use std::time::Instant;
 
 const STATEMENTS: usize = 1_024;
+
+/// The parts of the benchmark, in their order.
+pub const PARTS: [(&str, fn()); 4] = [("check", check), ("run", run), ("rows", rows), ("sizes", sizes)];
 
 /// Nanoseconds for one call: the best of many short rounds, as other work on
 /// the machine only ever adds to a round.
@@ -49,10 +52,11 @@ pub fn loop_table() -> Vec<i32> {
     table.words()
 }
 
-pub fn loop_input(allowance: u32) -> RunInput {
+/// For a loop over an object of so many cells.
+pub fn loop_input(cells: u32, allowance: u32) -> RunInput {
     RunInput {
-        directory: vec![1, 100],
-        cells: vec![7; 101],
+        directory: vec![1, cells],
+        cells: vec![7; cells as usize + 1],
         values: vec![1, 100, 0, 0, 0, 0],
         origins: vec![1, 0, 0, 0, 0, 0],
         allowance,
@@ -70,6 +74,14 @@ pub fn rows_table() -> Vec<i32> {
     table.words()
 }
 
+/// The same loop with elements of 3 cells.
+pub fn sizes_table() -> Vec<i32> {
+    let mut table = Draft::from_words(&loop_table()).expect("a right directory");
+    table.objects[0] = 300;
+    table.variables[0][1] = 3;
+    table.words()
+}
+
 /// How many statements of each kind the tables have.
 fn kinds(tables: &[Vec<i32>]) -> [usize; 14] {
     let mut counts = [0; 14];
@@ -82,24 +94,35 @@ fn kinds(tables: &[Vec<i32>]) -> [usize; 14] {
 }
 
 /// The check of tables of 1,024 statements.
-pub fn check() {
-    for variables in [11, 16] {
-        let tables: Vec<Vec<i32>> = (0..8).map(|seed| accepted(seed, STATEMENTS, variables)).collect();
-        check_tables(&format!("{variables} variables"), &tables);
-    }
+fn check() {
+    check_tables("", accepted);
+}
+
+/// The run of a loop of ten statements.
+fn run() {
+    run_table("loop of ten", "", &loop_table(), 100);
 }
 
 /// The check and the run of tables with rows.
-pub fn rows() {
-    for variables in [11, 16] {
-        let tables: Vec<Vec<i32>> =
-            (0..8).map(|seed| accepted_with_rows(seed, STATEMENTS, variables)).collect();
-        check_tables(&format!("{variables} variables, rows"), &tables);
-    }
-    run_table("loop with rows", ", loop with rows", &rows_table());
+fn rows() {
+    check_tables(", rows", accepted_with_rows);
+    run_table("loop with rows", ", loop with rows", &rows_table(), 100);
 }
 
-fn check_tables(title: &str, tables: &[Vec<i32>]) {
+/// The check and the run of tables with elements of 3 cells.
+fn sizes() {
+    check_tables(", size 3", accepted_with_sizes);
+    run_table("loop by size 3", ", loop by size 3", &sizes_table(), 300);
+}
+
+fn check_tables(beside: &str, make: fn(u64, usize, usize) -> Vec<i32>) {
+    for variables in [11, 16] {
+        let tables: Vec<Vec<i32>> = (0..8).map(|seed| make(seed, STATEMENTS, variables)).collect();
+        check_forms(&format!("{variables} variables{beside}"), &tables);
+    }
+}
+
+fn check_forms(title: &str, tables: &[Vec<i32>]) {
     let statements = (STATEMENTS * tables.len()) as f64;
     println!("{title}, statements of kinds 1 to 14: {:?}", kinds(tables));
     type Form = fn(&[i32]) -> bool;
@@ -131,12 +154,7 @@ fn check_tables(title: &str, tables: &[Vec<i32>]) {
     }
 }
 
-/// The run of a loop of ten statements.
-pub fn run() {
-    run_table("loop of ten", "", &loop_table());
-}
-
-fn run_table(title: &str, beside: &str, table: &[i32]) {
+fn run_table(title: &str, beside: &str, table: &[i32], cells: u32) {
     type Run = fn(&[i32], &mut RunInput) -> bool;
     let forms: [(&str, Run, u32); 3] = [
         ("run, fast", |t, i| matches!(fast_run::run(t, i), RunAnswer::Spent { .. }), 200_000),
@@ -145,7 +163,8 @@ fn run_table(title: &str, beside: &str, table: &[i32]) {
     ];
     let mut fast = f64::NAN;
     for (name, run, steps) in forms {
-        let each = best(400, || assert!(run(black_box(table), &mut loop_input(steps)), "{name}: no run"));
+        let mut call = || assert!(run(black_box(table), &mut loop_input(cells, steps)), "{name}: no run");
+        let each = best(400, &mut call);
         let each = each / f64::from(steps);
         println!("{name:<13} {title:<14} {each:8.2} ns a step");
         match name {
@@ -162,8 +181,8 @@ mod tests {
 
     #[test]
     fn the_measured_loops_are_right_in_both_forms() {
-        for table in [loop_table(), rows_table()] {
-            let (mut plain, mut fast) = (loop_input(5_000), loop_input(5_000));
+        for (table, cells) in [(loop_table(), 100), (rows_table(), 100), (sizes_table(), 300)] {
+            let (mut plain, mut fast) = (loop_input(cells, 5_000), loop_input(cells, 5_000));
             let answer = machine::run(&table, &mut plain);
             assert!(matches!(answer, RunAnswer::Spent { .. }), "{answer}");
             assert_eq!(answer, fast_run::run(&table, &mut fast));

@@ -37,17 +37,29 @@ struct Known {
 /// unknown upper end below every end. Both name only zero.
 const UNKNOWN: i64 = 1 << 60;
 
+/// The ends, and the element size that their integers are multiplied by (point 10).
 #[derive(Clone, Copy)]
 struct KnownBounds {
+    size: i64,
     lower: Known,
     upper: Known,
 }
 
-/// End a <= end b.
-fn below(facts: &FastFacts, a: &Known, b: &Known) -> bool {
+/// End a <= end b of bounds with the same size.
+fn below(facts: &FastFacts, a: &Known, b: &Known, size: i64) -> bool {
     let pointers = facts.sum(usize::from(a.pointer), usize::from(b.pointer));
     let integers = facts.sum(usize::from(a.integer), usize::from(b.integer));
-    pointers + integers + a.constant <= b.constant
+    pointers + size * integers + a.constant <= b.constant
+}
+
+/// Whether a lies within b: each end of b is the outer one.
+#[inline]
+fn within(facts: &FastFacts, a: &KnownBounds, b: &KnownBounds, zero: u8) -> bool {
+    // With different sizes only ends without integers compare; an unknown end names none, and is below no end.
+    let names_none = |bounds: &KnownBounds| bounds.lower.integer == zero && bounds.upper.integer == zero;
+    (a.size == b.size || names_none(a) && names_none(b))
+        && below(facts, &b.lower, &a.lower, a.size)
+        && below(facts, &a.upper, &b.upper, a.size)
 }
 
 pub struct FastBounds<'a> {
@@ -106,7 +118,7 @@ impl<'a> FastBounds<'a> {
         }
         let zero = pointers as u8;
         let nothing = Known { pointer: zero, integer: zero, constant: 0 };
-        let none = [KnownBounds { lower: nothing, upper: nothing }; 16];
+        let none = [KnownBounds { size: 1, lower: nothing, upper: nothing }; 16];
         let mut bounds = FastBounds {
             routine,
             nodes,
@@ -159,8 +171,11 @@ impl<'a> FastBounds<'a> {
                 self.named_by[usize::from(integer)] |= 1 << p;
             }
         }
-        self.declared[p] =
-            KnownBounds { lower: self.known_end(bounds.lower), upper: self.known_end(bounds.upper) };
+        self.declared[p] = KnownBounds {
+            size: self.routine.size(p as Var),
+            lower: self.known_end(bounds.lower),
+            upper: self.known_end(bounds.upper),
+        };
     }
 
     /// Kind 14: the declared bound alone changes.
@@ -188,7 +203,7 @@ impl<'a> FastBounds<'a> {
     pub fn shown(&self, p: Var, facts: &FastFacts) -> bool {
         let (known, declared) = (&self.known[usize::from(p)], &self.declared[usize::from(p)]);
         self.changed & 1 << p == 0
-            || below(facts, &known.lower, &declared.lower) && below(facts, &declared.upper, &known.upper)
+            || within(facts, declared, known, self.zero)
             || facts.shows(self.node(p), self.zero(), 0)
     }
 
@@ -232,9 +247,12 @@ impl<'a> FastBounds<'a> {
         let touched = self.named_by[usize::from(v)] | self.changed;
         for p in bits(touched) {
             let known = &mut self.known[p];
+            let size = known.size;
             for end in [&mut known.lower, &mut known.upper] {
-                if end.pointer == node || end.integer == node {
+                if end.pointer == node {
                     end.constant -= k;
+                } else if end.integer == node {
+                    end.constant -= size * k;
                 }
             }
         }
@@ -253,6 +271,7 @@ impl<'a> FastBounds<'a> {
         self.forget(p);
         let (pointer, integer) = (self.nodes[usize::from(p)], self.zero);
         self.known[usize::from(p)] = KnownBounds {
+            size: self.routine.size(p),
             lower: Known { pointer, integer, constant: 0 },
             upper: Known { pointer, integer, constant: i64::from(length) },
         };

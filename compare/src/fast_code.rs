@@ -47,10 +47,12 @@ pub enum Op {
         q: Slot,
         k: i32,
     },
+    /// Kind 7, with the element size of q.
     IndexPointer {
         p: Slot,
         q: Slot,
         i: Slot,
+        size: u8,
     },
     /// An access through a pointer with both ends at itself: the index alone decides.
     LoadNear {
@@ -112,10 +114,11 @@ pub enum Op {
     Done,
 }
 
-/// Index bounds from `low` to the value of slot `count` plus `high`, exclusive.
+/// Index bounds in cells, from `low` to the value of slot `count` times the element size plus `high`, exclusive.
 #[derive(Clone, Copy)]
 pub struct Near {
     pub count: Slot,
+    pub size: u8,
     pub low: i32,
     pub high: i32,
 }
@@ -135,9 +138,17 @@ pub struct FlatEnd {
     pub constant: i64,
 }
 
+/// The ends of an access, and the element size that integers are multiplied by.
+#[derive(Clone, Copy)]
+pub struct FlatBounds {
+    pub size: i64,
+    pub lower: FlatEnd,
+    pub upper: FlatEnd,
+}
+
 pub struct Code {
     pub instructions: Vec<Instruction>,
-    pub ends: Vec<(FlatEnd, FlatEnd)>,
+    pub ends: Vec<FlatBounds>,
 }
 
 fn slot(variable: Option<Var>) -> Slot {
@@ -149,10 +160,10 @@ fn flat(end: End) -> FlatEnd {
 }
 
 /// Both ends at p itself, the lower one without an integer: as in count(n).
-fn near(p: Var, bounds: &Bounds) -> Option<Near> {
+fn near(p: Var, size: u8, bounds: &Bounds) -> Option<Near> {
     let Bounds { lower, upper } = bounds;
     let at_itself = lower.pointer == p && upper.pointer == p && lower.integer.is_none();
-    at_itself.then_some(Near { count: slot(upper.integer), low: lower.constant, high: upper.constant })
+    at_itself.then_some(Near { count: slot(upper.integer), size, low: lower.constant, high: upper.constant })
 }
 
 /// Of an accepted routine.
@@ -210,8 +221,10 @@ impl Translator<'_> {
     /// The bounds of an access through p: near ones, or their place in the table of ends.
     fn bounds(&mut self, p: Var) -> Result<Near, u16> {
         let bounds = declared(self.routine, usize::from(p), self.in_force[usize::from(p)]);
-        near(p, bounds).ok_or_else(|| {
-            self.code.ends.push((flat(bounds.lower), flat(bounds.upper)));
+        let size = self.routine.sizes[usize::from(p)];
+        near(p, size, bounds).ok_or_else(|| {
+            let (lower, upper) = (flat(bounds.lower), flat(bounds.upper));
+            self.code.ends.push(FlatBounds { size: i64::from(size), lower, upper });
             self.code.ends.len() as u16 - 1
         })
     }
@@ -229,7 +242,9 @@ impl Translator<'_> {
             }
             Statement::MovePointer { p, q, k: 0 } => Op::AddConstant { x: p, y: q, k: 0 },
             Statement::MovePointer { p, q, k } => Op::MovePointer { p, q, k },
-            Statement::IndexPointer { p, q, i } => Op::IndexPointer { p, q, i },
+            Statement::IndexPointer { p, q, i } => {
+                Op::IndexPointer { p, q, i, size: self.routine.sizes[usize::from(q)] }
+            }
             Statement::Load { x, p, i, k } => match self.bounds(p) {
                 Ok(near) => Op::LoadNear { x, p, i: slot(i), k, near },
                 Err(ends) => Op::Load { x, p, i: slot(i), k, ends },

@@ -3,7 +3,7 @@
 //! That is allowed because an accepted routine never leaves an origin object.
 
 use crate::fast_check::check_routine;
-use crate::fast_code::{translate, Code, FlatEnd, Near, Op, Slot, SLOTS};
+use crate::fast_code::{translate, Code, FlatBounds, FlatEnd, Near, Op, Slot, SLOTS};
 use oracle::answer::{Check, RunAnswer, RunInput};
 use oracle::machine::check_entry;
 use oracle::table::{decode, Routine};
@@ -53,19 +53,20 @@ impl Values {
     }
 
     #[inline(always)]
-    fn end(&self, end: &FlatEnd) -> i64 {
-        self.wide(end.pointer) + self.wide(end.integer) + end.constant
+    fn end(&self, end: &FlatEnd, size: i64) -> i64 {
+        self.wide(end.pointer) + size * self.wide(end.integer) + end.constant
     }
 
     /// Checks 2 and 3 where the index alone decides; the address.
     #[inline(always)]
     fn near_access(&self, p: Slot, i: Slot, k: i32, near: Near) -> Result<i64, Check> {
         let pointer = self.wide(p);
-        let index = self.wide(i) + i64::from(k);
+        let size = i64::from(near.size);
+        let index = size * self.wide(i) + i64::from(k);
         if pointer == 0 {
             return Err(Check::NullAccess);
         }
-        if index < i64::from(near.low) || index >= self.wide(near.count) + i64::from(near.high) {
+        if index < i64::from(near.low) || index >= size * self.wide(near.count) + i64::from(near.high) {
             return Err(Check::OutOfBounds);
         }
         Ok(pointer + index)
@@ -73,14 +74,14 @@ impl Values {
 
     /// Checks 2 and 3 by the declared ends; the address.
     #[inline(always)]
-    fn access(&self, p: Slot, i: Slot, k: i32, ends: &(FlatEnd, FlatEnd)) -> Result<i64, Check> {
+    fn access(&self, p: Slot, i: Slot, k: i32, ends: &FlatBounds) -> Result<i64, Check> {
         let pointer = self.wide(p);
         if pointer == 0 {
             return Err(Check::NullAccess);
         }
-        let address = pointer + self.wide(i) + i64::from(k);
-        let (lower, upper) = ends;
-        if address < self.end(lower) || address >= self.end(upper) {
+        let FlatBounds { size, lower, upper } = ends;
+        let address = pointer + size * self.wide(i) + i64::from(k);
+        if address < self.end(lower, *size) || address >= self.end(upper, *size) {
             return Err(Check::OutOfBounds);
         }
         Ok(address)
@@ -136,7 +137,7 @@ fn run_loop(code: &Code, cells: &mut [u32], values: &mut Values, allowance: u32)
                 Ok(address) => values.set(p, address),
                 Err(check) => break Some(check),
             },
-            Op::IndexPointer { p, q, i } => match values.advance(q, values.wide(i)) {
+            Op::IndexPointer { p, q, i, size } => match values.advance(q, i64::from(size) * values.wide(i)) {
                 Ok(address) => values.set(p, address),
                 Err(check) => break Some(check),
             },

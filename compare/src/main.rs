@@ -26,7 +26,7 @@ const USAGE: &str = "usage: compare vectors DIR
        compare stats SEED COUNT
        compare differ SEED COUNT [FIRST]
        compare show SEED NUMBER
-       compare bench [check|run|rows]
+       compare bench [check|run|rows|sizes]
        compare stack [KIB]";
 
 fn main() -> ExitCode {
@@ -39,22 +39,14 @@ fn main() -> ExitCode {
         ["differ", seed, count, first] => search(seed, count, first),
         ["show", seed, number] => show(seed, number),
         ["bench"] => {
-            bench::check();
-            bench::run();
-            bench::rows();
+            for (_, part) in bench::PARTS {
+                part();
+            }
             Ok(true)
         }
-        ["bench", "check"] => {
-            bench::check();
-            Ok(true)
-        }
-        ["bench", "run"] => {
-            bench::run();
-            Ok(true)
-        }
-        ["bench", "rows"] => {
-            bench::rows();
-            Ok(true)
+        ["bench", name] => {
+            let part = bench::PARTS.iter().find(|(part, _)| *part == name).map(|(_, part)| part());
+            part.map(|()| true).ok_or(USAGE.to_string())
         }
         ["stack"] => Ok(match stack::least() {
             Some(kib) => {

@@ -4,7 +4,7 @@ use crate::generate::case;
 use crate::{fast_check, fast_run};
 use oracle::answer::{CheckAnswer, Refusal, RunAnswer, RunInput};
 use oracle::reach::reachable;
-use oracle::table::{decode, Routine, Statement};
+use oracle::table::{decode, Kind, Routine, Statement};
 use oracle::{checker, machine};
 use std::collections::BTreeMap;
 
@@ -23,6 +23,8 @@ pub struct Stats {
     /// Accepted tables with a kind 14, with one in an if, in a while, in a bundle; refusals 13 at an if, at a while.
     declared: [u64; 4],
     unlike_rows: [u64; 2],
+    /// Accepted tables with an element of several cells, with pointers of several sizes.
+    sizes: [u64; 2],
     /// Accepted tables with a statement whose facts contradict, and with such facts at the end.
     dead: u64,
     dead_at_end: u64,
@@ -102,6 +104,10 @@ impl Stats {
         self.heads[1] += has(|s| matches!(s, Statement::While { .. }));
         self.heads[2] += has(|s| matches!(s, Statement::Bundle { .. }));
         self.count_declarations(statements);
+        let pointers = || (0..routine.kinds.len()).filter(|&v| routine.kinds[v] == Kind::Pointer);
+        let sizes = || pointers().map(|p| routine.sizes[p]);
+        self.sizes[0] += u64::from(sizes().any(|size| size > 1));
+        self.sizes[1] += u64::from(sizes().max() != sizes().min());
     }
 
     fn count_declarations(&mut self, statements: &[Statement]) {
@@ -153,6 +159,8 @@ impl std::fmt::Display for Stats {
             "accepted tables with a kind 14: {all}, {ifs} in an if, {whiles} in a while, {bundles} in a bundle; \
              refusals 13: {at_ifs} at an if, {at_whiles} at a while"
         )?;
+        let [several, unlike] = self.sizes;
+        writeln!(f, "accepted tables with elements of several cells: {several}, of several sizes: {unlike}")?;
         let share = |part: u64| 100.0 * part as f64 / self.begun.max(1) as f64;
         writeln!(
             f,
@@ -215,6 +223,7 @@ mod tests {
         assert!(5 * stats.dead > stats.accepted, "{stats}");
         assert!(7 * stats.declared[0] > stats.accepted, "{stats}");
         assert!(stats.declared.iter().all(|count| 30 * count > stats.accepted), "{stats}");
+        assert!(stats.sizes.iter().all(|count| 5 * count > stats.accepted), "{stats}");
         assert!(stats.unlike_rows.iter().all(|&count| count > 10), "{stats}");
         let [objects, cells] = stats.out_of_reach;
         assert!(3 * objects > stats.begun && 2 * cells > stats.begun, "{stats}");

@@ -14,8 +14,10 @@ pub struct Value {
 
 pub type KnownEnd = Option<Value>;
 
+/// Point 10: "Known bounds carry the size they came with".
 #[derive(Clone, Copy, Debug, PartialEq, Eq)]
 pub struct KnownBounds {
+    pub size: i64,
     pub lower: KnownEnd,
     pub upper: KnownEnd,
 }
@@ -24,8 +26,10 @@ fn value(end: End) -> Value {
     Value { pointer: end.pointer, integer: end.integer, constant: i64::from(end.constant) }
 }
 
-fn declared(bounds: Bounds) -> KnownBounds {
-    KnownBounds { lower: Some(value(bounds.lower)), upper: Some(value(bounds.upper)) }
+/// The declared bounds of a variable, with its size; `None` for an integer.
+fn declared(routine: &Routine, rows: &Rows, v: Var) -> Option<KnownBounds> {
+    let Bounds { lower, upper } = rows.declared(routine, v)?;
+    Some(KnownBounds { size: routine.size(v), lower: Some(value(lower)), upper: Some(value(upper)) })
 }
 
 /// The known bounds of every variable; `None` for an integer.
@@ -40,21 +44,25 @@ impl Known {
     /// The declared ones.
     pub fn declared(routine: &Routine, rows: &Rows) -> Known {
         let variables = 0..routine.kinds.len() as Var;
-        Known(variables.map(|v| rows.declared(routine, v).map(declared)).collect())
+        Known(variables.map(|v| declared(routine, rows, v)).collect())
     }
 
     /// Assigning v: every end that names v gets the inverse where one exists
     /// (v := v + k), otherwise that end is unknown.
     pub fn assign(&mut self, v: Var, inverse: Option<i32>) {
-        let change = |end: KnownEnd| {
-            let end = end?;
-            if end.pointer != v && end.integer != Some(v) {
-                return Some(end);
-            }
-            inverse.map(|k| Value { constant: end.constant - i64::from(k), ..end })
-        };
         for bounds in self.0.iter_mut().flatten() {
-            *bounds = KnownBounds { lower: change(bounds.lower), upper: change(bounds.upper) };
+            let size = bounds.size;
+            let change = |end: KnownEnd| {
+                let end = end?;
+                // "an end's integer is multiplied by the s of the pointer it bounds; each k stays in cells"
+                let times = match (end.pointer == v, end.integer == Some(v)) {
+                    (true, _) => 1,
+                    (_, true) => size,
+                    _ => return Some(end),
+                };
+                inverse.map(|k| Value { constant: end.constant - times * i64::from(k), ..end })
+            };
+            *bounds = KnownBounds { size, lower: change(bounds.lower), upper: change(bounds.upper) };
         }
     }
 
@@ -62,28 +70,36 @@ impl Known {
         self.0[usize::from(p)] = self.0[usize::from(q)];
     }
 
-    /// Kind 5 gives (p, p + length).
-    pub fn set_object(&mut self, p: Var, length: u32) {
+    /// Kind 5 gives (p, p + length), with "the size of p".
+    pub fn set_object(&mut self, p: Var, size: i64, length: u32) {
         let at = |constant| Some(Value { pointer: p, integer: None, constant });
-        self.0[usize::from(p)] = Some(KnownBounds { lower: at(0), upper: at(i64::from(length)) });
+        self.0[usize::from(p)] = Some(KnownBounds { size, lower: at(0), upper: at(i64::from(length)) });
     }
 
     /// Declared bounds of p are shown when p <= 0 is shown, or known lower <=
-    /// declared lower and declared upper <= known upper.
-    pub fn shows(&self, bounds: Bounds, p: Var, facts: &Facts) -> bool {
-        let Some(known) = self.of(usize::from(p)) else { return true };
-        let declared = declared(bounds);
+    /// declared lower and declared upper <= known upper. An integer has none.
+    pub fn shows(&self, routine: &Routine, rows: &Rows, p: Var, facts: &Facts) -> bool {
+        let (Some(known), Some(declared)) = (self.of(usize::from(p)), declared(routine, rows, p)) else {
+            return true;
+        };
+        let size = (known.size == declared.size).then_some(known.size);
         facts.shows(Node::from(p), ZERO, 0)
-            || end_below(facts, known.lower, declared.lower) && end_below(facts, declared.upper, known.upper)
+            || end_below(facts, known.lower, declared.lower, size)
+                && end_below(facts, declared.upper, known.upper, size)
     }
 }
 
-/// End a <= end b. An unknown end is below or above no end.
-fn end_below(facts: &Facts, a: KnownEnd, b: KnownEnd) -> bool {
+/// End a <= end b, with the size where both have the same one. An unknown end is below or above no end. Point 10: "With
+/// equal sizes the integer chain's sum is multiplied by s; with different sizes an end is comparable only when neither
+/// names an integer."
+fn end_below(facts: &Facts, a: KnownEnd, b: KnownEnd, size: Option<i64>) -> bool {
     let (Some(a), Some(b)) = (a, b) else {
         return false;
     };
-    let pointers = facts.sum(Node::from(a.pointer), Node::from(b.pointer));
-    let integers = facts.sum(node_or_zero(a.integer), node_or_zero(b.integer));
-    pointers + integers + a.constant <= b.constant
+    let integers = match (size, a.integer, b.integer) {
+        (_, None, None) => 0,
+        (Some(size), n, m) => size * facts.sum(node_or_zero(n), node_or_zero(m)),
+        (None, ..) => return false,
+    };
+    facts.sum(Node::from(a.pointer), Node::from(b.pointer)) + integers + a.constant <= b.constant
 }

@@ -79,8 +79,7 @@ impl Walker<'_> {
     }
 
     fn shown(&self, v: Var, state: &State, known: &Known) -> bool {
-        let declared = state.rows.declared(self.routine, v);
-        declared.is_none_or(|bounds| known.shows(bounds, v, &state.facts))
+        known.shows(self.routine, &state.rows, v, &state.facts)
     }
 
     /// Point 6: "Refusal 8 gives the lowest-numbered one not shown."
@@ -209,7 +208,7 @@ impl Walker<'_> {
             }
             Statement::Address { p, object } => {
                 known.assign(p, None);
-                known.set_object(p, self.routine.objects[usize::from(object)]);
+                known.set_object(p, self.routine.size(p), self.routine.objects[usize::from(object)]);
                 not_null(facts.drop(Node::from(p)), p)
             }
             Statement::MovePointer { p, q, k } => {
@@ -261,6 +260,10 @@ mod tests;
 #[cfg(test)]
 #[path = "rows_tests.rs"]
 mod rows_tests;
+
+#[cfg(test)]
+#[path = "sizes_tests.rs"]
+mod sizes_tests;
 
 #[cfg(test)]
 #[path = "observer_tests.rs"]

@@ -32,10 +32,10 @@ fn object_range(directory: &[u32], origin: u32) -> (i64, i64) {
     (low, low + i64::from(directory[pair + 1]))
 }
 
-/// An end's value: a whole number, never wrapped.
-fn end_value(end: End, values: &[u32]) -> i64 {
+/// The value of an end of a pointer with this element size: a whole number, never wrapped.
+fn end_value(end: End, size: i64, values: &[u32]) -> i64 {
     let integer = end.integer.map_or(0, |i| i64::from(values[usize::from(i)]));
-    i64::from(values[usize::from(end.pointer)]) + integer + i64::from(end.constant)
+    i64::from(values[usize::from(end.pointer)]) + size * integer + i64::from(end.constant)
 }
 
 /// Causes 10 to 12, in the paper's row order.
@@ -74,7 +74,8 @@ fn entry_true(routine: &Routine, input: &RunInput, v: usize) -> bool {
     }
     let (low, high) = object_range(&input.directory, origin);
     let bounds = routine.bounds[v].expect("a pointer has bounds");
-    low <= end_value(bounds.lower, &input.values) && end_value(bounds.upper, &input.values) <= high
+    let value = |end: End| end_value(end, routine.size(v as Var), &input.values);
+    low <= value(bounds.lower) && value(bounds.upper) <= high
 }
 
 /// The block a statement stands in: where it ends, and its head.
@@ -203,9 +204,12 @@ impl<'a> Machine<'a> {
         if self.value(p) == 0 {
             return Err(Halt::Stopped(Check::NullAccess));
         }
-        let address = self.value(p) + i.map_or(0, |i| self.value(i)) + i64::from(k);
+        // Point 10: "an access is at p + s times i + k".
+        let size = self.routine.size(p);
+        let address = self.value(p) + size * i.map_or(0, |i| self.value(i)) + i64::from(k);
         let bounds = self.rows.declared(self.routine, p).expect("a pointer has bounds");
-        if address < end_value(bounds.lower, self.values) || address >= end_value(bounds.upper, self.values) {
+        let value = |end: End| end_value(end, size, self.values);
+        if address < value(bounds.lower) || address >= value(bounds.upper) {
             return Err(Halt::Stopped(Check::OutOfBounds));
         }
         let origin = self.origins[usize::from(p)];
@@ -258,7 +262,10 @@ impl<'a> Machine<'a> {
                 self.set_pointer(p, value, origin);
             }
             Statement::MovePointer { p, q, k } => self.advance(p, q, i64::from(k))?,
-            Statement::IndexPointer { p, q, i } => self.advance(p, q, self.value(i))?,
+            // Point 10: "Kind 7 moves by s of q times i".
+            Statement::IndexPointer { p, q, i } => {
+                self.advance(p, q, self.routine.size(q) * self.value(i))?
+            }
             Statement::Load { x, p, i, k } => {
                 let cell = self.cells[self.access(p, i, k)?];
                 self.set(x, i64::from(cell));

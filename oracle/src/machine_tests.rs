@@ -134,6 +134,42 @@ fn an_access_is_checked_by_the_row_in_force() {
 }
 
 #[test]
+fn an_element_is_so_many_cells() {
+    // p with elements of 2 cells, q with elements of 3 at p; the object of 4 cells at 5.
+    let sized = |statements: Vec<Record>, values: [u32; 4]| {
+        let mut table = draft(statements);
+        (table.variables[0][1], table.variables[3][1]) = (2, 3);
+        let mut input = RunInput { values: values.to_vec(), ..lent() };
+        (input.origins[0], input.origins[3]) = (u32::from(values[0] > 0) * 2, u32::from(values[3] > 0) * 2);
+        let answer = machine::run(&table.words(), &mut input).to_string();
+        (answer, input.values[3])
+    };
+    // At entry the count is of elements, and never wraps.
+    assert_eq!(sized(vec![], [5, 2, 0, 0]).0, "done 0");
+    assert_eq!(sized(vec![], [5, 3, 0, 0]).0, "refused 12 0");
+    assert_eq!(sized(vec![], [5, 1, 0, 5]).0, "done 0");
+    assert_eq!(sized(vec![], [5, 2, 0, 5]).0, "refused 12 3");
+    assert_eq!(sized(vec![], [5, 1 << 31, 0, 0]).0, "refused 12 0");
+    // An access at p + 2 i + k; the upper end at p + 2 n.
+    assert_eq!(sized(vec![set(X, 1), load(X, P, X, 1)], [5, 2, 0, 0]).0, "done 2");
+    assert_eq!(sized(vec![set(X, 1), load(X, P, X, 2)], [5, 2, 0, 0]).0, "stopped 2 1 3");
+    assert_eq!(sized(vec![set(X, 2), store(P, X, 0, X)], [5, 2, 0, 0]).0, "stopped 2 1 3");
+    assert_eq!(sized(vec![load(X, P, -1, 3)], [5, 2, 0, 0]).0, "done 1");
+    // Kind 7 by the size of q, kind 6 in cells; check 5 tests the whole number.
+    let moved = |first: i32| vec![set(X, first), index_pointer(Q, Q, X)];
+    assert_eq!(sized(moved(3), [5, 1, 0, 5]), ("done 2".to_string(), 14));
+    assert_eq!(sized(moved(1_431_655_765), [5, 1, 0, 5]).0, "stopped 2 1 5");
+    assert_eq!(sized(moved(1_431_655_763), [5, 1, 0, 5]), ("done 2".to_string(), u32::MAX - 1));
+    assert_eq!(sized(vec![move_pointer(Q, Q, 2)], [5, 1, 0, 5]), ("done 1".to_string(), 7));
+    // By the size of the pointer on the right, not of the one on the left.
+    let mut table = draft(vec![set(X, 2), index_pointer(Q, P, X)]);
+    (table.variables[0], table.variables[3]) = ([1, 2, P, -1, 0, P, -1, 3], [1, 3, P, -1, 0, P, -1, 3]);
+    let mut input = lent();
+    assert_eq!(machine::run(&table.words(), &mut input).to_string(), "done 2");
+    assert_eq!(input.values[3], 2 + 2 * 2);
+}
+
+#[test]
 fn stores_and_loads_reach_the_cells() {
     let (answer, after) = run_with(vec![load(X, P, -1, 2), store(P, -1, 0, X)], |_| {});
     assert_eq!(answer, "done 2");

@@ -10,7 +10,8 @@ pub enum Kind {
     Pointer,
 }
 
-/// An end's value is the whole number pointer + integer + constant.
+/// An end's value is the whole number pointer + s times integer + constant, with the element size s of the pointer
+/// that it bounds (point 10).
 #[derive(Clone, Copy, Debug, PartialEq, Eq)]
 pub struct End {
     pub pointer: Var,
@@ -198,11 +199,20 @@ pub struct Routine {
     pub kinds: Vec<Kind>,
     /// The variables' own bounds; `None` for an integer.
     pub bounds: Vec<Option<Bounds>>,
+    /// The element sizes in cells (point 10), 1 to 8; of an integer 1.
+    pub sizes: Vec<u8>,
     /// The bounds rows (point 2).
     pub rows: Vec<Bounds>,
     pub statements: Vec<Statement>,
     /// Bit v for each variable that a condition or the right side of kind 2 reads.
     pub compared: u16,
+}
+
+impl Routine {
+    /// The element size of a pointer, in cells.
+    pub fn size(&self, p: Var) -> i64 {
+        i64::from(self.sizes[usize::from(p)])
+    }
 }
 
 #[cfg(test)]

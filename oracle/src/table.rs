@@ -13,6 +13,7 @@ pub const MAX_STATEMENTS: usize = 1_024;
 pub const MAX_ROWS: usize = 64;
 pub const MAX_OBJECT_LENGTH: i32 = 1_000_000;
 pub const MAX_CONSTANT: i32 = 65_536;
+pub const MAX_SIZE: i32 = 8;
 /// Point 8: "The limit becomes 6; depth 7 is refusal 6." Top statements have depth 0.
 pub const MAX_DEPTH: usize = 6;
 pub const MAX_BUNDLE: usize = 16;
@@ -34,13 +35,13 @@ pub fn decode(words: &[i32]) -> Result<Routine, Refusal> {
         return Err(Refusal::at(3, place));
     }
     let ends = Ends::new(variables);
-    let (kinds, bounds) = read_variables(variables, &ends)?;
+    let (kinds, bounds, sizes) = read_variables(variables, &ends)?;
     let rows = read_rows(rows, kinds.len(), &ends)?;
     let mut names = Names::new(&kinds, objects.len(), rows.len());
     let statements = read_statements(statements, &mut names)?;
     check_block(&statements, 0, statements.len(), 0).map_err(|place| Refusal::at(6, place))?;
     let objects = objects.iter().map(|&n| n as u32).collect();
-    Ok(Routine { objects, kinds, bounds, rows, statements, compared: names.compared })
+    Ok(Routine { objects, kinds, bounds, sizes, rows, statements, compared: names.compared })
 }
 
 /// Cause 2: the sections of so many pairs, if directory and lengths are right; one without a pair is empty.
@@ -94,19 +95,14 @@ impl Ends {
     }
 }
 
-type Variables = (Vec<Kind>, Vec<Option<Bounds>>);
+type Variables = (Vec<Kind>, Vec<Option<Bounds>>, Vec<u8>);
 
 /// Cause 4 of the variables.
 fn read_variables(words: &[i32], ends: &Ends) -> Result<Variables, Refusal> {
-    let read_record = |record: &[i32]| {
-        if record[1] != 0 {
-            return None;
-        }
-        match record[0] {
-            0 if record[2..].iter().all(|&w| w == 0) => Some((Kind::Integer, None)),
-            1 => Some((Kind::Pointer, Some(ends.bounds(&record[2..])?))),
-            _ => None,
-        }
+    let read_record = |record: &[i32]| match record[0] {
+        0 if record[1..].iter().all(|&w| w == 0) => Some((Kind::Integer, None, 1)),
+        1 => Some((Kind::Pointer, Some(ends.bounds(&record[2..])?), size(record[1])?)),
+        _ => None,
     };
     words
         .chunks_exact(VARIABLE_WORDS)
@@ -137,6 +133,11 @@ fn read_statements(words: &[i32], names: &mut Names) -> Result<Vec<Statement>, R
 /// Every k of the table is -65,536 to 65,536.
 fn constant(word: i32) -> Option<i32> {
     (-MAX_CONSTANT..=MAX_CONSTANT).contains(&word).then_some(word)
+}
+
+/// Point 10: "The word after a pointer's kind is now its element size s, 0 or 1 for one cell, at most 8".
+fn size(word: i32) -> Option<u8> {
+    (0..=MAX_SIZE).contains(&word).then_some(word.max(1) as u8)
 }
 
 /// Point 1: "A negative word as an integer literal .. means that word plus 4,294,967,296."

@@ -146,7 +146,7 @@ fn cause_3_goes_before_4_and_4_before_5() {
 fn an_end_goes_by_the_kind_word_alone() {
     // Variable 1 is wrong in its second word, but it is an array_ptr to variable 0.
     let mut wrong = draft(vec![]);
-    wrong.variables = vec![[1, 0, 1, -1, 0, 1, -1, 0], [1, 7, 1, -1, 0, 1, -1, 0]];
+    wrong.variables = vec![[1, 0, 1, -1, 0, 1, -1, 0], [1, 9, 1, -1, 0, 1, -1, 0]];
     assert_eq!(refused(&wrong.words()), Some((4, 1)));
     // A kind word of 2 is neither kind.
     wrong.variables = vec![[1, 0, 0, -1, 0, 0, 1, 0], [2, 0, 0, 0, 0, 0, 0, 0]];
@@ -164,6 +164,24 @@ fn an_end_needs_a_pointer_and_a_k_in_range() {
     right.variables[0][4] = -65_536;
     right.variables[0][7] = 65_536;
     assert_eq!(refused(&right.words()), None);
+}
+
+#[test]
+fn an_element_has_1_to_8_cells() {
+    for (word, size) in [(0, 1), (1, 1), (2, 2), (8, 8)] {
+        let mut right = draft(vec![]);
+        right.variables[0][1] = word;
+        assert_eq!(decode(&right.words()).unwrap().sizes, [size, 1, 1], "{word}");
+    }
+    for word in [-1, 9, i32::MIN, i32::MAX] {
+        let mut wrong = draft(vec![]);
+        wrong.variables[0][1] = word;
+        assert_eq!(refused(&wrong.words()), Some((4, 0)), "{word}");
+    }
+    // An integer has zeros after its kind.
+    let mut wrong = draft(vec![]);
+    wrong.variables[1][1] = 1;
+    assert_eq!(refused(&wrong.words()), Some((4, 1)));
 }
 
 #[test]

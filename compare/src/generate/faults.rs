@@ -101,7 +101,11 @@ pub fn break_record(rng: &mut Rng, draft: &mut Draft) {
             let v = rng.below(draft.variables.len());
             if let Some(record) = draft.variables.get_mut(v) {
                 let field = rng.below(VARIABLE_WORDS);
-                record[field] = other_word(rng, record[field]);
+                record[field] = match field {
+                    // The element size.
+                    1 => rng.pick(&[-1, 1, 8, 9]),
+                    _ => other_word(rng, record[field]),
+                };
             }
         }
         6 => {

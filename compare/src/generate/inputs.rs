@@ -4,7 +4,7 @@ use crate::fast_check::check_routine;
 use crate::rng::Rng;
 use oracle::answer::{RunAnswer, RunInput};
 use oracle::machine;
-use oracle::table::{decode, Kind, Routine};
+use oracle::table::{decode, Kind, Routine, Var};
 
 /// A run that needs more steps than this never gets the greatest allowance.
 const LONG: u32 = 20_000;
@@ -133,7 +133,7 @@ fn fit_counts(rng: &mut Rng, routine: &Routine, input: &mut RunInput) {
             let high =
                 i64::from(input.directory[2 * origin - 2]) + i64::from(input.directory[2 * origin - 1]);
             let named = i64::from(input.values[usize::from(upper.pointer)]);
-            Some(high - named - i64::from(upper.constant))
+            Some((high - named - i64::from(upper.constant)).div_euclid(routine.size(v as Var)))
         });
         let least = room.min();
         let less = if rng.chance(60) { 0 } else { rng.below(3) as i64 };
@@ -192,11 +192,13 @@ fn break_lengths(rng: &mut Rng, input: &mut RunInput) {
 fn break_entry(rng: &mut Rng, routine: &Routine, input: &mut RunInput) {
     let v = rng.below(routine.kinds.len());
     let objects = routine.objects.len() as u32;
-    match rng.below(6) {
+    match rng.below(7) {
         0 => input.origins[v] = rng.pick(&[0, 1, objects, objects + 1, u32::MAX]),
         1 => input.values[v] = rng.pick(&[0, 1, u32::MAX, u32::MAX - 1]),
         2 => input.values[v] = input.values[v].wrapping_sub(1),
         3 => input.origins[v] = input.origins[v] % objects.max(1) + 1,
+        // Small, if its product with an element size wrapped.
+        4 => input.values[v] = u32::MAX / rng.range(2, 8) as u32 + rng.below(3) as u32,
         // A count one too large: into the next object where objects touch.
         _ => input.values[v] = input.values[v].wrapping_add(rng.pick(&[1, 1, 2, 5])),
     }

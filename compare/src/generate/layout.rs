@@ -19,6 +19,8 @@ pub struct Layout {
     pub groups: Vec<Group>,
     /// Pointers whose ends do not name themselves: they can move freely.
     pub movers: Vec<i32>,
+    /// The element sizes of all variables, in cells.
+    pub sizes: Vec<i32>,
     /// The variables' own bounds, and the bounds rows, each with the pointer that it was made for.
     pub own: Vec<RowRecord>,
     pub rows: Vec<LaidRow>,
@@ -74,6 +76,9 @@ pub fn choose(rng: &mut Rng, draft: &mut Draft) -> Layout {
     if rng.chance(60) {
         layout.named.retain(|_| rng.chance(40));
     }
+    if !layout.pointers.is_empty() && rng.chance(45) {
+        add_sizes(rng, draft, &mut layout);
+    }
     if rng.chance(55) {
         let rows = match rng.below(60) {
             0 => MAX_ROWS,
@@ -82,6 +87,47 @@ pub fn choose(rng: &mut Rng, draft: &mut Draft) -> Layout {
         add_rows(rng, draft, &mut layout, rows);
     }
     layout
+}
+
+/// Element sizes: one for the pointers of a count, most often, and few different ones in a table, so that bounds of
+/// equal and of different sizes meet.
+pub fn add_sizes(rng: &mut Rng, draft: &mut Draft, layout: &mut Layout) {
+    let favourite = rng.pick(&[2, 3, 3, 3, 4, 5, 8]);
+    let size = |rng: &mut Rng| match rng.below(6) {
+        0 => rng.range(0, 1),
+        1 => rng.range(0, 8),
+        _ => favourite,
+    };
+    let grouped: Vec<i32> = layout.groups.iter().flat_map(|group| group.pointers.clone()).collect();
+    let common = [rng.pick(&layout.pointers), rng.range(0, 9)];
+    for &p in &layout.pointers {
+        draft.variables[p as usize][1] = size(rng);
+        // Ends without integers, which compare whatever their sizes; most often those of other pointers too.
+        if !grouped.contains(&p) && rng.chance(60) {
+            let own = [rng.pick(&[p, common[0]]), rng.range(0, 9)];
+            let [q, cells] = if rng.chance(70) { common } else { own };
+            draft.variables[p as usize][2..].copy_from_slice(&[q, -1, 0, q, -1, cells]);
+        }
+    }
+    for group in &layout.groups {
+        let size = size(rng);
+        for &p in group.pointers.iter().filter(|_| rng.chance(90)) {
+            draft.variables[p as usize][1] = size;
+        }
+    }
+    for length in draft.objects.iter_mut().filter(|length| **length <= 300) {
+        *length *= rng.pick(&[1, favourite]);
+    }
+    layout.objects = draft.objects.clone();
+    classify(draft, layout);
+}
+
+/// The same element size for every pointer.
+pub fn set_sizes(draft: &mut Draft, layout: &mut Layout, size: i32) {
+    for &p in &layout.pointers {
+        draft.variables[p as usize][1] = size;
+    }
+    classify(draft, layout);
 }
 
 /// A fourth section with so many rows, where there is a pointer to make them for.
@@ -224,4 +270,5 @@ fn classify(draft: &Draft, layout: &mut Layout) {
     let own =
         |record: &[i32; VARIABLE_WORDS]| record[2..].try_into().expect("six words behind the first two");
     layout.own = draft.variables.iter().map(own).collect();
+    layout.sizes = draft.variables.iter().map(|record| record[1].max(1)).collect();
 }

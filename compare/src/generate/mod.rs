@@ -106,30 +106,36 @@ fn repair(rng: &mut Rng, draft: &mut Draft) {
 /// An accepted table of exactly so many statements over so many variables, all
 /// kinds but 14 mixed, for measuring. It stays the same from version to version.
 pub fn accepted(seed: u64, statements: usize, variables: usize) -> Vec<i32> {
-    let mut rng = Rng::of_case(seed, variables as u64);
-    let mut draft = Draft { objects: vec![10, 4, 7], ..Draft::default() };
-    let layout = layout::with_size(&mut rng, &mut draft, variables);
-    filled(&mut rng, draft, &layout, statements)
+    measured(seed, statements, variables, |_, _, _| {})
 }
 
 /// The same with rows and kinds 14.
 pub fn accepted_with_rows(seed: u64, statements: usize, variables: usize) -> Vec<i32> {
+    measured(seed, statements, variables, |rng, draft, layout| layout::add_rows(rng, draft, layout, 16))
+}
+
+/// The same with elements of 3 cells.
+pub fn accepted_with_sizes(seed: u64, statements: usize, variables: usize) -> Vec<i32> {
+    measured(seed, statements, variables, |_, draft, layout| layout::set_sizes(draft, layout, 3))
+}
+
+fn measured(
+    seed: u64,
+    statements: usize,
+    variables: usize,
+    change: impl Fn(&mut Rng, &mut Draft, &mut Layout),
+) -> Vec<i32> {
     let mut rng = Rng::of_case(seed, variables as u64);
     let mut draft = Draft { objects: vec![10, 4, 7], ..Draft::default() };
     let mut layout = layout::with_size(&mut rng, &mut draft, variables);
-    layout::add_rows(&mut rng, &mut draft, &mut layout, 16);
-    filled(&mut rng, draft, &layout, statements)
-}
-
-/// The words of a draft once it has exactly so many statements and is accepted.
-fn filled(rng: &mut Rng, mut draft: Draft, layout: &Layout, statements: usize) -> Vec<i32> {
+    change(&mut rng, &mut draft, &mut layout);
     while draft.statements.len() < statements {
         // A part that is accepted after what is there, and leaves no
         // contradiction behind: a table that is dead from there on measures nothing.
         let mut longer = draft.clone();
         let room = statements - draft.statements.len();
-        longer.statements.extend(Writer { rng: &mut *rng, layout }.body(room.min(4), 0));
-        repair(rng, &mut longer);
+        longer.statements.extend(Writer { rng: &mut rng, layout: &layout }.body(room.min(4), 0));
+        repair(&mut rng, &mut longer);
         let length = longer.statements.len();
         if length <= statements && length > draft.statements.len() && ends_alive(&longer) {
             draft = longer;
@@ -159,14 +165,18 @@ mod tests {
 
     #[test]
     fn tables_for_measuring_are_accepted() {
-        for (make, rows) in [(accepted as fn(_, _, _) -> _, false), (accepted_with_rows, true)] {
+        type Make = fn(u64, usize, usize) -> Vec<i32>;
+        let makes: [(Make, bool, u8); 3] =
+            [(accepted, false, 1), (accepted_with_rows, true, 1), (accepted_with_sizes, false, 3)];
+        for (make, rows, size) in makes {
             for variables in [11, 16] {
-                let table: Vec<i32> = make(3, 1_024, variables);
+                let table = make(3, 1_024, variables);
                 let routine = decode(&table).unwrap();
                 assert_eq!((routine.statements.len(), routine.kinds.len()), (1_024, variables));
                 assert_eq!(fast_check::check(&table), Ok(()));
                 let declared = routine.statements.iter().filter(|s| matches!(s, Statement::Declare { .. }));
                 assert_eq!(declared.count() > 50, rows);
+                assert_eq!(routine.sizes.iter().max(), Some(&size));
             }
         }
     }

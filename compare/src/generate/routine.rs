@@ -27,6 +27,9 @@ impl Writer<'_> {
         if !self.layout.rows.is_empty() && self.rng.chance(40) {
             return self.with_rows(depth).unwrap_or_else(|| vec![self.check()]);
         }
+        if self.layout.sizes.iter().any(|&size| size > 1) && self.rng.chance(20) {
+            return self.with_sizes().unwrap_or_else(|| vec![self.check()]);
+        }
         let chunk = match self.rng.below(44) {
             0 | 1 => Some(vec![self.simple()]),
             2 | 3 => Some(vec![self.check()]),
@@ -192,7 +195,8 @@ impl Writer<'_> {
     fn advance(&mut self) -> Option<Chunk> {
         let group = self.group()?;
         let k = self.rng.pick(&[1, 1, 1, 2, 3, 65_536]);
-        let mut inner: Chunk = group.pointers.iter().map(|&p| move_pointer(p, p, k)).collect();
+        let moved = group.pointers.iter().map(|&p| move_pointer(p, p, self.cells(p, k)));
+        let mut inner: Chunk = moved.collect();
         self.rng.shuffle(&mut inner);
         let lowered = add_constant(group.count, group.count, -k);
         let access = load(self.scratch()?, self.rng.pick(&group.pointers), -1, self.rng.range(0, 1));
@@ -234,7 +238,7 @@ impl Writer<'_> {
             match self.object().filter(|_| self.rng.chance(85)) {
                 None => inner.push(null(p)),
                 Some(object) => {
-                    least = least.min(self.layout.objects[object as usize]);
+                    least = least.min(self.layout.objects[object as usize] / self.layout.sizes[p as usize]);
                     inner.push(address(p, object));
                 }
             }
@@ -265,9 +269,9 @@ impl Writer<'_> {
         let group = self.group()?;
         let (i, x) = (self.rng.pick_any(&self.layout.free)?, self.scratch()?);
         let p = self.rng.pick(&group.pointers);
-        let mut body = vec![load(x, p, i, 0)];
+        let mut body = vec![load(x, p, i, self.cell(p))];
         if self.rng.chance(50) {
-            body.push(store(p, i, 0, self.integer()?));
+            body.push(store(p, i, self.cell(p), self.integer()?));
         }
         if depth + 2 < MAX_DEPTH && self.rng.chance(30) {
             body.extend(self.body(2, depth + 1));
@@ -281,7 +285,8 @@ impl Writer<'_> {
     fn walk(&mut self, depth: usize) -> Option<Chunk> {
         let group = self.group()?;
         let k = self.rng.pick(&[1, 1, 2]);
-        let mut inner: Chunk = group.pointers.iter().map(|&p| move_pointer(p, p, k)).collect();
+        let moved = group.pointers.iter().map(|&p| move_pointer(p, p, self.cells(p, k)));
+        let mut inner: Chunk = moved.collect();
         inner.insert(0, add_constant(group.count, group.count, -k));
         let mut body = bundle(inner);
         if depth + 2 < MAX_DEPTH && self.rng.chance(30) {
@@ -300,7 +305,7 @@ impl Writer<'_> {
         let (to, from) = (self.group()?, self.group()?);
         let q = self.rng.pick(&from.pointers);
         let k = self.rng.pick(&[0, 0, 1, 2]);
-        let mut inner: Chunk = to.pointers.iter().map(|&p| move_pointer(p, q, k)).collect();
+        let mut inner: Chunk = to.pointers.iter().map(|&p| move_pointer(p, q, self.cells(q, k))).collect();
         inner.push(add_constant(to.count, from.count, -k));
         self.rng.shuffle(&mut inner);
         let mut chunk = if k > 0 { vec![self.at_least(from.count, k)] } else { Chunk::new() };
@@ -361,5 +366,7 @@ mod dead;
 mod patterns;
 #[path = "rows.rs"]
 mod rows;
+#[path = "sizes.rs"]
+mod sizes;
 #[path = "unequal.rs"]
 mod unequal;

@@ -33,13 +33,13 @@ impl Writer<'_> {
         }
     }
 
-    /// Checks after which end a is at most end b, as far as dynamic checks can say it.
-    fn end_guards(&mut self, a: &[i32], b: &[i32]) -> Chunk {
+    /// Checks after which end a is at most end b, both with this size, as far as dynamic checks can say it.
+    fn end_guards(&mut self, a: &[i32], b: &[i32], size: i32) -> Chunk {
         let mut guards = Chunk::new();
         if a[0] != b[0] {
             guards.push(dynamic_check(with_variable(a[0], self.rng.pick(&[LESS_EQUAL, EQUAL]), b[0])));
         }
-        let less = b[2] - a[2];
+        let less = (b[2] - a[2]).div_euclid(size);
         match (a[1], b[1]) {
             (-1, -1) => {}
             (n, -1) => guards.push(dynamic_check(with_literal(n, LESS_EQUAL, less.max(0)))),
@@ -61,8 +61,9 @@ impl Writer<'_> {
             false => self.layout.rows[self.other_row(p, row) as usize].bounds,
         };
         let bounds = self.layout.rows[row as usize].bounds;
-        let mut guards = self.end_guards(&known[..3], &bounds[..3]);
-        guards.extend(self.end_guards(&bounds[3..], &known[3..]));
+        let size = self.layout.sizes[p as usize];
+        let mut guards = self.end_guards(&known[..3], &bounds[..3], size);
+        guards.extend(self.end_guards(&bounds[3..], &known[3..], size));
         if self.rng.chance(10) {
             guards.pop();
         }
@@ -112,8 +113,9 @@ impl Writer<'_> {
                 let object = self.object()?;
                 let mut inner = vec![address(p, object)];
                 if bounds[4] >= 0 {
-                    let length = self.layout.objects[object as usize];
-                    inner.push(set(bounds[4], (length - bounds[5] + self.rng.pick(&[0, 0, -1, 1])).max(0)));
+                    let cells = self.layout.objects[object as usize] - bounds[5];
+                    let elements = cells.div_euclid(self.layout.sizes[p as usize]);
+                    inner.push(set(bounds[4], (elements + self.rng.pick(&[0, 0, -1, 1])).max(0)));
                 }
                 inner.push(declare(p, row));
                 bundle(inner)
