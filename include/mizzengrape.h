@@ -5,7 +5,9 @@
 
    Tables. A table begins with pairs of offset and length: objects, variables, statements; the first offset is 6, and the table has at most 7,318 words. A
    first offset of 8 means a fourth pair and section, bounds rows of six words behind the statements: bounds that statements of kind 14 declare for a
-   pointer. Such a table has at most 64 rows and 7,704 words.
+   pointer. Such a table has at most 64 rows and 7,704 words. The word after a pointer's kind is its element size s in cells, 0 or 1 for one cell, at most 8:
+   an index, a variable that is added to the pointer, and the integer of an end of its bounds count elements, so they are multiplied by s. Every constant is in
+   cells.
 
    Calls. Every slice is a pointer and a length in elements. Nothing is kept after a call, and nothing is allocated. There are two ways in:
    - mizzengrape_check and mizzengrape_run are the proved functions. Their caller promises of each slice that its pointer is not null (also where the

@@ -66,6 +66,17 @@ fn the_first_club_stops_and_the_second_is_refused() {
 }
 
 #[test]
+fn rows_are_stepped_as_a_whole() {
+    assert_eq!(second("rows_of_three", "last_row_of_three.img"), "done 7");
+    let expected = "done after 7 steps\nrow: 10 -> 13\nrows: 1 -> 0\nfirst[9] (cell 10): 0 -> 4\nfirst[10] (cell 11): 0 -> 77\n\
+                    first[11] (cell 12): 0 -> 750\n";
+    assert_eq!(run("rows_of_three", "last_row_of_three.img").out, expected);
+    assert_eq!(second("rows_of_three", "full_rows_of_three.img"), "stopped 1 0 1");
+    let full = run("rows_of_three", "full_rows_of_three.img");
+    assert_eq!((full.out.as_str(), full.status), ("stopped after 1 step; nothing changed\n", 3));
+}
+
+#[test]
 fn the_bounds_follow_the_block() {
     assert_eq!(second("two_blocks", "keelboat.img"), "done 10");
     let expected = "done after 10 steps\nrow: 0 -> 7\nrows: 0 -> 1\nkeelboats[2] (cell 6): 0 -> 77\n\

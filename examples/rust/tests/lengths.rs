@@ -96,6 +96,24 @@ const STEPPED: [i32; 66] = [
     10, 1, 2, 1, 0, 0, 0, 9, 0, -1, 0, 2, 0, 0, 13, 2, 0, 0, 0, 0, 0, 6, 0, 0, 1, 0, 0, 0, 2, 1, 1, -1, 0, 0, 0,
 ];
 
+/// The same with rows of three cells: p steps by 3, and p's end counts in rows.
+#[test]
+fn rows_have_several_cells() {
+    let mut table = STEPPED;
+    (table[6], table[8], table[55]) = (6, 3, 3);
+    let (mut cells, mut values) = ([0; 7], [1, 2, 7]);
+    assert_eq!(run(&table, &[1, 6], &mut cells, &mut values, &[1, 0, 0], 9), Outcome::Done { steps: 5 });
+    assert_eq!((cells, values), ([0, 7, 0, 0, 0, 0, 0], [4, 1, 7]));
+    // A third row is not there.
+    values[1] = 2;
+    assert_eq!(
+        run(&table, &[1, 6], &mut cells, &mut values, &[1, 0, 0], 9),
+        Outcome::Refused(refused(12, 0))
+    );
+    table[8] = 9;
+    assert_eq!(check(&table), Verdict::Refused(refused(4, 0)));
+}
+
 /// As the header says: no call begins in the middle, but a copy from before the run passes the same point.
 #[test]
 fn a_run_spent_in_a_bundle_goes_on_from_a_copy() {

@@ -6,7 +6,7 @@ use super::{advice, Explanation, Place};
 use crate::library::Refusal;
 use crate::rows::InForce;
 use crate::tree::Relation;
-use oracle::checker::{KnownEnd, Value};
+use oracle::checker::{KnownBounds, KnownEnd, Value};
 use oracle::facts::{node_or_zero, Facts, GREATEST};
 
 /// Beyond this nothing but the range of all values relates two ends.
@@ -64,32 +64,51 @@ fn notes(place: &Place, moment: &Moment, pointer: usize, explanation: &mut Expla
     let note_declared = format!("note: declared {when}: {} : {bounds}", printer.name(pointer as i32));
     explanation.notes.push((place.declaration(&rows, pointer), note_declared));
     let mut variables = Vec::new();
-    for side in unshown(place, moment, pointer) {
+    for (side, gap) in unshown(place, moment, pointer) {
         variables.extend(side.variables());
-        explanation.notes.push((None, format!("note: {}", side.reason(place, moment, pointer))));
+        explanation.notes.push((None, format!("note: {}", side.reason(&gap, place, moment, pointer))));
     }
     explanation.notes.push((None, note(printer, moment, &variables)));
 }
 
-/// One of the two inequalities, with its ends.
+/// One of the two inequalities: its ends, and how many cells the integer of each counts.
 struct Side {
     upper: bool,
     declared: Value,
+    size: i64,
     known: KnownEnd,
+    known_size: i64,
 }
 
-fn unshown(place: &Place, moment: &Moment, pointer: usize) -> Vec<Side> {
+/// Why an inequality is not shown.
+enum Gap {
+    /// So many cells are missing.
+    Short(i64),
+    /// Ends with integers that count different numbers of cells are not compared.
+    Sizes,
+    /// The known end is unknown.
+    Lost,
+}
+
+fn unshown(place: &Place, moment: &Moment, pointer: usize) -> Vec<(Side, Gap)> {
     let table = place.printer.table;
     let [q, n, k, r, m, j] = moment.rows(table).bounds(table, pointer);
-    let value = |q: i32, n: i32, k: i32| Value {
-        pointer: q as u8,
-        integer: u8::try_from(n).ok(),
-        constant: i64::from(k),
+    let Some(KnownBounds { size: known_size, lower, upper }) = moment.known.of(pointer) else {
+        return Vec::new();
     };
-    let Some(known) = moment.known.of(pointer) else { return Vec::new() };
-    let lower = Side { upper: false, declared: value(q, n, k), known: known.lower };
-    let upper = Side { upper: true, declared: value(r, m, j), known: known.upper };
-    [lower, upper].into_iter().filter(|side| side.missing(&moment.facts) != Some(0)).collect()
+    let side = |upper: bool, [pointer_of_end, integer, constant]: [i32; 3], known: KnownEnd| Side {
+        upper,
+        declared: Value {
+            pointer: pointer_of_end as u8,
+            integer: u8::try_from(integer).ok(),
+            constant: i64::from(constant),
+        },
+        size: i64::from(table.size(pointer as i32)),
+        known,
+        known_size,
+    };
+    let sides = [side(false, [q, n, k], lower), side(true, [r, m, j], upper)];
+    sides.into_iter().filter_map(|side| side.gap(&moment.facts).map(|gap| (side, gap))).collect()
 }
 
 impl Side {
@@ -99,23 +118,29 @@ impl Side {
         Some(if self.upper { (self.declared, known) } else { (known, self.declared) })
     }
 
-    /// How far the inequality is from being shown, in cells; none for an unknown end.
-    fn missing(&self, facts: &Facts) -> Option<i64> {
-        let (a, b) = self.ordered()?;
+    /// None where the inequality is shown.
+    fn gap(&self, facts: &Facts) -> Option<Gap> {
+        let Some((a, b)) = self.ordered() else { return Some(Gap::Lost) };
+        let names_integer = a.integer.is_some() || b.integer.is_some();
+        if names_integer && self.size != self.known_size {
+            return Some(Gap::Sizes);
+        }
         let pointers = facts.sum(usize::from(a.pointer), usize::from(b.pointer));
         let integers = facts.sum(node_or_zero(a.integer), node_or_zero(b.integer));
-        Some((pointers + integers + a.constant - b.constant).max(0))
+        let cells = pointers + self.size * integers + a.constant - b.constant;
+        (cells > 0).then_some(Gap::Short(cells))
     }
 
     /// A condition on integers that would show the inequality.
     fn lacking(&self, facts: &Facts) -> Option<[i32; 4]> {
-        let (a, b) = self.ordered()?;
+        let (a, b) = self.ordered().filter(|_| self.size == self.known_size)?;
+        let cells = b.constant - a.constant - facts.sum(usize::from(a.pointer), usize::from(b.pointer));
         // a's integer has to be at most b's and this.
-        let room = b.constant - a.constant - facts.sum(usize::from(a.pointer), usize::from(b.pointer));
+        let room = cells.div_euclid(self.size);
         let literal = |value: i64| u32::try_from(value).ok().map(|value| value as i32);
         let [below, above] = [a.integer, b.integer].map(|variable| variable.map(i32::from));
         match (below, above) {
-            (None, Some(m)) if (-UNRELATED..0).contains(&room) => {
+            (None, Some(m)) if (-UNRELATED..0).contains(&cells) => {
                 Some([m, Relation::GreaterEqual as i32, 1, literal(-room)?])
             }
             (Some(n), None) => Some([n, Relation::LessEqual as i32, 1, literal(room)?]),
@@ -131,31 +156,37 @@ impl Side {
         ends.flatten().map(i32::from).collect()
     }
 
-    fn reason(&self, place: &Place, moment: &Moment, pointer: usize) -> String {
+    fn reason(&self, gap: &Gap, place: &Place, moment: &Moment, pointer: usize) -> String {
         let which = if self.upper { "upper" } else { "lower" };
         let by = moment.changed[pointer][usize::from(self.upper)];
-        let Some(missing) = self.missing(&moment.facts) else {
-            return match by {
-                Some(s) => format!("the known {which} end was lost at {}", lost(place, s)),
-                None => format!("the known {which} end is unknown"),
-            };
+        let (size, known_size) = (self.size, self.known_size);
+        let gap = match gap {
+            Gap::Lost => {
+                return match by {
+                    Some(s) => format!("the known {which} end was lost at {}", lost(place, s)),
+                    None => format!("the known {which} end is unknown"),
+                }
+            }
+            Gap::Sizes => {
+                let element = counted(size);
+                format!("an end with an integer in elements of {element} cannot be compared with one of {known_size}")
+            }
+            Gap::Short(cells) if *cells > UNRELATED => "nothing relates them".to_string(),
+            Gap::Short(cells) if size > 1 => format!("short by {}", counted(*cells)),
+            Gap::Short(cells) => format!("short by {cells}"),
         };
-        let printer = &place.printer;
-        let size = printer.table.size(pointer as i32);
-        let show = |value: Value| {
-            let integer = value.integer.map_or(-1, i32::from);
-            printer.end([i32::from(value.pointer), integer], value.constant, size)
-        };
-        let declared = format!("declared {which} end {}", show(self.declared));
-        let known = format!("known {which} end {}", self.known.map(show).unwrap_or_default());
+        let declared = format!("declared {which} end {}", place.end(self.declared, size));
+        let known = self.known.map_or(String::new(), |known| place.end(known, known_size));
+        let known = format!("known {which} end {known}");
         let (below, above) = if self.upper { (declared, known) } else { (known, declared) };
-        let short = match missing {
-            1..=UNRELATED => format!("short by {missing}"),
-            _ => "nothing relates them".to_string(),
-        };
         let by = by.map_or(String::new(), |s| format!(" ({})", place.line_and_text(s)));
-        format!("not shown: {below} <= {above}: {short}{by}")
+        format!("not shown: {below} <= {above}: {gap}{by}")
     }
+}
+
+/// `1 cell`, `3 cells`.
+fn counted(cells: i64) -> String {
+    format!("{cells} cell{}", if cells == 1 { "" } else { "s" })
 }
 
 /// The statement that made an end unknown, and why it could not be turned round.
@@ -185,6 +216,7 @@ fn help(place: &Place, moment: &Moment, pointer: usize) -> Option<String> {
     if let Some((s, n, k)) = lost {
         return advice::check_before(place, s, [n, Relation::GreaterEqual as i32, 1, k as i32], refused);
     }
-    let lacking = unshown(place, moment, pointer).into_iter().filter_map(|side| side.lacking(&moment.facts));
-    lacking.into_iter().find_map(|condition| advice::check_before(place, refused, condition, refused))
+    let unshown = unshown(place, moment, pointer).into_iter();
+    let mut lacking = unshown.filter_map(|(side, _)| side.lacking(&moment.facts));
+    lacking.find_map(|condition| advice::check_before(place, refused, condition, refused))
 }

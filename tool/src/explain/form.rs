@@ -68,16 +68,14 @@ fn reason(form: &Form, refusal: &Refusal) -> (String, Vec<i32>) {
             (reason, record.map_or(Vec::new(), |record| record.to_vec()))
         }
     };
-    (reason.unwrap_or_else(|| not_yet(table, refusal)), record)
+    (reason.unwrap_or_else(|| not_yet(refusal)), record)
 }
 
 /// A form that reads, but belongs to a change request that this library does not have.
-fn not_yet(table: &Table, refusal: &Refusal) -> String {
-    let place = refusal.place;
+fn not_yet(refusal: &Refusal) -> String {
     let what = match refusal.number {
         3 => "terminated objects",
-        4 if table.variables.get(place).is_some_and(|record| record[0] == 2) => "nt_array_ptr",
-        4 => "elements of several cells",
+        4 => "nt_array_ptr",
         5 => "calls",
         _ => "such tables",
     };

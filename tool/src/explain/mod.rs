@@ -20,6 +20,7 @@ use crate::printer::Printer;
 use crate::program::{Program, Text};
 use crate::rows::InForce;
 use oracle::answer::{CheckAnswer, RunInput};
+use oracle::checker::Value;
 pub use state::state;
 use walk::Walk;
 
@@ -89,6 +90,12 @@ impl<'a> Place<'a> {
     /// The bounds in force of a pointer.
     fn in_force(&self, rows: &InForce, pointer: usize) -> String {
         self.printer.bounds(pointer as i32, rows.bounds(self.printer.table, pointer))
+    }
+
+    /// A known end whose integer counts so many cells.
+    fn end(&self, end: Value, size: i64) -> String {
+        let integer = end.integer.map_or(-1, i32::from);
+        self.printer.end([i32::from(end.pointer), integer], end.constant, size as i32)
     }
 
     /// `line 8`; of a statement that has no line, its number.

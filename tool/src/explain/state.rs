@@ -4,7 +4,6 @@ use super::facts::known;
 use super::walk::{walk, Moment};
 use super::Place;
 use crate::program::Program;
-use oracle::checker::{KnownEnd, Value};
 
 /// The state before a statement of a routine, in lines; or why there is none.
 pub fn state(program: &Program, (routine, statement): (usize, usize), short: bool) -> Result<String, String> {
@@ -42,15 +41,9 @@ fn bounds(place: &Place, moment: &Moment, p: i32) -> String {
     let ends = [("lower", known.lower), ("upper", known.upper)];
     for ((which, end), by) in ends.into_iter().zip(moment.changed[pointer]) {
         if let Some(s) = by {
-            let end = shown(place, p, end);
+            let end = end.map_or_else(|| "lost".to_string(), |end| place.end(end, known.size));
             lines.push_str(&format!("known {which} end: {end} ({})\n", place.line_and_text(s)));
         }
     }
     lines
-}
-
-fn shown(place: &Place, p: i32, end: KnownEnd) -> String {
-    let Some(Value { pointer, integer, constant }) = end else { return "lost".to_string() };
-    let size = place.printer.table.size(p);
-    place.printer.end([i32::from(pointer), integer.map_or(-1, i32::from)], constant, size)
 }

@@ -3,7 +3,7 @@
 use crate::rows::InForce;
 use crate::table::Table;
 use oracle::answer::CheckAnswer;
-use oracle::checker::{watch, Known, KnownBounds, Observer, Rows};
+use oracle::checker::{watch, Known, KnownBounds, KnownEnd, Observer, Rows};
 use oracle::facts::Facts;
 use oracle::table::decode;
 
@@ -87,7 +87,11 @@ impl Recorder {
             return;
         };
         for (v, changed) in self.changed.iter_mut().enumerate() {
-            let ends = |bounds: Option<KnownBounds>| bounds.map(|bounds| [bounds.lower, bounds.upper]);
+            // An end without an integer is the same whatever its size.
+            let sized = |end: KnownEnd, size| (end, end.and_then(|end| end.integer).map(|_| size));
+            let ends = |bounds: Option<KnownBounds>| {
+                bounds.map(|KnownBounds { size, lower, upper }| [sized(lower, size), sized(upper, size)])
+            };
             let (Some(old), Some(new)) = (ends(before.known.of(v)), ends(known.of(v))) else { continue };
             for side in 0..2 {
                 if old[side] != new[side] {
