@@ -2,7 +2,8 @@
 """What a reader must believe: the files of docs/DEFINITIONS.txt. usage: tools/definitions.py  (run in the repository)
 
 Holds that the list is whole: whatever a contract of an entry point cites stands in a listed file, and a listed file uses listed files alone
-(besides the kit's library and the types that src/ declares). Prints the lines of each file without its `use` lines, blank lines and comments."""
+(besides the kit's library and the types that src/ declares). Prints the lines of each file without its `use` lines, blank lines and comments; then all
+together, also with the `use` lines counted, and with everything."""
 import re
 import sys
 from pathlib import Path
@@ -50,8 +51,10 @@ def main():
         print(f"docs/DEFINITIONS.txt lacks {path}, which {by} uses")
     for path in files:
         print(f"{size(path):5} {path}")
-    whole = sum(len(Path(path).read_text().splitlines()) for path in files)
-    print(f"{sum(map(size, files)):5} lines of definitions in {len(files)} files ({whole} lines with imports and comments)")
+    texts = [line for path in files for line in Path(path).read_text().splitlines()]
+    imports = sum(1 for line in texts if line.startswith("use "))
+    total = sum(map(size, files))
+    print(f"{total:5} lines of definitions in {len(files)} files ({total + imports} with imports, {len(texts)} with comments and blank lines too)")
     return 1 if missing or len(set(files)) != len(files) else 0
 
 
