@@ -1,4 +1,4 @@
--- A list by a function of the index.
+-- A list by a function of the index: no sentence of the paper.
 use Prim.Native.Nat.{ℕ, zero, suc}
 use mathlib.Core.List.{List, [], _∷_, _++_}
 

@@ -1,4 +1,4 @@
--- Cause 6: the layout of blocks and bundles, in table order.
+-- Cause 6 (document 01, "Causes of refusal"): the layout of blocks and bundles, in table order.
 use Prim.Native.Nat.{ℕ, zero, suc, _+_}
 use mathlib.Core.Bool.{Bool, true, false, _||_}
 use mathlib.Core.List.{List, [], _∷_}

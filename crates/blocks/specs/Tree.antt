@@ -1,4 +1,4 @@
--- The tree of blocks that the statements of a table are.
+-- The tree of blocks that the statements of a table are (document 01, "The routine table").
 use Prim.Native.Nat.{ℕ, zero, suc, _+_}
 use mathlib.Core.Bool.{Bool, true, false}
 use mathlib.Core.List.{List, [], _∷_, _++_}

@@ -1,4 +1,4 @@
--- What was done to the facts, as data, and what is known then, in the paper's words.
+-- What was done to the facts, as data, and what is known then, in the paper's words (document 01, "Facts").
 use Prim.Native.Nat.{ℕ, _+_, _-_, _≤_, _<_}
 use Rattle.sums.specs.Numbers.{bias, maxValue, zeroVar}
 use Rattle.chains.specs.Facts.{Variables, Comparable, Known, Always, With, Without, Shifted, Both}

@@ -1,4 +1,4 @@
--- The negation of a condition.
+-- The negation of a condition (document 01, "The routine table"; document 02, point 3).
 use mathlib.Core.Bool.{cond}
 use Prim.Native.Nat.{ℕ, _+_, _-_, _%_}
 use lib.Dec.{eqb}

@@ -1,4 +1,4 @@
--- Answers as words in a lent slice.
+-- Answers as words in a lent slice, as include/mizzengrape.h tells them.
 use Prim.Native.Nat.{ℕ, _%_, _^_}
 use mathlib.Core.Path.{_≡_}
 use mathlib.Core.Bool.{Bool, true, false}

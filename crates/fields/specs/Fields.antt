@@ -1,4 +1,4 @@
--- What the word of one field is, and what it may be.
+-- What the word of one field is, and what it may be (document 01, "The routine table").
 use Prim.Native.Nat.{ℕ, _+_, _-_, _%_, _^_}
 use mathlib.Core.Bool.{Bool, true, false, _&&_, cond}
 use lib.Dec.{leb, ltb, eqb}

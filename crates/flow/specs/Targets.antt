@@ -1,4 +1,4 @@
--- "variables assigned in the body": the targets of a part of the table.
+-- "variables assigned in the body" (document 01, "Facts"): the targets of a part of the table.
 use Prim.Native.Nat.{ℕ, zero, suc, _+_}
 use mathlib.Core.List.{List, [], _++_}
 use lib.IntN.{ℤ}

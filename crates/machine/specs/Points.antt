@@ -1,4 +1,4 @@
--- Points of a run: which are in a bundle, the access that the step from a point performs, and the cells outside of all objects.
+-- Points of a run (document 01, "The plain machine"): which are in a bundle, the access that the step from a point performs, the cells outside of all objects.
 use Prim.Native.Nat.{ℕ, _+_, _≤_, _<_}
 use mathlib.Core.Path.{_≡_}
 use mathlib.Core.Bool.{Bool, true, false, _&&_, _||_}

@@ -1,4 +1,4 @@
--- Objects in reach of a run, and the cells of objects.
+-- Objects in reach of a run, and the cells of objects (document 02, point 12).
 use Prim.Native.Nat.{ℕ, suc, _<_, _≤_}
 use mathlib.Core.Path.{_≡_}
 use mathlib.Core.Logic.{_⊎_}

@@ -1,4 +1,4 @@
--- The paper's number and place of each refusal.
+-- The paper's number and place of each refusal (document 01, "Causes of refusal").
 use Prim.Native.Nat.{ℕ}
 use Rattle.refusals.specs.declared.Refusal.{Refusal}
 use Rattle.refusals.specs.declared.Refusal.the-variants.{Length, Directory, ObjectLength, VariableRecord, StatementRecord, BlockLayout, BoundsNotShown, BundleAccess, MemorySize, DirectoryPair, EntryLengths, EntryValue, RowsDiffer}

@@ -1,4 +1,4 @@
--- The walk over a routine: the facts after each block, and the faults of each block in table order.
+-- The walk over a routine (document 01, "Facts", "Bounds in force"): what is handed on after each block, and the faults of each block in table order.
 use Prim.Native.Nat.{ℕ, _+_}
 use mathlib.Core.Bool.{Bool, true, false, not, _&&_}
 use mathlib.Core.List.{List, [], _∷_}

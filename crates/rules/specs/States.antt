@@ -1,4 +1,4 @@
--- What a walk hands on from each statement to the next: what is known, and the rows in force.
+-- What a walk hands on from each statement to the next: what is known, and the rows in force (document 02, point 2).
 use Prim.Native.Nat.{ℕ}
 use mathlib.Core.List.{List}
 

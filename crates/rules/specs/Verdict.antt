@@ -1,4 +1,4 @@
--- The verdict on a table: causes 1 to 6 over the whole table, then the first fault of the walk.
+-- The verdict on a table (document 01, "Causes of refusal"): causes 1 to 6 over the whole table, then the first fault of the walk.
 use Prim.Native.Nat.{ℕ}
 use mathlib.Core.Path.{_≡_}
 use mathlib.Core.List.{List, [], _∷_}

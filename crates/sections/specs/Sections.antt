@@ -1,4 +1,4 @@
--- The sections of a table, and what a word of a record names.
+-- The sections of a table, and what a word of a record names (document 01, "The routine table").
 use Prim.Native.Nat.{ℕ, _+_, _-_, _*_, _≤_}
 use mathlib.Core.Bool.{Bool, _&&_, _||_, cond}
 use mathlib.Core.List.{List}

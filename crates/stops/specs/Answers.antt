@@ -1,4 +1,4 @@
--- What the answer of a run reads as, in the paper's numbers: "done, spent .. or stopped", or refused.
+-- What the answer of a run reads as, in the paper's numbers (document 01, "The plain machine"): "done, spent .. or stopped", or refused.
 use Prim.Native.Nat.{ℕ}
 use Rattle.refusals.specs.Refusals.{number, place, pointer}
 use Rattle.stops.specs.Checks.{checkNumber, checkStatement}

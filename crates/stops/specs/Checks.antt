@@ -1,4 +1,4 @@
--- The five named checks: the paper's number of each, and the statement at which it fails.
+-- The five named checks (document 01, "The plain machine"): the paper's number of each, and the statement at which it fails.
 use Prim.Native.Nat.{ℕ, zero, suc}
 use Rattle.stops.specs.declared.Check.{Check}
 use Rattle.stops.specs.declared.Check.the-variants.{ConditionFalse, NullAccess, OutOfBounds, NullArithmetic, AddressRange}

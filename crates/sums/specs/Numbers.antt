@@ -1,4 +1,4 @@
--- The numbers that every crate shares.
+-- The numbers that every crate shares: no sentence of the paper, but how its whole numbers are held.
 use Prim.Native.Nat.{ℕ, _-_, _^_}
 
 -- Sums, constants and ends may be negative; each is kept as the natural number that is `bias` more.

@@ -1,4 +1,4 @@
--- What the record of a variable reads as, and the length of an object.
+-- What the record of a variable reads as, and the length of an object (document 01, "The routine table").
 use Prim.Native.Nat.{ℕ, _+_}
 use mathlib.Core.Bool.{Bool, _&&_, cond}
 use mathlib.Core.List.{List}

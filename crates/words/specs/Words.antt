@@ -1,4 +1,4 @@
--- The words of a table.
+-- The words of a table (document 01, "The routine table").
 use Prim.Native.Nat.{ℕ, _+_, _-_}
 use mathlib.Core.List.{List}
 use lib.ListN.{getD}
