@@ -3,11 +3,13 @@
    A routine is a table of 32-bit words (docs/FORMAT.md; the command `mizzengrape` makes tables from Checked C text). mizzengrape_check answers whether the
    rules accept it; mizzengrape_run runs an accepted one on memory that the caller lends.
 
-   Tables. A table begins with pairs of offset and length: objects, variables, statements; the first offset is 6, and the table has at most 7,318 words. A
-   first offset of 8 means a fourth pair and section, bounds rows of six words behind the statements: bounds that statements of kind 14 declare for a
-   pointer. Such a table has at most 64 rows and 7,704 words. The word after a pointer's kind is its element size s in cells, 0 or 1 for one cell, at most 8:
-   an index, a variable that is added to the pointer, and the integer of an end of its bounds count elements, so they are multiplied by s. Every constant is in
-   cells.
+   Tables. A table begins with pairs of offset and length: objects, variables, statements; the first offset is 6, and the table has at most 7,318 words.
+   - A first offset of 8 means a fourth pair and section, bounds rows of six words behind the statements: bounds that statements of kind 14 declare for a
+     pointer. Such a table has at most 64 rows and 7,704 words.
+   - The word after a pointer's kind is its element size s in cells, 0 or 1 for one cell, at most 8: an index, a variable that is added to the pointer, and
+     the integer of an end of its bounds count elements, so they are multiplied by s. Every constant is in cells.
+   - An object word below 0 is a terminated object of that many cells, sign removed, whose last cell is 0 at every point of a run. A pointer of kind 2
+     (nt_array_ptr) is null or belongs to a terminated object; it may also read the cell at its upper end, and store 0 there.
 
    Calls. Every slice is a pointer and a length in elements. Nothing is kept after a call, and nothing is allocated. There are two ways in:
    - mizzengrape_check and mizzengrape_run are the proved functions. Their caller promises of each slice that its pointer is not null (also where the
@@ -20,11 +22,12 @@
    Memory. What a run is lent:
    - cells: the memory, at most 16,777,216 cells of 32 bits. Address a is cells[a]. Cell 0 is in no object, so address 0 is null.
    - directory: two words for each object of the table, its first cell and its length in cells, in the order of the objects and of the memory. The first
-     cell is 1 or more, the length is that of the table; objects may touch, and cells may lie in no object. It is empty where the table has no object.
+     cell is 1 or more, the length is that of the table, without its sign; objects may touch, and cells may lie in no object. It is empty where the table
+     has no object. The last cell of each terminated object has to be 0 when a run begins, whether a pointer is lent into it or not.
    - values: one word for each variable, an integer or an address. All may be 0: integers are 0 then and pointers null.
    - origins: one word for each variable. For an integer and for a null pointer it is 0; for another pointer the number of the object that it belongs to,
      plus 1. (Where objects touch, the address alone does not tell which one a pointer at their border belongs to.) The bounds that are declared for the
-     pointer in its own record must lie in that object, by the values lent.
+     pointer in its own record must lie in that object, by the values lent; in a terminated one the upper end at most at its last cell.
    - limit: how many steps the run may take. 0 is a limit too: the run is then done at once, in a table without statements, or spent.
 
    What a run leaves. cells and values are written, nothing else; a refused run writes neither. After a run that is done, spent or stopped, values holds each
@@ -66,7 +69,7 @@ typedef enum mizzengrape_refusal {
     MIZZENGRAPE_ACCEPTED = 0,
     MIZZENGRAPE_REFUSED_LENGTH = 1,      /* [0] the table has fewer than 6 or more than 7,318 words; 7,704 where its first word is 8 */
     MIZZENGRAPE_REFUSED_DIRECTORY = 2,   /* [0] its sections do not lie one behind the other, or hold too many or too few records */
-    MIZZENGRAPE_REFUSED_OBJECT = 3,      /* [object] its length is not 1 to 1,000,000 */
+    MIZZENGRAPE_REFUSED_OBJECT = 3,      /* [object] its length, without its sign, is not 1 to 1,000,000 */
     MIZZENGRAPE_REFUSED_VARIABLE = 4,    /* [variable, or number of variables plus row] its record is wrong */
     MIZZENGRAPE_REFUSED_STATEMENT = 5,   /* [statement] its record is wrong: kind, a field, what a field names */
     MIZZENGRAPE_REFUSED_BLOCK = 6,       /* [statement] a block past its parent's end, too deep, or a bundle's count or contents */
@@ -77,7 +80,9 @@ typedef enum mizzengrape_refusal {
     MIZZENGRAPE_REFUSED_MEMORY = 10,     /* [pair or 0] the memory is too large, or the directory does not fit it or the table */
     MIZZENGRAPE_REFUSED_VALUES = 11,     /* [0] not one value and one origin for each variable */
     MIZZENGRAPE_REFUSED_ENTRY = 12,      /* [variable] an origin is wrong, or the bounds are untrue at entry */
-    MIZZENGRAPE_REFUSED_ROWS = 13        /* [if or while] its two sides, or head and end of its body, leave different rows in force */
+    MIZZENGRAPE_REFUSED_ROWS = 13,       /* [if or while] its two sides, or head and end of its body, leave different rows in force */
+    /* 14 and 15 are unused. */
+    MIZZENGRAPE_REFUSED_TERMINATOR = 16  /* [object] the last cell of a terminated object is not 0 at entry */
 } mizzengrape_refusal;
 
 /* How a run ended: answer[0] of a run. */
@@ -94,7 +99,8 @@ typedef enum mizzengrape_stop {
     MIZZENGRAPE_STOP_NULL = 2,       /* an access through null */
     MIZZENGRAPE_STOP_BOUNDS = 3,     /* an access outside of the declared bounds */
     MIZZENGRAPE_STOP_ARITHMETIC = 4, /* arithmetic on null */
-    MIZZENGRAPE_STOP_ADDRESS = 5     /* a pointer would leave 1 to 4,294,967,295 */
+    MIZZENGRAPE_STOP_ADDRESS = 5,    /* a pointer would leave 1 to 4,294,967,295 */
+    MIZZENGRAPE_STOP_TERMINATOR = 6  /* a number other than 0 stored at the upper end of a pointer of kind 2 */
 } mizzengrape_stop;
 
 /* Checks a routine table. The answer's words, the others stay:
@@ -106,9 +112,9 @@ bool mizzengrape_check(const int32_t *table, size_t table_len, uint32_t *answer,
 
 /* Runs a routine table on lent cells and values, limit steps at most. The answer's words, the others stay:
      answer[0]       0 done    1 spent     2 stopped    3 refused
-     answer[1]       steps     steps       steps        number of the refusal, 1 to 13
+     answer[1]       steps     steps       steps        number of the refusal, 1 to 13 or 16
      answer[2]       0         statement   statement    its place
-     answer[3]       0         0           check 1..5   for refusal 8 the pointer variable as for a check, else 0
+     answer[3]       0         0           check 1..6   for refusal 8 the pointer variable as for a check, else 0
    Each statement begun is a step; a while is one at each test, a bundle's head is one, and so is a statement that stops the run. The statement of a spent
    run is the one due next.
    True; or false, and nothing written, where answer_len is below 4. */

@@ -199,7 +199,8 @@ mod tests {
 
     #[test]
     fn a_wrong_implementation_is_found_and_the_report_is_small() {
-        let report = search(12, 0, 4_000, &Lenient).expect("a difference");
+        // Number 0 has its run at every limit: that report is not made small.
+        let report = search(12, 1, 4_000, &Lenient).expect("a difference");
         assert!(report.contains("seed 12") && report.contains("refused 9"));
         let case = report.split_once("table:").map(|(_, rest)| format!("table:{rest}")).unwrap();
         let read = vectors::read(&case).unwrap();

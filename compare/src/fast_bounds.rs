@@ -2,7 +2,7 @@
 
 use crate::fast_facts::FastFacts;
 use oracle::answer::{CheckAnswer, Refusal};
-use oracle::table::{Bounds, End, Kind, Routine, Var};
+use oracle::table::{Bounds, End, Object, Routine, Var};
 
 /// An integer that no end, no condition and no kind 2 reads: no question can
 /// reach its facts, so it gets no node.
@@ -96,7 +96,7 @@ fn used(routine: &Routine) -> u16 {
             mask |= 1 << integer;
         }
     }
-    let pointers = routine.kinds.iter().enumerate().filter(|(_, &kind)| kind == Kind::Pointer);
+    let pointers = routine.kinds.iter().enumerate().filter(|(_, kind)| kind.is_pointer());
     pointers.fold(mask, |mask, (v, _)| mask | 1 << v)
 }
 
@@ -104,14 +104,14 @@ impl<'a> FastBounds<'a> {
     /// The bounds at entry and the facts there.
     pub fn new(routine: &'a Routine) -> (FastBounds<'a>, FastFacts) {
         let used = used(routine);
-        let pointers = routine.kinds.iter().filter(|&&k| k == Kind::Pointer).count();
+        let pointers = routine.kinds.iter().filter(|kind| kind.is_pointer()).count();
         let integers = used.count_ones() as usize - pointers;
         let (mut next_pointer, mut next_integer) = (0u8, pointers as u8 + 1);
         let mut nodes = [NO_NODE; 16];
         for v in bits(used) {
-            let next = match routine.kinds[v] {
-                Kind::Pointer => &mut next_pointer,
-                Kind::Integer => &mut next_integer,
+            let next = match routine.kinds[v].is_pointer() {
+                true => &mut next_pointer,
+                false => &mut next_integer,
             };
             nodes[v] = *next;
             *next += 1;
@@ -266,14 +266,14 @@ impl<'a> FastBounds<'a> {
         self.forget(p);
     }
 
-    /// Kind 5 gives (p, p + length).
-    pub fn set_object(&mut self, p: Var, length: u32) {
+    /// Kind 5 gives (p, p + length), of a terminated object one cell less.
+    pub fn set_object(&mut self, p: Var, object: Object) {
         self.forget(p);
         let (pointer, integer) = (self.nodes[usize::from(p)], self.zero);
         self.known[usize::from(p)] = KnownBounds {
             size: self.routine.size(p),
             lower: Known { pointer, integer, constant: 0 },
-            upper: Known { pointer, integer, constant: i64::from(length) },
+            upper: Known { pointer, integer, constant: i64::from(object.room()) },
         };
         self.changed |= 1 << p;
     }

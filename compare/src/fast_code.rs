@@ -2,7 +2,7 @@
 //! run goes on, over slots of values.
 
 use crate::fast_bounds::{declared, InForce, AT_ENTRY};
-use oracle::table::{Bounds, Condition, End, Operator, Right, Routine, Statement, Var};
+use oracle::table::{Bounds, Condition, End, Kind, Operator, Right, Routine, Statement, Var};
 
 /// A value slot: 0 to 15 the variables, `NOTHING` always 0. There is one for
 /// every number a slot can have, so that no index needs a check.
@@ -78,6 +78,14 @@ pub enum Op {
         ends: u16,
     },
     Store {
+        x: Slot,
+        p: Slot,
+        i: Slot,
+        k: i32,
+        ends: u16,
+    },
+    /// A store through a kind 2 pointer (point 7): at its upper end only 0.
+    StoreTerminated {
         x: Slot,
         p: Slot,
         i: Slot,
@@ -218,15 +226,24 @@ impl Translator<'_> {
         }
     }
 
-    /// The bounds of an access through p: near ones, or their place in the table of ends.
+    fn is_terminated(&self, p: Var) -> bool {
+        self.routine.kinds[usize::from(p)] == Kind::Terminated
+    }
+
+    /// The place of bounds in the table of ends.
+    fn ends(&mut self, size: u8, bounds: &Bounds) -> u16 {
+        let (lower, upper) = (flat(bounds.lower), flat(bounds.upper));
+        self.code.ends.push(FlatBounds { size: i64::from(size), lower, upper });
+        self.code.ends.len() as u16 - 1
+    }
+
+    /// The bounds of an access through p: near ones, or their place in the table of ends. A kind 2 pointer reads one
+    /// cell more.
     fn bounds(&mut self, p: Var) -> Result<Near, u16> {
-        let bounds = declared(self.routine, usize::from(p), self.in_force[usize::from(p)]);
+        let mut bounds = *declared(self.routine, usize::from(p), self.in_force[usize::from(p)]);
+        bounds.upper.constant += i32::from(self.is_terminated(p));
         let size = self.routine.sizes[usize::from(p)];
-        near(p, size, bounds).ok_or_else(|| {
-            let (lower, upper) = (flat(bounds.lower), flat(bounds.upper));
-            self.code.ends.push(FlatBounds { size: i64::from(size), lower, upper });
-            self.code.ends.len() as u16 - 1
-        })
+        near(p, size, &bounds).ok_or_else(|| self.ends(size, &bounds))
     }
 
     fn simple(&mut self, statement: Statement) -> Op {
@@ -249,6 +266,11 @@ impl Translator<'_> {
                 Ok(near) => Op::LoadNear { x, p, i: slot(i), k, near },
                 Err(ends) => Op::Load { x, p, i: slot(i), k, ends },
             },
+            Statement::Store { p, i, k, x } if self.is_terminated(p) => {
+                let bounds = declared(self.routine, usize::from(p), self.in_force[usize::from(p)]);
+                let ends = self.ends(self.routine.sizes[usize::from(p)], bounds);
+                Op::StoreTerminated { x, p, i: slot(i), k, ends }
+            }
             Statement::Store { p, i, k, x } => match self.bounds(p) {
                 Ok(near) => Op::StoreNear { x, p, i: slot(i), k, near },
                 Err(ends) => Op::Store { x, p, i: slot(i), k, ends },

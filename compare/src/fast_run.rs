@@ -87,6 +87,17 @@ impl Values {
         Ok(address)
     }
 
+    /// Checks 2, 3 and 6 of a store of this number through a kind 2 pointer; the address.
+    fn terminated(&self, p: Slot, i: Slot, k: i32, ends: &FlatBounds, number: u32) -> Result<i64, Check> {
+        let mut read = *ends;
+        read.upper.constant += 1;
+        let address = self.access(p, i, k, &read)?;
+        match address == self.end(&ends.upper, ends.size) && number != 0 {
+            true => Err(Check::Terminator),
+            false => Ok(address),
+        }
+    }
+
     /// Checks 4 and 5; the new address.
     #[inline(always)]
     fn advance(&self, q: Slot, offset: i64) -> Result<u32, Check> {
@@ -169,6 +180,16 @@ fn run_loop(code: &Code, cells: &mut [u32], values: &mut Values, allowance: u32)
                 },
                 Err(check) => break Some(check),
             },
+            Op::StoreTerminated { x, p, i, k, ends } => {
+                let number = values.get(x);
+                match values.terminated(p, i, k, &code.ends[usize::from(ends)], number) {
+                    Ok(address) => match cells.get_mut(address as usize) {
+                        Some(cell) => *cell = number,
+                        None => break None,
+                    },
+                    Err(check) => break Some(check),
+                }
+            }
             Op::CheckVariable { x, y, satisfied } => {
                 if !values.holds(x, values.get(y), satisfied) {
                     break Some(Check::Dynamic);

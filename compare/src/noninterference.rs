@@ -22,14 +22,21 @@ pub struct Ended<'a> {
 }
 
 impl Pair {
-    /// In the second memory every cell out of reach is another one. `None` where the entry is refused: of such
-    /// runs nothing is claimed.
+    /// In the second memory every cell out of reach is another one, but for the last cells of terminated objects:
+    /// with another number there the second entry would be refused (16). `None` where the entry is refused: of such runs
+    /// nothing is claimed.
     pub fn new(routine: &Routine, first: &RunInput) -> Option<Pair> {
         check_entry(routine, first).ok()?;
         let out_of_reach = cells_out_of_reach(routine, first);
         let mut second = first.clone();
         for range in out_of_reach.clone() {
             second.cells[range].iter_mut().for_each(|cell| *cell = !*cell);
+        }
+        for (pair, object) in first.directory.chunks_exact(2).zip(&routine.objects) {
+            if object.terminated {
+                let last = (pair[0] + pair[1]) as usize - 1;
+                second.cells[last] = first.cells[last];
+            }
         }
         Some(Pair { out_of_reach, second })
     }
@@ -126,6 +133,18 @@ mod tests {
         let pair = Pair::new(&decode(&table).unwrap(), &lent).unwrap();
         let differ = (0..8).filter(|&a| pair.second.cells[a] != lent.cells[a]);
         assert_eq!(differ.collect::<Vec<_>>(), [0, 1, 5, 6, 7]);
+    }
+
+    #[test]
+    fn the_second_entry_is_accepted_with_terminated_objects_out_of_reach() {
+        let (mut table, mut lent) = club();
+        // The members' numbers end with 0; so do their cells in the second memory.
+        table[7] = -2;
+        lent.cells[6] = 0;
+        let pair = Pair::new(&decode(&table).unwrap(), &lent).unwrap();
+        let differ = (0..8).filter(|&a| pair.second.cells[a] != lent.cells[a]);
+        assert_eq!(differ.collect::<Vec<_>>(), [0, 1, 5, 7]);
+        assert_eq!(check_entry(&decode(&table).unwrap(), &pair.second), Ok(()));
     }
 
     #[test]

@@ -217,7 +217,7 @@ fn without_variable(mut draft: Draft, v: usize) -> Option<Draft> {
         *word -= i32::from(*word > v as i32);
         free
     };
-    let own = draft.variables.iter_mut().filter(|record| record[0] == 1).map(|record| &mut record[2..]);
+    let own = draft.variables.iter_mut().filter(|record| record[0] != 0).map(|record| &mut record[2..]);
     let rows = draft.rows.iter_mut().flatten().map(|row| &mut row[..]);
     let ends_free =
         own.chain(rows).flat_map(|ends| [0, 1, 3, 4].map(|field| rename(&mut ends[field]))).all(|free| free);

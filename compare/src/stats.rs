@@ -25,6 +25,8 @@ pub struct Stats {
     unlike_rows: [u64; 2],
     /// Accepted tables with an element of several cells, with pointers of several sizes.
     sizes: [u64; 2],
+    /// Accepted tables with a kind 2 pointer, with both kinds; runs begun with a terminated object.
+    terminated: [u64; 3],
     /// Accepted tables with a statement whose facts contradict, and with such facts at the end.
     dead: u64,
     dead_at_end: u64,
@@ -104,10 +106,14 @@ impl Stats {
         self.heads[1] += has(|s| matches!(s, Statement::While { .. }));
         self.heads[2] += has(|s| matches!(s, Statement::Bundle { .. }));
         self.count_declarations(statements);
-        let pointers = || (0..routine.kinds.len()).filter(|&v| routine.kinds[v] == Kind::Pointer);
+        let pointers = || (0..routine.kinds.len()).filter(|&v| routine.kinds[v].is_pointer());
         let sizes = || pointers().map(|p| routine.sizes[p]);
         self.sizes[0] += u64::from(sizes().any(|size| size > 1));
         self.sizes[1] += u64::from(sizes().max() != sizes().min());
+        let [arrays, terminated] =
+            [Kind::Pointer, Kind::Terminated].map(|kind| routine.kinds.contains(&kind));
+        self.terminated[0] += u64::from(terminated);
+        self.terminated[1] += u64::from(terminated && arrays);
     }
 
     fn count_declarations(&mut self, statements: &[Statement]) {
@@ -128,8 +134,9 @@ impl Stats {
 
     fn count_out_of_reach(&mut self, routine: &Routine, input: &RunInput) {
         self.begun += 1;
+        self.terminated[2] += u64::from(routine.objects.iter().any(|object| object.terminated));
         self.out_of_reach[0] += u64::from(reachable(routine, &input.origins).contains(&false));
-        let in_objects: usize = routine.objects.iter().map(|&length| length as usize).sum();
+        let in_objects: usize = routine.objects.iter().map(|object| object.length as usize).sum();
         self.out_of_reach[1] += u64::from(input.cells.len() > 1 + in_objects);
     }
 }
@@ -161,6 +168,12 @@ impl std::fmt::Display for Stats {
         )?;
         let [several, unlike] = self.sizes;
         writeln!(f, "accepted tables with elements of several cells: {several}, of several sizes: {unlike}")?;
+        let [all, both, runs] = self.terminated;
+        writeln!(
+            f,
+            "accepted tables with a kind 2 pointer: {all}, {both} with an array_ptr too; \
+             runs begun with a terminated object: {runs}"
+        )?;
         let share = |part: u64| 100.0 * part as f64 / self.begun.max(1) as f64;
         writeln!(
             f,
@@ -213,10 +226,10 @@ mod tests {
         for cause in (1..=6).chain(8..=9).chain([13]) {
             assert!(stats.check.contains_key(&format!("refused {cause:2}")), "cause {cause}");
         }
-        for class in ["done", "spent", "refused 10", "refused 11", "refused 12"] {
+        for class in ["done", "spent", "refused 10", "refused 11", "refused 12", "refused 16"] {
             assert!(stats.run.contains_key(class), "{class}");
         }
-        for check in 1..=5 {
+        for check in 1..=6 {
             assert!(stats.run.contains_key(&format!("stopped {check}")), "check {check}");
         }
         assert!(!stats.run.contains_key("STUCK"));
@@ -224,6 +237,7 @@ mod tests {
         assert!(7 * stats.declared[0] > stats.accepted, "{stats}");
         assert!(stats.declared.iter().all(|count| 30 * count > stats.accepted), "{stats}");
         assert!(stats.sizes.iter().all(|count| 5 * count > stats.accepted), "{stats}");
+        assert!(stats.terminated.iter().all(|count| 8 * count > stats.accepted), "{stats}");
         assert!(stats.unlike_rows.iter().all(|&count| count > 10), "{stats}");
         let [objects, cells] = stats.out_of_reach;
         assert!(3 * objects > stats.begun && 2 * cells > stats.begun, "{stats}");

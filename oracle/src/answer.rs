@@ -43,7 +43,7 @@ pub fn show_check(answer: &CheckAnswer) -> String {
     }
 }
 
-/// The five checks of the plain machine.
+/// The six checks of the plain machine.
 #[derive(Clone, Copy, Debug, PartialEq, Eq)]
 #[repr(u8)]
 pub enum Check {
@@ -52,6 +52,8 @@ pub enum Check {
     OutOfBounds = 3,
     NullArithmetic = 4,
     Result = 5,
+    /// Point 7: a kind 2 pointer stores "another number" than 0 at its upper end.
+    Terminator = 6,
 }
 
 #[derive(Clone, Copy, Debug, PartialEq, Eq)]
@@ -70,7 +72,8 @@ pub enum RunAnswer {
         check: Check,
     },
     /// An alarm, no answer of the paper: an access with no failing check lies
-    /// outside its pointer's origin object. Never for an accepted routine.
+    /// outside its pointer's origin object, or the last cell of a terminated
+    /// one would not be 0 after it. Never for an accepted routine.
     Stuck {
         steps: u64,
         statement: u32,

@@ -2,7 +2,7 @@
 
 use crate::facts::{node_or_zero, Facts, Node, ZERO};
 use crate::rows::Rows;
-use crate::table::{Bounds, End, Routine, Var};
+use crate::table::{Bounds, End, Object, Routine, Var};
 
 /// A known end; its constant has no limit. `None` is an unknown end.
 #[derive(Clone, Copy, Debug, PartialEq, Eq)]
@@ -70,10 +70,11 @@ impl Known {
         self.0[usize::from(p)] = self.0[usize::from(q)];
     }
 
-    /// Kind 5 gives (p, p + length), with "the size of p".
-    pub fn set_object(&mut self, p: Var, size: i64, length: u32) {
+    /// Kind 5 gives (p, p + length), of a terminated object "(p, p + length - 1)", with "the size of p".
+    pub fn set_object(&mut self, p: Var, size: i64, object: Object) {
         let at = |constant| Some(Value { pointer: p, integer: None, constant });
-        self.0[usize::from(p)] = Some(KnownBounds { size, lower: at(0), upper: at(i64::from(length)) });
+        self.0[usize::from(p)] =
+            Some(KnownBounds { size, lower: at(0), upper: at(i64::from(object.room())) });
     }
 
     /// Declared bounds of p are shown when p <= 0 is shown, or known lower <=

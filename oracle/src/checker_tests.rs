@@ -208,6 +208,39 @@ fn a_while_drops_before_its_body_and_keeps_nothing_of_it() {
 }
 
 #[test]
+fn a_terminated_object_keeps_its_last_cell() {
+    // p as an array_ptr or an nt_array_ptr, the object with 10 cells; kind 5 gives one cell less.
+    let object = |word: i32, kind: i32, count: i32| {
+        let mut table = draft([0; 8], &[bundle(vec![address(P, 0), set(N, count)])]);
+        table.objects[0] = word;
+        table.variables[0][0] = kind;
+        show_check(&check(&table.words()))
+    };
+    assert_eq!(object(10, 1, 10), "accepted");
+    for kind in [1, 2] {
+        assert_eq!(object(-10, kind, 9), "accepted");
+        assert_eq!(object(-10, kind, 10), "refused 8 0 0");
+        assert_eq!(object(-1, kind, 0), "accepted");
+    }
+}
+
+#[test]
+fn facts_relate_both_kinds_of_pointers() {
+    // q = p goes through a join, though p is an nt_array_ptr and q is none: so p is null where q is.
+    let split = if_else(with_literal(X, EQUAL, 3), vec![], vec![]);
+    let null_by = |first: Record| {
+        let mut table = draft(
+            [1, 0, P, -1, 0, P, N, 0],
+            &[vec![first], split.clone(), vec![dynamic_check(with_literal(Q, EQUAL, 0)), set(N, 5)]],
+        );
+        table.variables[0][0] = 2;
+        show_check(&check(&table.words()))
+    };
+    assert_eq!(null_by(move_pointer(Q, P, 0)), "accepted");
+    assert_eq!(null_by(null(Q)), "refused 8 3 0");
+}
+
+#[test]
 fn null_passes_an_access_in_a_bundle() {
     let read = load(X, P, -1, 0);
     assert_eq!(answer_with([0; 8], &[bundle(vec![null(P), read])]), "accepted");

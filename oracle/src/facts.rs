@@ -148,7 +148,7 @@ impl Facts {
         // No fact relates a pointer and an integer: their sum is the chain through zero.
         for a in 0..self.kinds.len() {
             for b in 0..self.kinds.len() {
-                if self.kinds[a] != self.kinds[b] {
+                if self.kinds[a].is_pointer() != self.kinds[b].is_pointer() {
                     self.sums[a][b] = self.sums[a][ZERO] + self.sums[ZERO][b];
                 }
             }

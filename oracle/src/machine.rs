@@ -1,5 +1,5 @@
-//! The plain machine with origins: entry causes 10 to 12 and the run by the
-//! paper's words, one statement due at a time.
+//! The plain machine with origins: entry causes 10 to 12 and 16 and the run by
+//! the paper's words, one statement due at a time.
 
 use crate::answer::{Check, Refusal, RunAnswer, RunInput};
 use crate::checker::check_routine;
@@ -38,7 +38,7 @@ fn end_value(end: End, size: i64, values: &[u32]) -> i64 {
     i64::from(values[usize::from(end.pointer)]) + size * integer + i64::from(end.constant)
 }
 
-/// Causes 10 to 12, in the paper's row order.
+/// Causes 10 to 12, in the paper's row order, then 16.
 pub fn check_entry(routine: &Routine, input: &RunInput) -> Result<(), Refusal> {
     if input.cells.len() > MAX_CELLS || input.directory.len() != 2 * routine.objects.len() {
         return Err(Refusal::at(10, 0));
@@ -48,7 +48,7 @@ pub fn check_entry(routine: &Routine, input: &RunInput) -> Result<(), Refusal> {
     for (o, pair) in input.directory.chunks_exact(2).enumerate() {
         let (offset, length) = (i64::from(pair[0]), i64::from(pair[1]));
         let outside = offset + length > input.cells.len() as i64;
-        if offset < free || outside || pair[1] != routine.objects[o] {
+        if offset < free || outside || pair[1] != routine.objects[o].length {
             return Err(Refusal::at(10, o));
         }
         free = offset + length;
@@ -57,8 +57,14 @@ pub fn check_entry(routine: &Routine, input: &RunInput) -> Result<(), Refusal> {
     if input.values.len() != variables || input.origins.len() != variables {
         return Err(Refusal::at(11, 0));
     }
-    match (0..variables).find(|&v| !entry_true(routine, input, v)) {
-        Some(v) => Err(Refusal::at(12, v)),
+    if let Some(v) = (0..variables).find(|&v| !entry_true(routine, input, v)) {
+        return Err(Refusal::at(12, v));
+    }
+    // Point 7: "when such a last cell is not 0 at entry, giving the lowest such object".
+    let last = |o: usize| (input.directory[2 * o] + input.directory[2 * o + 1]) as usize - 1;
+    let unfit = |&o: &usize| routine.objects[o].terminated && input.cells[last(o)] != 0;
+    match (0..routine.objects.len()).find(unfit) {
+        Some(o) => Err(Refusal::at(16, o)),
         None => Ok(()),
     }
 }
@@ -72,10 +78,15 @@ fn entry_true(routine: &Routine, input: &RunInput, v: usize) -> bool {
     if origin == 0 || origin as usize > routine.objects.len() {
         return false;
     }
-    let (low, high) = object_range(&input.directory, origin);
+    let object = routine.objects[origin as usize - 1];
+    // Point 7: true "only when it is null or its origin is a terminated object".
+    if routine.kinds[v] == Kind::Terminated && !object.terminated {
+        return false;
+    }
+    let low = object_range(&input.directory, origin).0;
     let bounds = routine.bounds[v].expect("a pointer has bounds");
     let value = |end: End| end_value(end, routine.size(v as Var), &input.values);
-    low <= value(bounds.lower) && value(bounds.upper) <= high
+    low <= value(bounds.lower) && value(bounds.upper) <= low + i64::from(object.room())
 }
 
 /// The block a statement stands in: where it ends, and its head.
@@ -199,8 +210,9 @@ impl<'a> Machine<'a> {
         condition.relation.holds(left, right)
     }
 
-    /// Checks 2 and 3 by p's declared ends and the values then; the cell's number.
-    fn access(&self, p: Var, i: Option<Var>, k: i32) -> Result<usize, Halt> {
+    /// Checks 2, 3 and 6 by p's declared ends and the values then, of a read or of a store of this number; the
+    /// cell's number.
+    fn access(&self, p: Var, i: Option<Var>, k: i32, stored: Option<u32>) -> Result<usize, Halt> {
         if self.value(p) == 0 {
             return Err(Halt::Stopped(Check::NullAccess));
         }
@@ -208,16 +220,24 @@ impl<'a> Machine<'a> {
         let size = self.routine.size(p);
         let address = self.value(p) + size * i.map_or(0, |i| self.value(i)) + i64::from(k);
         let bounds = self.rows.declared(self.routine, p).expect("a pointer has bounds");
-        let value = |end: End| end_value(end, size, self.values);
-        if address < value(bounds.lower) || address >= value(bounds.upper) {
+        let (lower, upper) =
+            (end_value(bounds.lower, size, self.values), end_value(bounds.upper, size, self.values));
+        // Point 7: "A kind 2 pointer may also read the cell at its upper end and store 0 there".
+        let at_upper = self.routine.kinds[usize::from(p)] == Kind::Terminated && address == upper;
+        if address < lower || address >= upper && !at_upper {
             return Err(Halt::Stopped(Check::OutOfBounds));
+        }
+        let other_number = stored.is_some_and(|number| number != 0);
+        if at_upper && other_number {
+            return Err(Halt::Stopped(Check::Terminator));
         }
         let origin = self.origins[usize::from(p)];
         if origin == 0 {
             return Err(Halt::Stuck);
         }
         let (low, high) = object_range(self.directory, origin);
-        if address < low || address >= high {
+        let terminator = self.routine.objects[origin as usize - 1].terminated && address == high - 1;
+        if address < low || address >= high || terminator && other_number {
             return Err(Halt::Stuck);
         }
         Ok(address as usize)
@@ -267,12 +287,13 @@ impl<'a> Machine<'a> {
                 self.advance(p, q, self.routine.size(q) * self.value(i))?
             }
             Statement::Load { x, p, i, k } => {
-                let cell = self.cells[self.access(p, i, k)?];
+                let cell = self.cells[self.access(p, i, k, None)?];
                 self.set(x, i64::from(cell));
             }
             Statement::Store { p, i, k, x } => {
-                let address = self.access(p, i, k)?;
-                self.cells[address] = self.values[usize::from(x)];
+                let number = self.values[usize::from(x)];
+                let address = self.access(p, i, k, Some(number))?;
+                self.cells[address] = number;
             }
             Statement::Check { condition } => {
                 if !self.holds(condition) {

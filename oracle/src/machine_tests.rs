@@ -169,6 +169,88 @@ fn an_element_is_so_many_cells() {
     assert_eq!(input.values[3], 2 + 2 * 2);
 }
 
+/// s (0, count(n)) an nt_array_ptr, n, x, q an array_ptr at s; objects: a terminated one of 4 cells at 2 and one of 3 at 6.
+fn run_names(statements: Vec<Record>, change: impl Fn(&mut RunInput)) -> (String, RunInput) {
+    let mut table = draft(statements);
+    table.objects = vec![-4, 3];
+    table.variables[0][0] = 2;
+    let mut input = RunInput {
+        directory: vec![2, 4, 6, 3],
+        cells: vec![9, 9, 1, 2, 3, 0, 7, 7, 7],
+        values: vec![2, 3, 0, 0],
+        origins: vec![1, 0, 0, 0],
+        allowance: 100,
+    };
+    change(&mut input);
+    let answer = machine::run(&table.words(), &mut input);
+    (answer.to_string(), input)
+}
+
+#[test]
+fn a_kind_2_pointer_reads_the_cell_at_its_upper_end_and_stores_0_there() {
+    let run = |statements: Vec<Record>, n: u32| run_names(statements, |i| i.values[1] = n);
+    let (answer, after) = run(vec![set(X, 5), load(X, P, N, 0)], 3);
+    assert_eq!((answer.as_str(), after.values[2]), ("done 2", 0));
+    assert_eq!(run(vec![load(X, P, N, 1)], 3).0, "stopped 1 0 3");
+    assert_eq!(run(vec![load(X, P, -1, -1)], 3).0, "stopped 1 0 3");
+    // The upper end then, wherever in the object it lies.
+    let (answer, after) = run(vec![store(P, N, 0, X)], 1);
+    assert_eq!((answer.as_str(), after.cells[3]), ("done 1", 0));
+    assert_eq!(run(vec![set(X, 8), store(P, N, 0, X)], 1).0, "stopped 2 1 6");
+    assert_eq!(run(vec![set(X, 8), store(P, N, 0, X)], 3).0, "stopped 2 1 6");
+    // 3 goes before 6, and 2 before 3.
+    assert_eq!(run(vec![set(X, 8), store(P, N, 1, X)], 3).0, "stopped 2 1 3");
+    assert_eq!(run(vec![null(Q), null(P), set(X, 8), store(P, N, 0, X)], 3).0, "stopped 4 3 2");
+    // Below it any number; and an empty name has its 0.
+    let (answer, after) = run(vec![set(X, 8), store(P, N, -1, X)], 3);
+    assert_eq!((answer.as_str(), after.cells[4]), ("done 2", 8));
+    assert_eq!(run(vec![load(X, P, -1, 0)], 0).0, "done 1");
+    assert_eq!(run(vec![set(X, 8), store(P, -1, 0, X)], 0).0, "stopped 2 1 6");
+    // An array_ptr in the same object stops there.
+    let copied = |last: Record| vec![set(X, 0), move_pointer(Q, P, 0), last];
+    assert_eq!(run(copied(load(X, Q, N, 0)), 3).0, "stopped 3 2 3");
+    assert_eq!(run(copied(store(Q, N, 0, X)), 3).0, "stopped 3 2 3");
+    assert_eq!(run(copied(load(X, Q, N, -1)), 3).0, "done 3");
+}
+
+#[test]
+fn a_name_ends_before_its_last_cell_at_entry() {
+    let entry = |change: fn(&mut RunInput)| run_names(vec![], change).0;
+    assert_eq!(entry(|_| {}), "done 0");
+    assert_eq!(entry(|i| i.values[1] = 4), "refused 12 0");
+    // An array_ptr into a terminated object too.
+    assert_eq!(entry(|i| (i.values[3], i.origins[3]) = (2, 1)), "done 0");
+    let array = |i: &mut RunInput| (i.values, i.origins) = (vec![0, 4, 0, 2], vec![0, 0, 0, 1]);
+    assert_eq!(entry(array), "refused 12 3");
+    // A kind 2 pointer whose origin is a plain object is untrue; null it is true.
+    assert_eq!(entry(|i| (i.values[0], i.origins[0]) = (6, 2)), "refused 12 0");
+    assert_eq!(entry(|i| (i.values[0], i.origins[0]) = (0, 0)), "done 0");
+    // 16 after 12, of the last cell alone, though nothing points into the object.
+    assert_eq!(entry(|i| i.cells[5] = 1), "refused 16 0");
+    assert_eq!(entry(|i| (i.cells[5], i.values[1]) = (1, 4)), "refused 12 0");
+    assert_eq!(entry(|i| (i.cells[5], i.values[0], i.origins[0]) = (1, 0, 0)), "refused 16 0");
+    // The directory's length has no sign.
+    assert_eq!(entry(|i| i.directory[1] = 3), "refused 10 0");
+}
+
+#[test]
+fn the_lowest_object_without_its_0_is_named() {
+    let mut table = Draft { variables: vec![[0; 8]], ..Draft::default() };
+    table.objects = vec![2, -2, -1, -2];
+    let mut input = RunInput {
+        directory: vec![1, 2, 3, 2, 5, 1, 6, 2],
+        cells: vec![5, 5, 5, 5, 0, 5, 5, 5],
+        values: vec![0],
+        origins: vec![0],
+        allowance: 0,
+    };
+    for right in ["refused 16 2", "refused 16 3", "done 0"] {
+        assert_eq!(machine::run(&table.words(), &mut input).to_string(), right);
+        let wrong = if right == "refused 16 2" { 5 } else { 7 };
+        input.cells[wrong] = 0;
+    }
+}
+
 #[test]
 fn stores_and_loads_reach_the_cells() {
     let (answer, after) = run_with(vec![load(X, P, -1, 2), store(P, -1, 0, X)], |_| {});

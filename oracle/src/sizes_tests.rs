@@ -55,9 +55,9 @@ fn an_object_has_so_many_whole_rows() {
     assert_eq!(object(8, 1), "accepted");
     assert_eq!(object(8, 2), "refused 8 0 0");
     // Known by a chain: n <= 3 times 3.
-    let below = vec![dynamic_check(with_literal(N, LESS_EQUAL, 3)), address(P, 0)];
-    assert_eq!(answer([3, 0], &[below.clone()]), "accepted");
-    assert_eq!(answer([4, 0], &[below]), "refused 8 1 0");
+    let below = || vec![dynamic_check(with_literal(N, LESS_EQUAL, 3)), address(P, 0)];
+    assert_eq!(answer([3, 0], &[below()]), "accepted");
+    assert_eq!(answer([4, 0], &[below()]), "refused 8 1 0");
 }
 
 #[test]
@@ -88,9 +88,9 @@ fn different_sizes_compare_no_integers() {
         assert_eq!(copied(sizes), "refused 8 0 2", "{sizes:?}");
     }
     // Even where the count is known to be nothing.
-    let nothing = bundle(vec![move_pointer(Q, P, 0), set(M, 0)]);
-    assert_eq!(answer([3, 2], &[nothing.clone()]), "refused 8 0 2");
-    assert_eq!(answer([3, 3], &[nothing]), "accepted");
+    let nothing = || bundle(vec![move_pointer(Q, P, 0), set(M, 0)]);
+    assert_eq!(answer([3, 2], &[nothing()]), "refused 8 0 2");
+    assert_eq!(answer([3, 3], &[nothing()]), "accepted");
     // A null pointer has every bound, whatever the sizes.
     assert_eq!(answer([3, 2], &[vec![null(P)], bundle(vec![move_pointer(Q, P, 0), set(M, 9)])]), "accepted");
 }
@@ -122,10 +122,10 @@ fn known_bounds_carry_their_size() {
     table.variables[P as usize] = [1, 3, 5, -1, 0, 5, N, 0];
     assert_eq!(show_check(&check(&table.words())), "accepted");
     // Those of kind 5 have the size of their pointer, also where another one takes them.
-    let taken = bundle(vec![address(P, 0), move_pointer(Q, P, 0), set(N, 3), set(M, 3)]);
-    assert_eq!(answer([3, 3], &[taken.clone()]), "accepted");
-    assert_eq!(answer([3, 2], &[taken.clone()]), "refused 8 0 2");
-    assert_eq!(answer([3, 1], &[taken]), "refused 8 0 2");
+    let taken = || bundle(vec![address(P, 0), move_pointer(Q, P, 0), set(N, 3), set(M, 3)]);
+    assert_eq!(answer([3, 3], &[taken()]), "accepted");
+    assert_eq!(answer([3, 2], &[taken()]), "refused 8 0 2");
+    assert_eq!(answer([3, 1], &[taken()]), "refused 8 0 2");
 }
 
 #[test]

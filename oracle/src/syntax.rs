@@ -4,10 +4,32 @@ pub type Var = u8;
 /// A bounds row by its number (point 2).
 pub type Row = u8;
 
+/// Variable kinds in the order of their words: integer, array_ptr, nt_array_ptr (point 7).
 #[derive(Clone, Copy, Debug, PartialEq, Eq)]
 pub enum Kind {
     Integer,
     Pointer,
+    Terminated,
+}
+
+impl Kind {
+    pub fn is_pointer(self) -> bool {
+        self != Kind::Integer
+    }
+}
+
+/// Point 7: "An object word below 0 marks a terminated object of that many cells, sign removed, and its last cell is 0."
+#[derive(Clone, Copy, Debug, PartialEq, Eq)]
+pub struct Object {
+    pub length: u32,
+    pub terminated: bool,
+}
+
+impl Object {
+    /// How far above its first cell an upper end may lie: in a terminated object it "must be at most high - 1".
+    pub fn room(self) -> u32 {
+        self.length - u32::from(self.terminated)
+    }
 }
 
 /// An end's value is the whole number pointer + s times integer + constant, with the element size s of the pointer
@@ -195,7 +217,7 @@ impl Statement {
 /// A routine that none of the causes 1 to 6 refuses.
 #[derive(Clone, Debug)]
 pub struct Routine {
-    pub objects: Vec<u32>,
+    pub objects: Vec<Object>,
     pub kinds: Vec<Kind>,
     /// The variables' own bounds; `None` for an integer.
     pub bounds: Vec<Option<Bounds>>,

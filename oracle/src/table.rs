@@ -11,7 +11,7 @@ pub const MAX_OBJECTS: usize = 16;
 pub const MAX_VARIABLES: usize = 16;
 pub const MAX_STATEMENTS: usize = 1_024;
 pub const MAX_ROWS: usize = 64;
-pub const MAX_OBJECT_LENGTH: i32 = 1_000_000;
+pub const MAX_OBJECT_LENGTH: u32 = 1_000_000;
 pub const MAX_CONSTANT: i32 = 65_536;
 pub const MAX_SIZE: i32 = 8;
 /// Point 8: "The limit becomes 6; depth 7 is refusal 6." Top statements have depth 0.
@@ -31,16 +31,13 @@ pub fn decode(words: &[i32]) -> Result<Routine, Refusal> {
     let Some([objects, variables, statements, rows]) = sections(words, pairs) else {
         return Err(Refusal::at(2, 0));
     };
-    if let Some(place) = objects.iter().position(|n| !(1..=MAX_OBJECT_LENGTH).contains(n)) {
-        return Err(Refusal::at(3, place));
-    }
+    let objects = read_objects(objects)?;
     let ends = Ends::new(variables);
     let (kinds, bounds, sizes) = read_variables(variables, &ends)?;
     let rows = read_rows(rows, kinds.len(), &ends)?;
-    let mut names = Names::new(&kinds, objects.len(), rows.len());
+    let mut names = Names::new(&kinds, &objects, rows.len());
     let statements = read_statements(statements, &mut names)?;
     check_block(&statements, 0, statements.len(), 0).map_err(|place| Refusal::at(6, place))?;
-    let objects = objects.iter().map(|&n| n as u32).collect();
     Ok(Routine { objects, kinds, bounds, sizes, rows, statements, compared: names.compared })
 }
 
@@ -67,6 +64,16 @@ fn sections(words: &[i32], pairs: usize) -> Option<[&[i32]; 4]> {
     (start == words.len()).then_some(parts)
 }
 
+/// Cause 3.
+fn read_objects(words: &[i32]) -> Result<Vec<Object>, Refusal> {
+    let read_object = |(o, word): (usize, &i32)| {
+        let length = word.unsigned_abs();
+        let right = (1..=MAX_OBJECT_LENGTH).contains(&length);
+        right.then_some(Object { length, terminated: *word < 0 }).ok_or(Refusal::at(3, o))
+    };
+    words.iter().enumerate().map(read_object).collect()
+}
+
 /// Reads ends. An end names a pointer or an integer by that record's kind word
 /// alone, whatever else is wrong with the record.
 struct Ends {
@@ -78,14 +85,15 @@ impl Ends {
         Ends { kind_words: variables.chunks_exact(VARIABLE_WORDS).map(|record| record[0]).collect() }
     }
 
-    fn of_kind(&self, word: i32, kind: i32) -> Option<Var> {
+    fn of_kinds(&self, word: i32, kinds: &[i32]) -> Option<Var> {
         let variable = usize::try_from(word).ok()?;
-        (self.kind_words.get(variable) == Some(&kind)).then_some(variable as Var)
+        kinds.contains(self.kind_words.get(variable)?).then_some(variable as Var)
     }
 
     fn end(&self, end: &[i32]) -> Option<End> {
-        let pointer = self.of_kind(end[0], 1)?;
-        let integer = if end[1] == -1 { None } else { Some(self.of_kind(end[1], 0)?) };
+        // Point 7: "Ends may name both kinds of pointer."
+        let pointer = self.of_kinds(end[0], &[1, 2])?;
+        let integer = if end[1] == -1 { None } else { Some(self.of_kinds(end[1], &[0])?) };
         Some(End { pointer, integer, constant: constant(end[2])? })
     }
 
@@ -102,6 +110,7 @@ fn read_variables(words: &[i32], ends: &Ends) -> Result<Variables, Refusal> {
     let read_record = |record: &[i32]| match record[0] {
         0 if record[1..].iter().all(|&w| w == 0) => Some((Kind::Integer, None, 1)),
         1 => Some((Kind::Pointer, Some(ends.bounds(&record[2..])?), size(record[1])?)),
+        2 => Some((Kind::Terminated, Some(ends.bounds(&record[2..])?), size(record[1])?)),
         _ => None,
     };
     words
@@ -167,26 +176,30 @@ fn in_mask(mask: u32, word: i32) -> bool {
     (0..MAX_VARIABLES as i32).contains(&word) && mask >> word & 1 != 0
 }
 
-/// What a statement record may name: bit v for variable v.
+/// What a statement record may name: bit v for variable v, bit o for a terminated object o.
 struct Names {
     integers: u32,
-    pointers: u32,
+    arrays: u32,
+    terminated: u32,
     objects: i32,
+    terminated_objects: u32,
     rows: i32,
     /// Gathered on the way.
     compared: u16,
 }
 
 impl Names {
-    fn new(kinds: &[Kind], objects: usize, rows: usize) -> Names {
+    fn new(kinds: &[Kind], objects: &[Object], rows: usize) -> Names {
         let mask = |wanted: Kind| {
             let bits = kinds.iter().enumerate().filter(|(_, &kind)| kind == wanted);
             bits.fold(0, |mask, (v, _)| mask | 1u32 << v)
         };
         Names {
             integers: mask(Kind::Integer),
-            pointers: mask(Kind::Pointer),
-            objects: objects as i32,
+            arrays: mask(Kind::Pointer),
+            terminated: mask(Kind::Terminated),
+            objects: objects.len() as i32,
+            terminated_objects: objects.iter().rev().fold(0, |mask, o| mask << 1 | u32::from(o.terminated)),
             rows: rows as i32,
             compared: 0,
         }
@@ -197,7 +210,7 @@ impl Names {
     }
 
     fn pointer(&self, word: i32) -> Option<Var> {
-        in_mask(self.pointers, word).then_some(word as Var)
+        in_mask(self.arrays | self.terminated, word).then_some(word as Var)
     }
 
     /// The index of an access: -1 counts as 0.
@@ -212,20 +225,35 @@ impl Names {
         (0..self.objects).contains(&word).then_some(word as u8)
     }
 
+    /// The pointers of kinds 6 and 7. Point 7: they "may take a kind 2 pointer to an array_ptr", but not the other way.
+    fn pointers(&self, p: i32, q: i32) -> Option<(Var, Var)> {
+        let up = in_mask(self.terminated, p) && in_mask(self.arrays, q);
+        (!up).then_some((self.pointer(p)?, self.pointer(q)?))
+    }
+
+    /// Kind 5. Point 7: "the address of a plain object" is nothing for a kind 2 pointer.
+    fn address(&self, p: i32, object: i32) -> Option<Statement> {
+        let object = self.object(object)?;
+        let plain = self.terminated_objects >> object & 1 == 0;
+        let up = in_mask(self.terminated, p) && plain;
+        (!up).then_some(Statement::Address { p: self.pointer(p)?, object })
+    }
+
     fn row(&self, word: i32) -> Option<Row> {
         (0..self.rows).contains(&word).then_some(word as Row)
     }
 
     /// Form 0: a variable of the same kind. Form 1: a literal, only 0 beside a pointer.
     fn condition(&mut self, left: i32, relation: i32, form: i32, right: i32) -> Option<Condition> {
-        let same_kind = if in_mask(self.pointers, left) { self.pointers } else { self.integers };
+        let kinds = [self.integers, self.arrays, self.terminated];
+        let same_kind = kinds.into_iter().find(|&kind| in_mask(kind, left))?;
         let relation = *RELATIONS.get(relation as u32 as usize)?;
         let right = match form {
             0 if in_mask(same_kind, right) => Right::Variable(right as Var),
             1 if right == 0 || same_kind == self.integers => Right::Literal(literal(right)),
             _ => return None,
         };
-        let left = in_mask(same_kind, left).then_some(left as Var)?;
+        let left = left as Var;
         self.compared |= 1 << left;
         if let Right::Variable(v) = right {
             self.compared |= 1 << v;
@@ -258,9 +286,15 @@ impl Names {
                 Statement::Operate { x, y, z, operator }
             }
             4 => Statement::Null { p: self.pointer(a)? },
-            5 => Statement::Address { p: self.pointer(a)?, object: self.object(b)? },
-            6 => Statement::MovePointer { p: self.pointer(a)?, q: self.pointer(b)?, k: constant(c)? },
-            7 => Statement::IndexPointer { p: self.pointer(a)?, q: self.pointer(b)?, i: self.integer(c)? },
+            5 => self.address(a, b)?,
+            6 => {
+                let (p, q) = self.pointers(a, b)?;
+                Statement::MovePointer { p, q, k: constant(c)? }
+            }
+            7 => {
+                let (p, q) = self.pointers(a, b)?;
+                Statement::IndexPointer { p, q, i: self.integer(c)? }
+            }
             8 => {
                 let (x, p) = (self.integer(a)?, self.pointer(b)?);
                 Statement::Load { x, p, i: self.index(c)?, k: constant(d)? }

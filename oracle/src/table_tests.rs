@@ -148,9 +148,70 @@ fn an_end_goes_by_the_kind_word_alone() {
     let mut wrong = draft(vec![]);
     wrong.variables = vec![[1, 0, 1, -1, 0, 1, -1, 0], [1, 9, 1, -1, 0, 1, -1, 0]];
     assert_eq!(refused(&wrong.words()), Some((4, 1)));
-    // A kind word of 2 is neither kind.
-    wrong.variables = vec![[1, 0, 0, -1, 0, 0, 1, 0], [2, 0, 0, 0, 0, 0, 0, 0]];
+    // A kind word of 2 is a pointer's, whatever else is wrong; one of 3 is neither kind.
+    wrong.variables = vec![[1, 0, 1, -1, 0, 1, -1, 0], [2, 0, 0, 0, 0, 0, 0, 0]];
+    assert_eq!(refused(&wrong.words()), Some((4, 1)));
+    wrong.variables = vec![[1, 0, 0, -1, 0, 0, 1, 0], [2, 0, 0, -1, 0, 0, -1, 0]];
     assert_eq!(refused(&wrong.words()), Some((4, 0)));
+    wrong.variables = vec![[1, 0, 1, -1, 0, 1, -1, 0], [3, 0, 0, -1, 0, 0, -1, 0]];
+    assert_eq!(refused(&wrong.words()), Some((4, 0)));
+}
+
+#[test]
+fn an_object_word_below_0_marks_a_terminated_object() {
+    let objects = |words: &[i32]| Draft { objects: words.to_vec(), ..draft(vec![]) }.words();
+    let right = decode(&objects(&[1, -1, 1_000_000, -1_000_000])).unwrap().objects;
+    let object = |length, terminated| Object { length, terminated };
+    assert_eq!(right, [object(1, false), object(1, true), object(1_000_000, false), object(1_000_000, true)]);
+    assert_eq!(right.iter().map(|object| object.room()).collect::<Vec<_>>(), [1, 0, 1_000_000, 999_999]);
+    for wrong in [0, -1_000_001, 1_000_001, i32::MIN, i32::MAX] {
+        assert_eq!(refused(&objects(&[-5, wrong, 0])), Some((3, 1)), "{wrong}");
+    }
+}
+
+#[test]
+fn kinds_of_pointers_mix_only_downwards() {
+    // a (0) and b (1) are array_ptrs, s (2) and t (3) nt_array_ptrs, n (4); objects 0 plain, 1 terminated.
+    let (a, b, s, t, n) = (0, 1, 2, 3, 4);
+    let of_kind = |kind: i32| [kind, 0, s, -1, 0, a, n, 0];
+    let read = |statement: Record| {
+        let variables = vec![of_kind(1), of_kind(1), of_kind(2), of_kind(2), [0; 8]];
+        let rows = Some(vec![[s, -1, 0, a, n, 0]]);
+        decode(&Draft { objects: vec![4, -4], variables, statements: vec![statement], rows }.words())
+    };
+    for right in [
+        null(s),
+        address(a, 0),
+        address(a, 1),
+        address(s, 1),
+        move_pointer(a, s, 1),
+        move_pointer(s, t, 0),
+        move_pointer(a, b, 0),
+        index_pointer(a, s, n),
+        index_pointer(s, s, n),
+        load(n, s, n, 0),
+        store(s, -1, 0, n),
+        declare(s, 0),
+        dynamic_check(with_variable(s, LESS, t)),
+        dynamic_check(with_variable(a, LESS, b)),
+        dynamic_check(with_literal(s, NOT_EQUAL, 0)),
+    ] {
+        assert!(read(right).is_ok(), "{right:?}");
+    }
+    for wrong in [
+        address(s, 0),
+        move_pointer(s, a, 0),
+        move_pointer(t, b, 1),
+        index_pointer(s, a, n),
+        dynamic_check(with_variable(s, EQUAL, a)),
+        dynamic_check(with_variable(a, EQUAL, s)),
+        dynamic_check(with_variable(n, EQUAL, s)),
+        dynamic_check(with_literal(s, EQUAL, 1)),
+        set(s, 1),
+        load(s, s, -1, 0),
+    ] {
+        assert_eq!(read(wrong).err(), Some(Refusal::at(5, 0)), "{wrong:?}");
+    }
 }
 
 #[test]

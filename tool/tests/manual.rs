@@ -68,12 +68,12 @@ fn explain_prints_the_page() {
         let arguments: Vec<String> = ["explain"].iter().chain(words).map(|word| word.to_string()).collect();
         call(&arguments)
     };
-    for number in (1..=13).filter(|&number| number != 7) {
+    for number in (1..=13).filter(|&number| number != 7).chain([16]) {
         let page = explain(&[&number.to_string()]);
         assert!(page.out.starts_with(&format!("Refusal {number}: ")), "{number}");
         assert!(page.out.matches("Refusal ").count() == 1 && !page.out.contains("```"), "{}", page.out);
     }
-    for number in 1..=5 {
+    for number in 1..=6 {
         assert!(explain(&["stop", &number.to_string()]).out.starts_with(&format!("Stop {number}: ")));
     }
     assert_eq!(explain(&["14"]), Output::wrong("error: there is no refusal 14\n".to_string()));

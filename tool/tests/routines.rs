@@ -77,6 +77,24 @@ fn rows_are_stepped_as_a_whole() {
 }
 
 #[test]
+fn a_name_is_copied_as_far_as_there_is_room() {
+    assert_eq!(second("boat_name", "short_name.img"), "done 24");
+    let letters = |word: &str| {
+        let cells = word
+            .bytes()
+            .enumerate()
+            .map(|(i, letter)| format!("listed[{i}] (cell {}): 0 -> {letter}\n", 13 + i));
+        cells.collect::<String>()
+    };
+    let expected = format!("done after 24 steps\ni: 0 -> 5\n{}", letters("Wanda"));
+    assert_eq!(run("boat_name", "short_name.img").out, expected);
+    assert_eq!(second("boat_name", "long_name.img"), "stopped 32 3 6");
+    let long = run("boat_name", "long_name.img");
+    let expected = format!("stopped after 32 steps\ni: 0 -> 7\nletter: 0 -> 119\n{}", letters("Windflo"));
+    assert_eq!((long.out, long.status), (expected, 3));
+}
+
+#[test]
 fn the_bounds_follow_the_block() {
     assert_eq!(second("two_blocks", "keelboat.img"), "done 10");
     let expected = "done after 10 steps\nrow: 0 -> 7\nrows: 0 -> 1\nkeelboats[2] (cell 6): 0 -> 77\n\

@@ -78,7 +78,7 @@ pub fn fill(draft: &mut Draft) {
     draft.objects.resize(MAX_OBJECTS, 1);
     draft.variables.resize(MAX_VARIABLES, [0; VARIABLE_WORDS]);
     draft.statements.resize(MAX_STATEMENTS, same(0));
-    let pointer = draft.variables.iter().position(|record| record[0] == 1);
+    let pointer = draft.variables.iter().position(|record| record[0] != 0);
     if let (Some(rows), Some(p)) = (&mut draft.rows, pointer) {
         let p = p as i32;
         rows.resize(MAX_ROWS, [p, -1, 0, p, -1, 0]);
@@ -94,7 +94,8 @@ pub fn break_record(rng: &mut Rng, draft: &mut Draft) {
         3 => {
             let o = rng.below(draft.objects.len());
             if let Some(length) = draft.objects.get_mut(o) {
-                *length = rng.pick(&[0, -1, 1_000_000, 1_000_001, i32::MAX, i32::MIN]);
+                *length =
+                    rng.pick(&[0, -1, 1_000_000, 1_000_001, -1_000_000, -1_000_001, i32::MAX, i32::MIN]);
             }
         }
         4 | 5 => {

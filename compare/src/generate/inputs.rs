@@ -21,7 +21,7 @@ pub fn choose(rng: &mut Rng, table: &[i32]) -> RunInput {
         };
     };
     let mut input = lend(rng, &routine);
-    let entered = entered(rng, routine.objects.len());
+    let entered = entered(rng, &routine);
     // Of some entries take the one that goes furthest: dynamic checks stop most.
     let mut furthest = None;
     for _ in 0..rng.pick(&[1, 3, 6]) {
@@ -39,6 +39,7 @@ pub fn choose(rng: &mut Rng, table: &[i32]) -> RunInput {
         0..=5 => break_directory(rng, &mut input),
         6..=8 => break_lengths(rng, &mut input),
         9..=22 => break_entry(rng, &routine, &mut input),
+        23..=27 => break_name(rng, &routine, &mut input),
         _ => {}
     }
     input.allowance = allowance(rng, &routine, &input);
@@ -62,9 +63,9 @@ fn progress(routine: &Routine, input: &RunInput) -> u64 {
 fn lend(rng: &mut Rng, routine: &Routine) -> RunInput {
     let mut free = 1 + rng.below(4) as u32;
     let mut directory = Vec::new();
-    for &length in &routine.objects {
-        directory.extend([free, length]);
-        free += length + if rng.chance(60) { 0 } else { rng.below(4) as u32 };
+    for object in &routine.objects {
+        directory.extend([free, object.length]);
+        free += object.length + if rng.chance(60) { 0 } else { rng.below(4) as u32 };
     }
     let end = directory.last_chunk().map_or(0, |[offset, length]| offset + length) as usize;
     let size = end + if rng.chance(40) { 0 } else { rng.below(5) };
@@ -77,15 +78,26 @@ fn lend(rng: &mut Rng, routine: &Routine) -> RunInput {
             _ => rng.below(9) as u32,
         };
     }
+    for (pair, object) in directory.chunks_exact(2).zip(&routine.objects) {
+        if object.terminated {
+            cells[(pair[0] + pair[1]) as usize - 1] = 0;
+        }
+    }
     RunInput { directory, cells, ..RunInput::default() }
 }
 
-/// The objects that entry pointers may have as origin: often not all, so that some are out of reach.
-fn entered(rng: &mut Rng, objects: usize) -> Vec<usize> {
+/// The objects that entry pointers may have as origin: often not all, so that some are out of reach; most often one
+/// that kind 2 pointers can have.
+fn entered(rng: &mut Rng, routine: &Routine) -> Vec<usize> {
+    let objects = routine.objects.len();
     let mut entered: Vec<usize> = (0..objects).collect();
     if rng.chance(60) {
         rng.shuffle(&mut entered);
         entered.truncate(1 + rng.below(objects) / 2);
+    }
+    let names: Vec<usize> = (0..objects).filter(|&o| routine.objects[o].terminated).collect();
+    if routine.kinds.contains(&Kind::Terminated) && !entered.iter().any(|o| names.contains(o)) {
+        entered.extend(rng.pick_any(&names).filter(|_| rng.chance(80)));
     }
     entered
 }
@@ -96,9 +108,16 @@ fn fill_values(rng: &mut Rng, routine: &Routine, entered: &[usize], input: &mut 
     input.values = (0..variables).map(|_| integer(rng)).collect();
     input.origins = vec![0; variables];
     // One object for most pointers, so that bounds shared by several can be true.
-    let favourite = rng.pick_any(entered);
-    for v in (0..variables).filter(|&v| routine.kinds[v] == Kind::Pointer) {
-        let object = if rng.chance(75) { favourite } else { rng.pick_any(entered) };
+    let names: Vec<usize> = entered.iter().copied().filter(|&o| routine.objects[o].terminated).collect();
+    // Often a name, where there are kind 2 pointers, which need one.
+    let name = rng.pick_any(&names);
+    let favourite = if rng.chance(60) { name.or(rng.pick_any(entered)) } else { rng.pick_any(entered) };
+    for v in (0..variables).filter(|&v| routine.kinds[v].is_pointer()) {
+        let (objects, first) = match routine.kinds[v] == Kind::Terminated {
+            true => (&names[..], name),
+            false => (entered, favourite),
+        };
+        let object = if rng.chance(75) { first } else { rng.pick_any(objects) };
         let Some(object) = object.filter(|_| rng.chance(85)) else {
             input.values[v] = 0;
             continue;
@@ -131,7 +150,7 @@ fn fit_counts(rng: &mut Rng, routine: &Routine, input: &mut RunInput) {
                 return None;
             }
             let high =
-                i64::from(input.directory[2 * origin - 2]) + i64::from(input.directory[2 * origin - 1]);
+                i64::from(input.directory[2 * origin - 2]) + i64::from(routine.objects[origin - 1].room());
             let named = i64::from(input.values[usize::from(upper.pointer)]);
             Some((high - named - i64::from(upper.constant)).div_euclid(routine.size(v as Var)))
         });
@@ -201,6 +220,16 @@ fn break_entry(rng: &mut Rng, routine: &Routine, input: &mut RunInput) {
         4 => input.values[v] = u32::MAX / rng.range(2, 8) as u32 + rng.below(3) as u32,
         // A count one too large: into the next object where objects touch.
         _ => input.values[v] = input.values[v].wrapping_add(rng.pick(&[1, 1, 2, 5])),
+    }
+}
+
+/// Cause 16: a last cell that is not 0, of one terminated object or of several.
+fn break_name(rng: &mut Rng, routine: &Routine, input: &mut RunInput) {
+    for (pair, object) in input.directory.chunks_exact(2).zip(&routine.objects) {
+        let last = (pair[0] + pair[1]) as usize - 1;
+        if object.terminated && rng.chance(60) {
+            input.cells[last] = rng.pick(&[1, u32::MAX]);
+        }
     }
 }
 

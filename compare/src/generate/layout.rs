@@ -7,11 +7,14 @@ use oracle::table::{MAX_ROWS, VARIABLE_WORDS};
 /// The names a routine can use, by what they are good for.
 #[derive(Clone, Debug, Default)]
 pub struct Layout {
-    /// The objects' lengths, and the objects that kind 5 may name.
+    /// The cells of each object that bounds may take in, which objects are terminated, and those that kind 5 may name.
     pub objects: Vec<i32>,
+    pub terminated_objects: Vec<bool>,
     pub named: Vec<i32>,
     pub integers: Vec<i32>,
+    /// Of both kinds, and which variables are kind 2 pointers.
     pub pointers: Vec<i32>,
+    pub terminated: Vec<bool>,
     /// Integers that some end names, and those that none does.
     pub counts: Vec<i32>,
     pub free: Vec<i32>,
@@ -79,6 +82,9 @@ pub fn choose(rng: &mut Rng, draft: &mut Draft) -> Layout {
     if !layout.pointers.is_empty() && rng.chance(45) {
         add_sizes(rng, draft, &mut layout);
     }
+    if rng.chance(40) {
+        add_names(rng, draft, &mut layout);
+    }
     if rng.chance(55) {
         let rows = match rng.below(60) {
             0 => MAX_ROWS,
@@ -118,7 +124,21 @@ pub fn add_sizes(rng: &mut Rng, draft: &mut Draft, layout: &mut Layout) {
     for length in draft.objects.iter_mut().filter(|length| **length <= 300) {
         *length *= rng.pick(&[1, favourite]);
     }
-    layout.objects = draft.objects.clone();
+    classify(draft, layout);
+}
+
+/// Terminated objects and kind 2 pointers, beside others.
+fn add_names(rng: &mut Rng, draft: &mut Draft, layout: &mut Layout) {
+    for word in draft.objects.iter_mut().filter(|_| rng.chance(65)) {
+        *word = -*word;
+    }
+    for &p in layout.pointers.iter().filter(|_| rng.chance(50)) {
+        draft.variables[p as usize][0] = 2;
+    }
+    for group in &layout.groups {
+        let kind = rng.range(1, 2);
+        group.pointers.iter().for_each(|&p| draft.variables[p as usize][0] = kind);
+    }
     classify(draft, layout);
 }
 
@@ -174,7 +194,6 @@ pub fn with_size(rng: &mut Rng, draft: &mut Draft, variables: usize) -> Layout {
     rng.shuffle(&mut names);
     let pointer_count = (variables * rng.range(25, 65) as usize).div_ceil(100).min(variables);
     let mut layout = Layout {
-        objects: draft.objects.clone(),
         named: (0..draft.objects.len() as i32).collect(),
         pointers: names[..pointer_count].to_vec(),
         integers: names[pointer_count..].to_vec(),
@@ -259,7 +278,7 @@ fn distant_ends(draft: &mut Draft, layout: &Layout, left: &mut Vec<i32>) {
 }
 
 fn classify(draft: &Draft, layout: &mut Layout) {
-    let named: Vec<i32> = draft.variables.iter().filter(|v| v[0] == 1).flat_map(|v| [v[3], v[6]]).collect();
+    let named: Vec<i32> = draft.variables.iter().filter(|v| v[0] != 0).flat_map(|v| [v[3], v[6]]).collect();
     let (counts, free) = layout.integers.iter().partition(|i| named.contains(i));
     (layout.counts, layout.free) = (counts, free);
     let moves = |p: &&i32| {
@@ -271,4 +290,7 @@ fn classify(draft: &Draft, layout: &mut Layout) {
         |record: &[i32; VARIABLE_WORDS]| record[2..].try_into().expect("six words behind the first two");
     layout.own = draft.variables.iter().map(own).collect();
     layout.sizes = draft.variables.iter().map(|record| record[1].max(1)).collect();
+    layout.terminated = draft.variables.iter().map(|record| record[0] == 2).collect();
+    layout.terminated_objects = draft.objects.iter().map(|&word| word < 0).collect();
+    layout.objects = draft.objects.iter().map(|&word| word.abs() - i32::from(word < 0)).collect();
 }

@@ -87,7 +87,7 @@ impl Writer<'_> {
             let q = if self.rng.chance(50) { v } else { self.pointer()? };
             return Some(match self.rng.below(5) {
                 0 => null(v),
-                1 => address(v, self.object()?),
+                1 => address(v, self.object(v)?),
                 2 => index_pointer(v, q, self.integer()?),
                 _ => move_pointer(v, q, k),
             });

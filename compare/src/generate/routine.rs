@@ -30,6 +30,9 @@ impl Writer<'_> {
         if self.layout.sizes.iter().any(|&size| size > 1) && self.rng.chance(20) {
             return self.with_sizes().unwrap_or_else(|| vec![self.check()]);
         }
+        if self.layout.terminated.contains(&true) && self.rng.chance(35) {
+            return self.with_names(depth).unwrap_or_else(|| vec![self.check()]);
+        }
         let chunk = match self.rng.below(44) {
             0 | 1 => Some(vec![self.simple()]),
             2 | 3 => Some(vec![self.check()]),
@@ -73,9 +76,12 @@ impl Writer<'_> {
         self.rng.pick_any(&self.layout.pointers)
     }
 
-    /// An object that kind 5 may name.
-    fn object(&mut self) -> Option<i32> {
-        self.rng.pick_any(&self.layout.named)
+    /// An object whose address kind 5 may give to p.
+    fn object(&mut self, p: i32) -> Option<i32> {
+        let fits =
+            |o: &i32| self.layout.terminated_objects[*o as usize] || !self.layout.terminated[p as usize];
+        let fitting: Vec<i32> = self.layout.named.iter().copied().filter(fits).collect();
+        self.rng.pick_any(&fitting)
     }
 
     fn group(&mut self) -> Option<Group> {
@@ -142,7 +148,10 @@ impl Writer<'_> {
             2 => add_constant(self.integer()?, self.integer()?, k),
             3 => operate(self.integer()?, self.integer()?, self.integer()?, self.rng.range(0, 2)),
             4 => null(self.pointer()?),
-            5 => address(self.pointer()?, self.object()?),
+            5 => {
+                let p = self.pointer()?;
+                address(p, self.object(p)?)
+            }
             6 => move_pointer(self.pointer()?, self.pointer()?, k),
             7 => index_pointer(self.pointer()?, self.pointer()?, self.integer()?),
             8 => load(self.integer()?, self.pointer()?, index, k),
@@ -235,7 +244,7 @@ impl Writer<'_> {
         let mut least = i32::MAX;
         let mut inner = Chunk::new();
         for &p in &group.pointers {
-            match self.object().filter(|_| self.rng.chance(85)) {
+            match self.object(p).filter(|_| self.rng.chance(85)) {
                 None => inner.push(null(p)),
                 Some(object) => {
                     least = least.min(self.layout.objects[object as usize] / self.layout.sizes[p as usize]);
@@ -362,6 +371,8 @@ impl Writer<'_> {
 
 #[path = "dead.rs"]
 mod dead;
+#[path = "names.rs"]
+mod names;
 #[path = "patterns.rs"]
 mod patterns;
 #[path = "rows.rs"]

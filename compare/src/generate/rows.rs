@@ -110,7 +110,7 @@ impl Writer<'_> {
             0 => vec![declare(p, row)],
             1 => vec![null(p), declare(p, row)],
             2..=4 => {
-                let object = self.object()?;
+                let object = self.object(p)?;
                 let mut inner = vec![address(p, object)];
                 if bounds[4] >= 0 {
                     let cells = self.layout.objects[object as usize] - bounds[5];

@@ -61,7 +61,7 @@ impl Writer<'_> {
 
     /// Kind 5 gives its bounds the size of its pointer, and another pointer takes them.
     fn taken_object(&mut self) -> Option<Chunk> {
-        let (p, q, object) = (self.several()?, self.pointer()?, self.object()?);
+        let (p, q, object) = (self.several()?, self.pointer()?, self.rng.pick_any(&self.layout.named)?);
         let (from, to) = if self.rng.chance(50) { (p, q) } else { (q, p) };
         let length = self.layout.objects[object as usize];
         let k = if self.rng.chance(70) { 0 } else { self.cells(from, 1) };

@@ -36,7 +36,7 @@ use Rattle.force.specs.Force.{Framed, stateOf}
 use Rattle.force.specs.ForceLaws.{none-refused, pass, refuse-part}
 use Rattle.force.specs.declared.Frame.{Frame}
 use Rattle.bundles.specs.Bundles.{Passes, WalksBundle}
-use Rattle.effects.specs.FactRulesLaws.{effect-lengths}
+use Rattle.effects.specs.FactRulesLaws.{effect-spans}
 use Rattle.bounds.specs.BoundsRulesLaws.{effect-short}
 use Rattle.rules.specs.declared.Bounds.{Bounds}
 use Rattle.rules.specs.declared.Environment.{Environment}
@@ -70,22 +70,22 @@ ends e p q = record { said = p ∙ ap verdictOf (sym e); kept = λ z. q }
 
 -- ---- a statement
 
-module _ (E : Environment) (f : FactSet) (s : Simple) {d : Applied} (e : d ≡ applied (E .sizes) (E .lengths) f s) where
+module _ (E : Environment) (f : FactSet) (s : Simple) {d : Applied} (e : d ≡ applied (E .sizes) (E .spans) f s) where
   pub applied-facts : d .facts ≡ factsAfter s f
   unfolding applied
   applied-facts = ap (λ (a : Applied). a .facts) e
 
   pub applied-effect : d .effect ≡ effect E f s
   unfolding applied
-  applied-effect = ap (λ (a : Applied). a .effect) e ∙ effect-lengths E f s
+  applied-effect = ap (λ (a : Applied). a .effect) e ∙ effect-spans E f s
 
   pub applied-short : Measured E → InRange s → Short (d .effect)
   applied-short m r = rw applied-effect (effect-short E f s m r)
 
--- With the sizes and lengths that the table declares.
-pub measured-by : (f : FactSet) (s : Simple) {E : Environment} {r : Frame} {d : Applied} → Framed E r → d ≡ applied (r .sizes) (r .lengths) f s
-    → d ≡ applied (E .sizes) (E .lengths) f s
-measured-by f s m e = e ∙ ap₂ (λ (x y : List ℕ). applied x y f s) (m .sizes) (m .lengths)
+-- With the sizes and spans that the table declares.
+pub measured-by : (f : FactSet) (s : Simple) {E : Environment} {r : Frame} {d : Applied} → Framed E r → d ≡ applied (r .sizes) (r .spans) f s
+    → d ≡ applied (E .sizes) (E .spans) f s
+measured-by f s m e = e ∙ ap₂ (λ (x y : List ℕ). applied x y f s) (m .sizes) (m .spans)
 
 -- A kind 14 names a pointer and a row of the table.
 pub row-limits : (T : List ℤ) (h : Sections) (a : ℕ) {s : Statement} {p : Simple} {y r : ℕ} → statementAt T h a ≡ Read s → s ≡ Plain p → declaresOf p ≡ Row y r → (y < 16) × (r < 64)

@@ -67,7 +67,7 @@ pub fn walk_bundle(
     ensures { λ r. ⌜ WalksBundle (environmentOf (now (table .entry)) sections) head (simples count (now (table .entry)) sections (head + 1)) (stateOf given (force .rows .each)) (inForce (environmentOf (now (table .entry)) sections) (force .rows .each) .declared) r ⌝ }
 {
     let sizes = frame.sizes;
-    let lengths = frame.lengths;
+    let spans = frame.spans;
     let mut rows = force.rows;
     let mut seen = force.seen;
     let declared = seen.declared;
@@ -113,7 +113,7 @@ pub fn walk_bundle(
                     };
                 }
                 let answers = answer(facts, ask_statement(simple));
-                let plan = plan_statement(sizes, lengths, simple, answers);
+                let plan = plan_statement(sizes, spans, simple, answers);
                 let effect = plan.effect;
                 known = bounds_after(effect, known);
                 facts = facts.after(plan.change);

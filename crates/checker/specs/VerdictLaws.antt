@@ -14,11 +14,10 @@ use Rattle.facts.specs.Store.{newSet}
 use Rattle.facts.specs.declared.FactSet.{FactSet}
 use Rattle.refusals.specs.declared.Refusal.{Refusal}
 use Rattle.words.specs.Words.{word}
-use Rattle.fields.specs.Fields.{plain}
-use Rattle.sections.specs.Sections.{inLimits, objectStart}
+use Rattle.sections.specs.Sections.{inLimits, objectStart, objectTerminated}
 use Rattle.sections.specs.SectionsLaws.{object-limits}
 use Rattle.sections.specs.declared.Sections.{Sections}
-use Rattle.variables.specs.Variables.{objectAt}
+use Rattle.variables.specs.Variables.{objectCells, objectAt}
 use Rattle.table.specs.Form.{formOf}
 use Rattle.table.specs.FormLaws.{Formed, well-formed}
 use Rattle.table.specs.declared.Form.{Form}
@@ -32,7 +31,7 @@ use Rattle.rules.specs.Verdict.{environmentOf, verdictOf}
 use Rattle.rules.specs.Ranges.{Measured}
 use Rattle.rules.specs.ByChains.{Judged}
 use Rattle.rules.specs.Decidable.{judged}
-use Rattle.rules.specs.BoundsRules.{ownRows}
+use Rattle.rules.specs.BoundsRules.{ownRows, upperLimit}
 use Rattle.checker.specs.Walk.{Walks}
 use Rattle.rules.specs.declared.Verdict.{Verdict}
 use Rattle.rules.specs.declared.Verdict.the-variants.{Refused}
@@ -41,29 +40,41 @@ use Rattle.rules.specs.Verdict as verdictRules
 use Rattle.force.specs.Force.{stateOf, Forced}
 use Rattle.force.specs.declared.Force.{Force}
 
--- The lengths that a well-formed table declares are in range.
+-- The spans that a well-formed table declares are in range.
 module _ (T : List ℤ) (h : Sections) (w : Formed T h) where
   object-short : (o : ℕ) → objectAt T h o < 2 ^ 40
   unfolding objectAt
   object-short o = go (inLimits h && ltb o (h .objects)) refl
     where
-      go : (b : Bool) → (inLimits h && ltb o (h .objects)) ≡ b → cond b (plain (word T (objectStart h o))) 0 < 2 ^ 40
-      go true e = let q : objectAt T h o ≡ plain (word T (objectStart h o)) = ap (λ (b : Bool). cond b (plain (word T (objectStart h o))) 0) e in
+      go : (b : Bool) → (inLimits h && ltb o (h .objects)) ≡ b → cond b (objectCells (word T (objectStart h o))) 0 < 2 ^ 40
+      go true e =
+          let q : objectAt T h o ≡ objectCells (word T (objectStart h o)) = ap (λ (b : Bool). cond b (objectCells (word T (objectStart h o))) 0) e in
           omega (arith, w .objects o (object-limits h o e .1))
       go false e = omega arith
 
-  lengths-short : (o : ℕ) → getD (tabulate 16 (objectAt T h)) o 0 < 2 ^ 40
-  lengths-short o = go (ltb o 16) refl
+  abbrev span : ℕ → ℕ
+  span o = upperLimit (objectTerminated T h o) (objectAt T h o)
+
+  span-short : (o : ℕ) → span o < 2 ^ 40
+  unfolding upperLimit
+  span-short o = go (objectTerminated T h o)
     where
-      go : (b : Bool) → ltb o 16 ≡ b → getD (tabulate 16 (objectAt T h)) o 0 < 2 ^ 40
-      go true e = rw (getD-tabulate 16 (objectAt T h) o 0 (ltb-true o 16 e)) (object-short o)
+      go : (b : Bool) → upperLimit b (objectAt T h o) < 2 ^ 40
+      go true = omega (arith, object-short o)
+      go false = object-short o
+
+  spans-short : (o : ℕ) → getD (tabulate 16 span) o 0 < 2 ^ 40
+  spans-short o = go (ltb o 16) refl
+    where
+      go : (b : Bool) → ltb o 16 ≡ b → getD (tabulate 16 span) o 0 < 2 ^ 40
+      go true e = rw (getD-tabulate 16 span o 0 (ltb-true o 16 e)) (span-short o)
       go false e =
-          let p : length (tabulate 16 (objectAt T h)) ≤ o = omega (arith, length-tabulate 16 (objectAt T h), ltb-false o 16 e) in
-          rw (List·getD-eq-default (tabulate 16 (objectAt T h)) 0 {n = o} p) (omega arith)
+          let p : length (tabulate 16 span) ≤ o = omega (arith, length-tabulate 16 span, ltb-false o 16 e) in
+          rw (List·getD-eq-default (tabulate 16 span) 0 {n = o} p) (omega arith)
 
   pub measured : Measured (environmentOf T h)
   unfolding environmentOf
-  measured o = lengths-short o
+  measured o = spans-short o
 
 -- Cause 6, then the walk.
 first-refused : (xs : List Refusal) (ys : List Refusal) {r : Refusal} → verdict xs ≡ layout-variant.Refused r → Refused r ≡ verdictOf (also xs ys)

@@ -228,7 +228,7 @@ module _ {T : List ℤ} {h : Sections} {E : Environment} {end allowed : ℕ} {b 
 
   -- Any kind but 14.
   module _ {p : Simple} (u : Turn T h E end allowed b w₀ at left f F (Plain p)) (n : declaresOf p ≡ NoRow) {d : Applied}
-      (e : d ≡ applied (E .sizes) (E .lengths) f p)
+      (e : d ≡ applied (E .sizes) (E .spans) f p)
       {v : Verdict} (z : v ≡ verdictOf (boundsAt at (unshown (seenAs (F .seen)) (d .facts) (boundsAfter (d .effect) (F .seen .declared))))) where
     still : stateAfter p (stateOf f (F .rows .each)) ≡ stateOf (factsAfter p f) (F .rows .each)
     still = ap (stateOf (factsAfter p f)) (rows-stay p (F .rows .each) n)
@@ -252,7 +252,7 @@ module _ {T : List ℤ} {h : Sections} {E : Environment} {end allowed : ℕ} {b 
 
   -- Nothing has to be shown again.
   pub turn-untouched : {p : Simple} → Turn T h E end allowed b w₀ at left f F (Plain p) → declaresOf p ≡ NoRow → {d : Applied}
-      → d ≡ applied (E .sizes) (E .lengths) f p
+      → d ≡ applied (E .sizes) (E .spans) f p
       → {P : List Bool} → P ≡ E .pointers → touches (F .named .each) P (d .effect) ≡ false → Kept T h E end allowed b w₀ (at + 1) (left - 1) (d .facts) F
   unfolding boundsAt verdictOf
   turn-untouched u n {d} e y x =

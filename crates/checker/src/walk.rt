@@ -46,7 +46,7 @@ pub(crate) fn walk(
     ensures { λ r. ⌜ Walks (now (table .entry)) sections (environmentOf (now (table .entry)) sections) (parse allowed (now (table .entry)) sections first end) (stateOf given (begun .rows .each)) r ⌝ }
 {
     let sizes = frame.sizes;
-    let lengths = frame.lengths;
+    let spans = frame.spans;
     let pointers = frame.pointers;
     let mut at = first;
     let mut left = allowed;
@@ -86,7 +86,7 @@ pub(crate) fn walk(
                     }
                     Declares::NoRow => {
                         let answers = answer(facts, ask_statement(simple));
-                        let plan = plan_statement(sizes, lengths, simple, answers);
+                        let plan = plan_statement(sizes, spans, simple, answers);
                         let effect = plan.effect;
                         facts = facts.after(plan.change);
                         if touches(force.named, pointers, effect) {

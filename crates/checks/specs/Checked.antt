@@ -1,6 +1,8 @@
 -- What the checks of a run read, and what they say of a step.
 use Prim.Native.Nat.{ℕ, _+_, _*_}
+use mathlib.Core.Bool.{Bool}
 use mathlib.Core.List.{List, []}
+use lib.Dec.{eqb}
 use lib.ListN.{getD}
 use Rattle.arrays.specs.Tabulate.{tabulate}
 use Rattle.variables.specs.declared.End.{End}
@@ -12,11 +14,14 @@ use Rattle.stops.specs.Checks.{checkOf}
 use Rattle.checks.specs.declared.Step.{Step}
 use Rattle.checks.specs.declared.Step.the-variants.{Go, Stop}
 
--- ---- bounds in a slice of 496 numbers: those in force, six a pointer (pointer, integer and constant of the lower end, then of the upper end), then those of
--- the table's 64 rows, then (point 10) the element size of each pointer
+-- ---- bounds in a slice of 512 numbers: those in force, six a pointer (pointer, integer and constant of the lower end, then of the upper end), then those of
+-- the table's 64 rows, then (point 10) the element size of each pointer, then (point 7) a 1 for each pointer of kind 2
 
 abbrev pub sizeIn : List ℕ → ℕ → ℕ
 sizeIn W p = getD W (480 + p) 0
+
+abbrev pub stringIn : List ℕ → ℕ → Bool
+stringIn W p = eqb (getD W (496 + p) 0) 1
 
 abbrev pub endIn : List ℕ → ℕ → End
 endIn W i = record { pointer = getD W i 0; integer = getD W (i + 1) 0; constant = getD W (i + 2) 0 }
@@ -26,7 +31,16 @@ boundsIn W p = record { size = sizeIn W p; lower = Known (endIn W (6 * p)); uppe
 
 -- What such a slice declares.
 unfoldable pub declaredIn : List ℕ → Environment
-declaredIn W = record { pointers = []; sizes = tabulate 16 (sizeIn W); declared = tabulate 16 (boundsIn W); lengths = []; rows = [] }
+declaredIn W = record {
+  pointers = [];
+  strings = tabulate 16 (stringIn W);
+  sizes = tabulate 16 (sizeIn W);
+  declared = tabulate 16 (boundsIn W);
+  lengths = [];
+  terminated = [];
+  spans = [];
+  rows = [];
+}
 
 -- ---- steps
 

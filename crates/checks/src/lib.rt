@@ -1,4 +1,4 @@
-// The five checks. Each gives the step to the statement `next`, or stops at the statement `at` with the first check that fails.
+// The six checks. Each gives the step to the statement `next`, or stops at the statement `at` with the first check that fails.
 use conditions::Condition;
 use machine::scaled;
 use machine::value_at;
@@ -9,9 +9,10 @@ ghost use mathlib.Core.Bool.{not, cond};
 ghost use Prim.Native.Nat.{ℕ, _+_, _^_, _<_, _≤_};
 ghost use lib.ListN.{length, getD};
 ghost use Rattle.conditions.specs.Relations.{relates};
-ghost use Rattle.machine.specs.Machine.{endValue, conditionHolds, none, firstOf, accessFailing, arithmeticFailing};
-ghost use Rattle.checks.specs.Checked.{sizeIn, endIn, declaredIn, stepUnless};
+ghost use Rattle.machine.specs.Machine.{endValue, conditionHolds, none, firstOf, beyond, loadFailing, storeFailing, arithmeticFailing};
+ghost use Rattle.checks.specs.Checked.{sizeIn, stringIn, endIn, declaredIn, stepUnless};
 ghost use Rattle.checks.specs.declared.Step.the-variants.{Go, Stop};
+ghost use Rattle.stops.specs.declared.Check.the-variants.{NullAccess, OutOfBounds, Terminator};
 
 // What a step says: the statement due after it, or the check that fails.
 pub enum Step {
@@ -47,10 +48,18 @@ pub fn condition_holds(values: &[u32], c: Condition) -> bool
 
 // The element size of a pointer.
 pub fn size_in(ends: &[u64], pointer: usize) -> u64
-    requires { ⌜ (pointer < 16) × (length (now ends) ≡ 496) ⌝ }
+    requires { ⌜ (pointer < 16) × (length (now ends) ≡ 512) ⌝ }
     ensures { λ r. ⌜ r ≡ sizeIn (now (ends .entry)) pointer ⌝ }
 {
     ends[480 + pointer]
+}
+
+// The pointer is of kind 2.
+fn string_in(ends: &[u64], pointer: usize) -> bool
+    requires { ⌜ (pointer < 16) × (length (now ends) ≡ 512) ⌝ }
+    ensures { λ r. ⌜ r ≡ stringIn (now (ends .entry)) pointer ⌝ }
+{
+    ends[496 + pointer] == 1
 }
 
 // The whole number of the end whose three numbers start at `first`, of a pointer with this element size, with the bias.
@@ -76,8 +85,56 @@ fn step_unless(first: bool, one: Check, second: bool, other: Check, next: usize)
     Step::Go(next)
 }
 
-// Check 2, then 3: an access through `pointer` to an address that has the bias.
-pub fn check_access(
+// Beyond the upper end: not below it, or, of a pointer of kind 2, above it.
+fn beyond(string: bool, upper: u64, address: u64) -> bool
+    ensures { λ r. ⌜ r ≡ beyond string upper address ⌝ }
+{
+    if string {
+        return upper < address;
+    }
+    upper <= address
+}
+
+// The first of the checks of an access that fails.
+fn access_step(null: bool, outside: bool, spoils: bool, at: usize, next: usize) -> Step
+    ensures { λ r. ⌜ r ≡ cond null (Stop (NullAccess at)) (cond outside (Stop (OutOfBounds at)) (cond spoils (Stop (Terminator at)) (Go next))) ⌝ }
+{
+    if null {
+        return Step::Stop(Check::NullAccess(at));
+    }
+    if outside {
+        return Step::Stop(Check::OutOfBounds(at));
+    }
+    if spoils {
+        return Step::Stop(Check::Terminator(at));
+    }
+    Step::Go(next)
+}
+
+// Check 2, then 3, then 6: a store of `stored` through `pointer` to an address that has the bias.
+pub fn check_store(
+    ends: &[u64],
+    values: &[u32],
+    at: usize,
+    next: usize,
+    pointer: usize,
+    address: u64,
+    stored: u64,
+) -> Step
+    requires { ⌜ (pointer < 16) × (length (now ends) ≡ 512) × ((i : ℕ) → getD (now ends) i 0 < 2 ^ 34) × ((p : ℕ) → sizeIn (now ends) p ≤ 8) ⌝ }
+    ensures { λ r. ⌜ r ≡ stepUnless (storeFailing (declaredIn (now (ends .entry))) (now (values .entry)) pointer address stored) at next ⌝ }
+{
+    let null = value_at(values, pointer) == 0;
+    let size = size_in(ends, pointer);
+    let lower = end_value(ends, values, size, 6 * pointer);
+    let upper = end_value(ends, values, size, 6 * pointer + 3);
+    let outside = (address < lower) | beyond(string_in(ends, pointer), upper, address);
+    let spoils = (address == upper) & (stored != 0);
+    access_step(null, outside, spoils, at, next)
+}
+
+// Check 2, then 3, of a load: as the store of 0.
+pub fn check_load(
     ends: &[u64],
     values: &[u32],
     at: usize,
@@ -85,21 +142,10 @@ pub fn check_access(
     pointer: usize,
     address: u64,
 ) -> Step
-    requires { ⌜ (pointer < 16) × (length (now ends) ≡ 496) × ((i : ℕ) → getD (now ends) i 0 < 2 ^ 34) × ((p : ℕ) → sizeIn (now ends) p ≤ 8) ⌝ }
-    ensures { λ r. ⌜ r ≡ stepUnless (accessFailing (declaredIn (now (ends .entry))) (now (values .entry)) pointer address) at next ⌝ }
+    requires { ⌜ (pointer < 16) × (length (now ends) ≡ 512) × ((i : ℕ) → getD (now ends) i 0 < 2 ^ 34) × ((p : ℕ) → sizeIn (now ends) p ≤ 8) ⌝ }
+    ensures { λ r. ⌜ r ≡ stepUnless (loadFailing (declaredIn (now (ends .entry))) (now (values .entry)) pointer address) at next ⌝ }
 {
-    let null = value_at(values, pointer) == 0;
-    let size = size_in(ends, pointer);
-    let lower = end_value(ends, values, size, 6 * pointer);
-    let upper = end_value(ends, values, size, 6 * pointer + 3);
-    let outside = (address < lower) | (address >= upper);
-    step_unless(
-        null,
-        Check::NullAccess(at),
-        outside,
-        Check::OutOfBounds(at),
-        next,
-    )
+    check_store(ends, values, at, next, pointer, address, 0)
 }
 
 // Check 4, then 5: arithmetic on the address `base`, with its result, which has the bias.

@@ -11,9 +11,9 @@ use native.Mathlib.Omega.{arith}
 use Rattle.sums.specs.Numbers.{bias, zeroVar}
 use Rattle.words.specs.declared.Fields.{Fields}
 use Rattle.fields.specs.Fields.{plain, literalValue, isZero, isBelow}
-use Rattle.sections.specs.Sections.{namesInteger, namesPointer}
+use Rattle.sections.specs.Sections.{namesInteger, namesPointer, namesArray, namesString}
 use Rattle.sections.specs.SectionsLaws.{both}
-use Rattle.sections.specs.NameLaws.{either, below-holds, literal-small, integer-named, pointer-named}
+use Rattle.sections.specs.NameLaws.{either, below-holds, literal-small, integer-named, pointer-named, array-named, string-named}
 use Rattle.sections.specs.declared.Sections.{Sections}
 use Rattle.conditions.specs.Conditions.{sameKind, besideLiteral, conditionRight, conditionOf, rightOf, offsetOf}
 use Rattle.conditions.specs.declared.Condition.{Condition}
@@ -24,11 +24,16 @@ module _ (table : List ℤ) (h : Sections) where
   unfolding sameKind
   same-sides v w e =
       ⊎-elim
+      (λ (j : (namesInteger table h v && namesInteger table h w || namesArray table h v && namesArray table h w) ≡ true).
+      ⊎-elim
       (λ (i : (namesInteger table h v && namesInteger table h w) ≡ true).
       let p = both (namesInteger table h v) (namesInteger table h w) i in integers (integer-named table h v (p .0)) (integer-named table h w (p .1)) refl)
-      (λ (i : (namesPointer table h v && namesPointer table h w) ≡ true).
-      let p = both (namesPointer table h v) (namesPointer table h w) i in pointers (pointer-named table h v (p .0)) (pointer-named table h w (p .1)) refl)
-      (either (namesInteger table h v && namesInteger table h w) (namesPointer table h v && namesPointer table h w) e)
+      (λ (i : (namesArray table h v && namesArray table h w) ≡ true).
+      let p = both (namesArray table h v) (namesArray table h w) i in pointers (array-named table h v (p .0)) (array-named table h w (p .1)) refl)
+      (either (namesInteger table h v && namesInteger table h w) (namesArray table h v && namesArray table h w) j))
+      (λ (i : (namesString table h v && namesString table h w) ≡ true).
+      let p = both (namesString table h v) (namesString table h w) i in pointers (string-named table h v (p .0)) (string-named table h w (p .1)) refl)
+      (either (namesInteger table h v && namesInteger table h w || namesArray table h v && namesArray table h w) (namesString table h v && namesString table h w) e)
 
   literal-sides : (v w : ℕ) → besideLiteral table h v w ≡ true → Sides table h (plain v) zeroVar (literalValue w)
   unfolding besideLiteral literalValue

@@ -7,14 +7,15 @@ use lib.Dec.{eqb}
 use Rattle.sums.specs.Numbers.{bias, zeroVar}
 use Rattle.words.specs.declared.Fields.{Fields}
 use Rattle.fields.specs.Fields.{plain, literalValue, isZero, isBelow}
-use Rattle.sections.specs.Sections.{namesInteger, namesPointer}
+use Rattle.sections.specs.Sections.{namesInteger, namesPointer, namesArray, namesString}
 use Rattle.sections.specs.declared.Sections.{Sections}
 use Rattle.conditions.specs.declared.Condition.{Condition}
 
 module _ (table : List ℤ) (h : Sections) where
-  -- "form 0 a variable of the same kind"
+  -- "form 0 a variable of the same kind": of the same kind word.
   unfoldable pub sameKind : ℕ → ℕ → Bool
-  sameKind v w = namesInteger table h v && namesInteger table h w || namesPointer table h v && namesPointer table h w
+  sameKind v w =
+      namesInteger table h v && namesInteger table h w || namesArray table h v && namesArray table h w || namesString table h v && namesString table h w
 
   -- "form 1 a literal as in kind 1 (only 0 beside a pointer)": beside an integer any word is one.
   unfoldable pub besideLiteral : ℕ → ℕ → Bool

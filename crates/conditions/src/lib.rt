@@ -4,8 +4,10 @@ use fields::is_zero;
 use fields::literal_value;
 use fields::plain;
 use sections::Sections;
+use sections::names_array;
 use sections::names_integer;
 use sections::names_pointer;
+use sections::names_string;
 use sums::BIAS;
 use words::Fields;
 ghost use mathlib.Core.Path.{_≡_};
@@ -25,7 +27,8 @@ fn same_kind(table: &[i32], sections: Sections, v: u64, w: u64) -> bool
     ensures { λ r. ⌜ r ≡ sameKind (now (table .entry)) sections v w ⌝ }
 {
     (names_integer(table, sections, v) & names_integer(table, sections, w))
-        | (names_pointer(table, sections, v) & names_pointer(table, sections, w))
+        | (names_array(table, sections, v) & names_array(table, sections, w))
+        | (names_string(table, sections, v) & names_string(table, sections, w))
 }
 
 // Form 1: a literal beside an integer, only 0 beside a pointer.

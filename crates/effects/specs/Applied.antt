@@ -19,9 +19,10 @@ use Rattle.rules.specs.declared.Effect.{Effect}
 use Rattle.rules.specs.declared.Effect.the-variants.{Keep, Shift, Forget}
 use Rattle.effects.specs.declared.Plan.{Plan}
 
--- An environment of which only the element sizes and the lengths of objects matter, as to an effect.
-abbrev pub withLengths : List ℕ → List ℕ → Environment
-withLengths sizes lengths = record { pointers = []; sizes = sizes; declared = []; lengths = lengths; rows = [] }
+-- An environment of which only the element sizes and the spans of objects matter, as to an effect.
+abbrev pub withSpans : List ℕ → List ℕ → Environment
+withSpans sizes spans =
+    record { pointers = []; strings = []; sizes = sizes; declared = []; lengths = []; terminated = []; spans = spans; rows = [] }
 
 -- The facts after a statement, and what it does to known bounds.
 pub record Applied : Type 0 where
@@ -29,7 +30,7 @@ pub record Applied : Type 0 where
   pub effect : Effect
 
 unfoldable pub applied : List ℕ → List ℕ → FactSet → Simple → Applied
-applied sizes lengths f s = record { facts = factsAfter s f; effect = effect (withLengths sizes lengths) f s }
+applied sizes spans f s = record { facts = factsAfter s f; effect = effect (withSpans sizes spans) f s }
 
 -- The facts that a condition gives, by the answers to what it asks: whether left <= right + offset and right + offset <= left are shown.
 unfoldable pub conditionGiven : Answers → FactSet → Condition → FactSet
@@ -41,18 +42,18 @@ sumFits a k = eqb k bias || a .there && a .back
 
 -- The facts after a statement and what it does to known bounds, by the answers to what it asks.
 unfoldable pub planned : Answers → List ℕ → List ℕ → FactSet → Simple → Applied
-planned a sizes lengths f (Literal x k) = applied sizes lengths f (Literal x k)
-planned a sizes lengths f (AddConstant x y k) =
+planned a sizes spans f (Literal x k) = applied sizes spans f (Literal x k)
+planned a sizes spans f (AddConstant x y k) =
     record { facts = sumFacts (sumFits a k) (eqb x y) f x y k; effect = cond (sumFits a k && eqb x y) (Shift x k) (Forget x) }
-planned a sizes lengths f (Arithmetic x y z op) = applied sizes lengths f (Arithmetic x y z op)
-planned a sizes lengths f (Null p) = applied sizes lengths f (Null p)
-planned a sizes lengths f (Address p o) = applied sizes lengths f (Address p o)
-planned a sizes lengths f (PointerOffset p q k) = applied sizes lengths f (PointerOffset p q k)
-planned a sizes lengths f (PointerIndex p q i) = applied sizes lengths f (PointerIndex p q i)
-planned a sizes lengths f (Load x p i k) = applied sizes lengths f (Load x p i k)
-planned a sizes lengths f (Store p i k x) = applied sizes lengths f (Store p i k x)
-planned a sizes lengths f (Check c) = record { facts = conditionGiven a f c; effect = Keep }
-planned a sizes lengths f (Declare p r) = applied sizes lengths f (Declare p r)
+planned a sizes spans f (Arithmetic x y z op) = applied sizes spans f (Arithmetic x y z op)
+planned a sizes spans f (Null p) = applied sizes spans f (Null p)
+planned a sizes spans f (Address p o) = applied sizes spans f (Address p o)
+planned a sizes spans f (PointerOffset p q k) = applied sizes spans f (PointerOffset p q k)
+planned a sizes spans f (PointerIndex p q i) = applied sizes spans f (PointerIndex p q i)
+planned a sizes spans f (Load x p i k) = applied sizes spans f (Load x p i k)
+planned a sizes spans f (Store p i k x) = applied sizes spans f (Store p i k x)
+planned a sizes spans f (Check c) = record { facts = conditionGiven a f c; effect = Keep }
+planned a sizes spans f (Declare p r) = applied sizes spans f (Declare p r)
 
 -- ---- changes and plans
 
@@ -74,4 +75,4 @@ Does r f a = record { facts = changed f (r .change); effect = r .effect } ≡ a
 
 -- The plan for a statement, given the answers to what it asks: of any facts.
 abbrev pub Plans : List ℕ → List ℕ → Simple → Answers → Plan → Type 0
-Plans sizes lengths s a r = (f : FactSet) → Does r f (planned a sizes lengths f s)
+Plans sizes spans s a r = (f : FactSet) → Does r f (planned a sizes spans f s)

@@ -32,7 +32,7 @@ use Rattle.rules.specs.Stored.{equated, positive, differs, relationFacts, condi
 use Rattle.rules.specs.Ranges.{InRange}
 use Rattle.effects.specs.declared.Plan.{Plan}
 use Rattle.asked.specs.Asked.{sumAsked, conditionAsked, statementAsked}
-use Rattle.effects.specs.Applied.{Applied, withLengths, applied, conditionGiven, sumFits, planned, Adds, Assumes, Plans}
+use Rattle.effects.specs.Applied.{Applied, withSpans, applied, conditionGiven, sumFits, planned, Adds, Assumes, Plans}
 use Rattle.rules.specs.declared.Effect.{Effect}
 use Rattle.rules.specs.declared.Effect.the-variants.{Keep, Forget, Shift, Copy}
 use Rattle.rules.specs.declared.Environment.{Environment}
@@ -122,27 +122,27 @@ sum-answered f y k {a} e = go (eqb k bias) (shown f zeroVar y k) e
     go false true i = ap₂ (λ (s t : Bool). s && t) (ap (λ (x : Answers). x .there) i) (ap (λ (x : Answers). x .back) i)
     go false false i = ap (λ (x : Answers). x .there && x .back) i
 
-module _ (a : Answers) (sizes lengths : List ℕ) (f : FactSet) (x y k : ℕ) {g : FactSet} where
-  pub sum-dropped : sumFits a k ≡ false → g ≡ dropped f x → appliedOf g (Forget x) ≡ planned a sizes lengths f (AddConstant x y k)
+module _ (a : Answers) (sizes spans : List ℕ) (f : FactSet) (x y k : ℕ) {g : FactSet} where
+  pub sum-dropped : sumFits a k ≡ false → g ≡ dropped f x → appliedOf g (Forget x) ≡ planned a sizes spans f (AddConstant x y k)
   unfolding planned factRules.sumFacts
   sum-dropped r e = rw (r, e)
 
-  pub sum-shifted : sumFits a k ≡ true → x ≡ y → g ≡ shifted f x k → appliedOf g (Shift x k) ≡ planned a sizes lengths f (AddConstant x y k)
+  pub sum-shifted : sumFits a k ≡ true → x ≡ y → g ≡ shifted f x k → appliedOf g (Shift x k) ≡ planned a sizes spans f (AddConstant x y k)
   unfolding planned factRules.sumFacts
   sum-shifted r p e = rw (r, eq-eqb x y p, e)
 
-  pub sum-equated : sumFits a k ≡ true → x ≢ y → g ≡ equated (dropped f x) x y k → appliedOf g (Forget x) ≡ planned a sizes lengths f (AddConstant x y k)
+  pub sum-equated : sumFits a k ≡ true → x ≢ y → g ≡ equated (dropped f x) x y k → appliedOf g (Forget x) ≡ planned a sizes spans f (AddConstant x y k)
   unfolding planned factRules.sumFacts
   sum-equated r n e = rw (r, ne-eqb x y n, e)
 
-module _ (sizes lengths : List ℕ) (f : FactSet) (p q k : ℕ) {g : FactSet} where
+module _ (sizes spans : List ℕ) (f : FactSet) (p q k : ℕ) {g : FactSet} where
   pub offset-shifted : p ≡ q → g ≡ cond (eqb k bias) (shifted f p k) (positive (shifted f p k) p)
-      → appliedOf g (Shift p k) ≡ applied sizes lengths f (PointerOffset p q k)
+      → appliedOf g (Shift p k) ≡ applied sizes spans f (PointerOffset p q k)
   unfolding applied factRules.factsAfter factRules.offsetFacts boundsRules.effect
   offset-shifted s e = rw (eq-eqb p q s, e)
 
   pub offset-copied : p ≢ q → g ≡ cond (eqb k bias) (equated (dropped f p) p q k) (positive (equated (dropped f p) p q k) p)
-      → appliedOf g (Copy p q) ≡ applied sizes lengths f (PointerOffset p q k)
+      → appliedOf g (Copy p q) ≡ applied sizes spans f (PointerOffset p q k)
   unfolding applied factRules.factsAfter factRules.offsetFacts boundsRules.effect
   offset-copied n e = rw (ne-eqb p q n, e)
 
@@ -168,25 +168,25 @@ unfolding conditionGiven factRules.conditionFacts
 given-facts f c e = given-relation (c .relation) f (c .left) (c .right) (c .offset) e
 
 -- What is planned for the facts' own answers is what is applied.
-planned-applied : (sizes lengths : List ℕ) (f : FactSet) (s : Simple) {a : Answers} → a ≡ answered f (statementAsked s)
-    → planned a sizes lengths f s ≡ applied sizes lengths f s
+planned-applied : (sizes spans : List ℕ) (f : FactSet) (s : Simple) {a : Answers} → a ≡ answered f (statementAsked s)
+    → planned a sizes spans f s ≡ applied sizes spans f s
 unfolding planned applied factRules.factsAfter boundsRules.effect
-planned-applied sizes lengths f (Literal x k) e = refl
-planned-applied sizes lengths f (AddConstant x y k) e = rw (sum-answered f y k e)
-planned-applied sizes lengths f (Arithmetic x y z op) e = refl
-planned-applied sizes lengths f (Null p) e = refl
-planned-applied sizes lengths f (Address p o) e = refl
-planned-applied sizes lengths f (PointerOffset p q k) e = refl
-planned-applied sizes lengths f (PointerIndex p q i) e = refl
-planned-applied sizes lengths f (Load x p i k) e = refl
-planned-applied sizes lengths f (Store p i k x) e = refl
-planned-applied sizes lengths f (Check c) e = ap (λ (g : FactSet). appliedOf g Keep) (given-facts f c e)
-planned-applied sizes lengths f (Declare p r) e = refl
+planned-applied sizes spans f (Literal x k) e = refl
+planned-applied sizes spans f (AddConstant x y k) e = rw (sum-answered f y k e)
+planned-applied sizes spans f (Arithmetic x y z op) e = refl
+planned-applied sizes spans f (Null p) e = refl
+planned-applied sizes spans f (Address p o) e = refl
+planned-applied sizes spans f (PointerOffset p q k) e = refl
+planned-applied sizes spans f (PointerIndex p q i) e = refl
+planned-applied sizes spans f (Load x p i k) e = refl
+planned-applied sizes spans f (Store p i k x) e = refl
+planned-applied sizes spans f (Check c) e = ap (λ (g : FactSet). appliedOf g Keep) (given-facts f c e)
+planned-applied sizes spans f (Declare p r) e = refl
 
 -- Where the questions were asked, the plan made for the answers, and the change made, the facts and the effect are the statement's.
-pub carried-out : (sizes lengths : List ℕ) (f : FactSet) (s : Simple) (r : Plan) {g : FactSet} {q : Questions} {a : Answers} → q ≡ statementAsked s
-    → a ≡ answered f q → Plans sizes lengths s a r → g ≡ changed f (r .change) → appliedOf g (r .effect) ≡ applied sizes lengths f s
-carried-out sizes lengths f s r b w p e = ap (λ (i : FactSet). appliedOf i (r .effect)) e ∙ (p f ∙ planned-applied sizes lengths f s (w ∙ ap (answered f) b))
+pub carried-out : (sizes spans : List ℕ) (f : FactSet) (s : Simple) (r : Plan) {g : FactSet} {q : Questions} {a : Answers} → q ≡ statementAsked s
+    → a ≡ answered f q → Plans sizes spans s a r → g ≡ changed f (r .change) → appliedOf g (r .effect) ≡ applied sizes spans f s
+carried-out sizes spans f s r b w p e = ap (λ (i : FactSet). appliedOf i (r .effect)) e ∙ (p f ∙ planned-applied sizes spans f s (w ∙ ap (answered f) b))
 
 -- The same of a condition.
 pub assumed : (f : FactSet) (c : Condition) (r : Change) {g : FactSet} {q : Questions} {a : Answers} → q ≡ conditionAsked c → a ≡ answered f q → Assumes c a r → g ≡ changed f r
@@ -227,17 +227,17 @@ module _ (T : List ℤ) (h : Sections) (a : ℕ) where
   pub read-ranged : (s : Simple) → statementAt T h a ≡ Read (Plain s) → InRange s
   read-ranged s e = simple-ranged T h (read-limits T h a (Plain s) e .0) s (read-typed T h a (Plain s) e)
 
--- An effect depends only on the sizes and lengths of the environment.
-pub effect-lengths : (E : Environment) (f : FactSet) (s : Simple) → effect (withLengths (E .sizes) (E .lengths)) f s ≡ effect E f s
+-- An effect depends only on the sizes and spans of the environment.
+pub effect-spans : (E : Environment) (f : FactSet) (s : Simple) → effect (withSpans (E .sizes) (E .spans)) f s ≡ effect E f s
 unfolding boundsRules.effect
-effect-lengths E f (Literal x k) = refl
-effect-lengths E f (AddConstant x y k) = refl
-effect-lengths E f (Arithmetic x y z op) = refl
-effect-lengths E f (Null p) = refl
-effect-lengths E f (Address p o) = refl
-effect-lengths E f (PointerOffset p q k) = refl
-effect-lengths E f (PointerIndex p q i) = refl
-effect-lengths E f (Load x p i k) = refl
-effect-lengths E f (Store p i k x) = refl
-effect-lengths E f (Check c) = refl
-effect-lengths E f (Declare p r) = refl
+effect-spans E f (Literal x k) = refl
+effect-spans E f (AddConstant x y k) = refl
+effect-spans E f (Arithmetic x y z op) = refl
+effect-spans E f (Null p) = refl
+effect-spans E f (Address p o) = refl
+effect-spans E f (PointerOffset p q k) = refl
+effect-spans E f (PointerIndex p q i) = refl
+effect-spans E f (Load x p i k) = refl
+effect-spans E f (Store p i k x) = refl
+effect-spans E f (Check c) = refl
+effect-spans E f (Declare p r) = refl

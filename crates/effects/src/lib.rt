@@ -186,12 +186,12 @@ fn index_effect(p: usize, q: usize) -> Effect
 // A statement of kinds 1 to 10 and 14, with the answers to what it asks.
 pub fn plan_statement(
     sizes: [u64; 16],
-    lengths: [u64; 16],
+    spans: [u64; 16],
     simple: Simple,
     answers: Answers,
 ) -> Plan
     requires { ⌜ InRange simple ⌝ }
-    ensures { λ r. ⌜ Plans sizes lengths simple answers r ⌝ }
+    ensures { λ r. ⌜ Plans sizes spans simple answers r ⌝ }
 {
     match simple {
         Simple::Literal { target, value } => Plan {
@@ -221,7 +221,7 @@ pub fn plan_statement(
             effect: Effect::Object {
                 target,
                 size: size_at(sizes, target),
-                length: length_at(lengths, object),
+                length: length_at(spans, object),
             },
         },
         Simple::PointerOffset {

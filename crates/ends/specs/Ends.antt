@@ -1,13 +1,13 @@
--- The ends of bounds as the run's loop has them: six numbers a pointer, then six a row, then the element size of each pointer (`boundsIn` and `sizeIn` of
--- checks/specs/Checked read them).
-use mathlib.Core.Bool.{cond}
+-- The ends of bounds as the run's loop has them: six numbers a pointer, then six a row, then the element size of each pointer, then its kind (`boundsIn`,
+-- `sizeIn` and `stringIn` of checks/specs/Checked read them).
+use mathlib.Core.Bool.{Bool, cond}
 use Prim.Native.Nat.{ℕ, zero, suc, _-_, _/_, _%_}
 use mathlib.Core.List.{List}
 use lib.Dec.{ltb}
 use lib.ListN.{getD}
 use Rattle.arrays.specs.Tabulate.{tabulate}
 use Rattle.variables.specs.declared.End.{End}
-use Rattle.rules.specs.BoundsRules.{declared, nothingKnown, inForce, elementSize}
+use Rattle.rules.specs.BoundsRules.{declared, nothingKnown, inForce, elementSize, isString}
 use Rattle.rules.specs.declared.Bounds.{Bounds}
 use Rattle.rules.specs.declared.Environment.{Environment}
 use Rattle.machine.specs.Machine.{endOf}
@@ -30,9 +30,16 @@ numbersOf n bs = tabulate n (λ i. boundsNumber (getD bs (i / 6) nothingKnown) (
 unfoldable pub placeBounds : Environment → List ℕ → ℕ → Bounds
 placeBounds E R j = cond (ltb j 16) (declared (inForce E R) j) (getD (E .rows) (j - 16) nothingKnown)
 
--- Point 10: then the element sizes of the 16 pointers.
+-- Point 7: 1 for a pointer of kind 2, else 0.
+abbrev pub markNumber : Bool → ℕ
+markNumber string = cond string 1 0
+
+-- Point 10: then the element sizes of the 16 pointers. Point 7: then their kinds.
+abbrev pub afterBounds : Environment → ℕ → ℕ
+afterBounds E i = cond (ltb i 496) (elementSize E (i - 480)) (markNumber (isString E (i - 496)))
+
 abbrev pub placeNumber : Environment → List ℕ → ℕ → ℕ
-placeNumber E R i = cond (ltb i 480) (boundsNumber (placeBounds E R (i / 6)) (i % 6)) (elementSize E (i - 480))
+placeNumber E R i = cond (ltb i 480) (boundsNumber (placeBounds E R (i / 6)) (i % 6)) (afterBounds E i)
 
 unfoldable pub endsOf : Environment → List ℕ → List ℕ
-endsOf E R = tabulate 496 (placeNumber E R)
+endsOf E R = tabulate 512 (placeNumber E R)

@@ -80,17 +80,20 @@ fn one_of(first: bool, x: u64, y: u64) -> u64
     y
 }
 
-// The numbers of each pointer's own bounds, those of the rows, the element sizes.
-pub fn lay_ends(environment: Environment) -> [u64; 496]
+// The numbers of each pointer's own bounds, those of the rows, the element sizes, and 1 for each pointer of kind 2.
+pub fn lay_ends(environment: Environment) -> [u64; 512]
     ensures { λ r. ⌜ r ≡ endsOf environment ownRows ⌝ }
 {
     let own = lay_own(environment);
     let laid = lay_rows(environment);
     let sizes = environment.sizes;
-    let mut ends = [0u64; 496];
-    for i in 0..496 {
+    let strings = environment.strings;
+    let mut ends = [0u64; 512];
+    for i in 0..512 {
         let bound = one_of(i < 96, own[i % 96], laid[(i + 288) % 384]);
-        ends[i] = one_of(i < 480, bound, sizes[i % 16]);
+        let mark = one_of(strings[i % 16], 1, 0);
+        let other = one_of(i < 496, sizes[i % 16], mark);
+        ends[i] = one_of(i < 480, bound, other);
     }
     ends
 }

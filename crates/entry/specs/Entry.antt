@@ -1,15 +1,15 @@
--- Causes of refusal 10 to 12: "A run checks the routine first, then 10 to 12 in the table's row order."
-use Prim.Native.Nat.{ℕ, zero, suc, _+_, _*_}
-use mathlib.Core.Bool.{Bool, true, false, not, _&&_, cond}
+-- Causes of refusal 10 to 12 and 16: "A run checks the routine first, then 10 to 12 in the table's row order", then 16.
+use Prim.Native.Nat.{ℕ, zero, suc, _+_, _*_, _-_}
+use mathlib.Core.Bool.{Bool, true, false, not, _&&_, cond, _||_}
 use mathlib.Core.List.{List, [], _∷_, _++_}
 use lib.Dec.{leb, eqb}
 use lib.ListN.{length, getD}
 use Rattle.refusals.specs.declared.Refusal.{Refusal}
-use Rattle.refusals.specs.declared.Refusal.the-variants.{MemorySize, DirectoryPair, EntryLengths, EntryValue}
+use Rattle.refusals.specs.declared.Refusal.the-variants.{MemorySize, DirectoryPair, EntryLengths, EntryValue, LastCell}
 use Rattle.sections.specs.declared.Sections.{Sections}
-use Rattle.rules.specs.BoundsRules.{isPointer, objectLength}
+use Rattle.rules.specs.BoundsRules.{isPointer, objectLength, isTerminated}
 use Rattle.rules.specs.declared.Environment.{Environment}
-use Rattle.machine.specs.Machine.{value, boundsTrue}
+use Rattle.machine.specs.Machine.{value, high, boundsTrue}
 
 -- "memory above 16,777,216 cells, wrong number of pairs": one pair per object.
 unfoldable pub memoryRight : Sections → List ℕ → List ℕ → Bool
@@ -33,6 +33,10 @@ lengthsRight h vs os = eqb (length vs) (h .variables) && eqb (length os) (h .var
 unfoldable pub entryRight : Environment → List ℕ → List ℕ → List ℕ → ℕ → Bool
 entryRight E D vs os v = cond (isPointer E v && not (eqb (value vs v) 0)) (boundsTrue E D vs os v) (eqb (getD os v 0) 0)
 
+-- Point 7: "It refuses with 16, after 12, when such a last cell is not 0 at entry": the last cell of a terminated object.
+unfoldable pub lastRight : Environment → List ℕ → List ℕ → ℕ → Bool
+lastRight E D cs o = not (isTerminated E o) || eqb (getD cs (high D o - 1) 0) 0
+
 abbrev pub consUnless : Bool → Refusal → List Refusal → List Refusal
 consUnless true r rs = rs
 consUnless false r rs = r ∷ rs
@@ -48,4 +52,4 @@ entryRefusals h E D cs vs os =
     consUnless (memoryRight h D cs) MemorySize
     (failures (pairRight E D cs) DirectoryPair (h .objects) 0
     ++ consUnless (lengthsRight h vs os) EntryLengths
-    (failures (entryRight E D vs os) EntryValue (h .variables) 0))
+    (failures (entryRight E D vs os) EntryValue (h .variables) 0 ++ failures (lastRight E D cs) LastCell (h .objects) 0))

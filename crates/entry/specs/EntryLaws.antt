@@ -1,7 +1,7 @@
 -- Laws of the entry, in the words of the code.
 use Prim.Native.Nat.{ℕ, zero, suc, _+_, _-_, _*_, _<_, _≤_}
 use mathlib.Core.Path.{_≡_, refl, sym, _∙_}
-use mathlib.Core.Bool.{Bool, true, false, _&&_}
+use mathlib.Core.Bool.{Bool, true, false, _&&_, not, _||_}
 use mathlib.Core.List.{List, [], _∷_, _++_}
 use native.Mathlib.Numerals.{add-one, sub-one}
 use native.Mathlib.Omega.{arith}
@@ -10,11 +10,12 @@ use lib.Dec.{leb, eqb}
 use lib.ListN.{length, getD}
 use Rattle.sums.specs.Numbers.{bias}
 use Rattle.refusals.specs.declared.Refusal.{Refusal}
-use Rattle.refusals.specs.declared.Refusal.the-variants.{MemorySize, DirectoryPair, EntryLengths, EntryValue}
+use Rattle.refusals.specs.declared.Refusal.the-variants.{MemorySize, DirectoryPair, EntryLengths, EntryValue, LastCell}
 use Rattle.sections.specs.declared.Sections.{Sections}
+use Rattle.rules.specs.BoundsRules.{isString, isTerminated, upperLimit}
 use Rattle.rules.specs.declared.Environment.{Environment}
 use Rattle.machine.specs.Machine.{originHolds}
-use Rattle.entry.specs.Entry.{memoryRight, endBefore, pairRight, lengthsRight, entryRight, failures, entryRefusals}
+use Rattle.entry.specs.Entry.{memoryRight, endBefore, pairRight, lengthsRight, entryRight, failures, entryRefusals, lastRight}
 use Rattle.entry.specs.Entered.{entered}
 use Rattle.entry.specs.declared.EntryVerdict.{EntryVerdict}
 use Rattle.entry.specs.declared.EntryVerdict.the-variants.{Begun, Refused}
@@ -58,20 +59,21 @@ pub end-before-first : (D : List ℕ) (o : ℕ) → o ≡ 0 → 1 ≡ endBefore 
 unfolding endBefore
 end-before-first D o e = rw e
 
-pub origin-none : (D : List ℕ) (o l u : ℕ) → o ≡ 0 → false ≡ originHolds D o l u
+pub origin-none : (E : Environment) (D : List ℕ) (p o l u : ℕ) → o ≡ 0 → false ≡ originHolds E D p o l u
 unfolding originHolds
-origin-none D o l u e = rw e
+origin-none E D p o l u e = rw e
 
-pub origin-past : (D : List ℕ) (o l u : ℕ) → (o ≡ 0 → ⊥) → length D ≤ 2 * (o - 1) + 1 → false ≡ originHolds D o l u
+pub origin-past : (E : Environment) (D : List ℕ) (p o l u : ℕ) → (o ≡ 0 → ⊥) → length D ≤ 2 * (o - 1) + 1 → false ≡ originHolds E D p o l u
 unfolding originHolds
-origin-past D zero l u p h = absurd (p refl)
-origin-past D (suc o) l u p h = let e : length D ≤ 2 * o + 1 = rw (sub-one (suc o)) at h in rw (le-ltb (2 * o + 1) (length D) e)
+origin-past E D p zero l u q h = absurd (q refl)
+origin-past E D p (suc o) l u q h = let e : length D ≤ 2 * o + 1 = rw (sub-one (suc o)) at h in rw (le-ltb (2 * o + 1) (length D) e)
 
-pub origin-some : (D : List ℕ) (o l u : ℕ) → (o ≡ 0 → ⊥) → 2 * (o - 1) + 1 < length D
-    → (leb (getD D (2 * (o - 1)) 0 + bias) l && leb u (getD D (2 * (o - 1)) 0 + getD D (2 * (o - 1) + 1) 0 + bias)) ≡ originHolds D o l u
+pub origin-some : (E : Environment) (D : List ℕ) (p o l u : ℕ) → (o ≡ 0 → ⊥) → 2 * (o - 1) + 1 < length D
+    → ((not (isString E p) || isTerminated E (o - 1)) && leb (getD D (2 * (o - 1)) 0 + bias) l
+    && leb u (upperLimit (isTerminated E (o - 1)) (getD D (2 * (o - 1)) 0 + getD D (2 * (o - 1) + 1) 0) + bias)) ≡ originHolds E D p o l u
 unfolding originHolds
-origin-some D zero l u p h = absurd (p refl)
-origin-some D (suc o) l u p h = let e : 2 * o + 1 < length D = rw (sub-one (suc o)) at h in rw (sub-one (suc o), lt-ltb (2 * o + 1) (length D) e)
+origin-some E D p zero l u q h = absurd (q refl)
+origin-some E D p (suc o) l u q h = let e : 2 * o + 1 < length D = rw (sub-one (suc o)) at h in rw (sub-one (suc o), lt-ltb (2 * o + 1) (length D) e)
 
 -- ---- the first that fails
 
@@ -119,6 +121,14 @@ module _ (h : Sections) (E : Environment) (D cs vs os : List ℕ) where
       unfolding entryRefusals entered
       enter-lengths l = rw (m, begun-none pairs p, l)
 
-      pub enter-values : (r : EntryVerdict) → lengthsRight h vs os ≡ true → r ≡ entered (failures (entryRight E D vs os) EntryValue (h .variables) 0) → r ≡ entered (entryRefusals h E D cs vs os)
-      unfolding entryRefusals
-      enter-values r l e = rw (m, begun-none pairs p, l) e
+      module _ (l : lengthsRight h vs os ≡ true) where
+        abbrev values : List Refusal
+        values = failures (entryRight E D vs os) EntryValue (h .variables) 0
+
+        pub enter-values : (r : EntryVerdict) (v : Refusal) → r ≡ entered values → r ≡ Refused v → r ≡ entered (entryRefusals h E D cs vs os)
+        unfolding entryRefusals
+        enter-values r v e g = rw (m, begun-none pairs p, l) (e ∙ refused-first values _ v (sym e ∙ g))
+
+        pub enter-last : (r : EntryVerdict) → entered values ≡ Begun → r ≡ entered (failures (lastRight E D cs) LastCell (h .objects) 0) → r ≡ entered (entryRefusals h E D cs vs os)
+        unfolding entryRefusals
+        enter-last r b e = rw (m, begun-none pairs p, l, begun-none values b) e

@@ -1,18 +1,20 @@
-// Causes 10 to 12: the memory directory, the lengths of values and origins, and the entry values.
+// Causes 10 to 12 and 16: the memory directory, the lengths of values and origins, the entry values, and the last cells of terminated objects.
 use crate::EntryVerdict;
 use crate::entry_bounds::bounds_true;
 use lookups::is_pointer;
+use lookups::is_terminated;
 use lookups::length_at;
 use machine::value_at;
 use refusals::Refusal;
 use rules::Environment;
+use rules::upper_limit;
 use sections::Sections;
 ghost use mathlib.Core.Path.{_≡_};
 ghost use Prim.Native.Nat.{_*_, _<_};
 ghost use lib.ListN.{length};
-ghost use Rattle.refusals.specs.declared.Refusal.the-variants.{DirectoryPair, EntryValue};
+ghost use Rattle.refusals.specs.declared.Refusal.the-variants.{DirectoryPair, EntryValue, LastCell};
 ghost use Rattle.rules.specs.Ranges.{Sized};
-ghost use Rattle.entry.specs.Entry.{memoryRight, endBefore, pairRight, lengthsRight, entryRight, failures, entryRefusals};
+ghost use Rattle.entry.specs.Entry.{memoryRight, endBefore, pairRight, lengthsRight, entryRight, lastRight, failures, entryRefusals};
 ghost use Rattle.entry.specs.Entered.{entered};
 
 // The most cells that may be lent.
@@ -118,7 +120,39 @@ fn check_values(
     EntryVerdict::Begun
 }
 
-// Causes 10 to 12 in their order.
+// The last cell of an object that is terminated is 0.
+fn last_right(environment: Environment, directory: &[u32], cells: &[u32], o: usize) -> bool
+    requires { ⌜ 2 * o < length (now directory) ⌝ }
+    ensures { λ r. ⌜ r ≡ lastRight environment (now (directory .entry)) (now (cells .entry)) o ⌝ }
+{
+    let terminated = environment.terminated;
+    let high = value_at(directory, 2 * o) + value_at(directory, 2 * o + 1);
+    let last = upper_limit(true, high);
+    !is_terminated(terminated, o) | (value_at(cells, last as usize) == 0)
+}
+
+// Cause 16: the lowest terminated object whose last cell is not 0.
+fn check_last(
+    sections: Sections,
+    environment: Environment,
+    directory: &[u32],
+    cells: &[u32],
+) -> EntryVerdict
+    requires { ⌜ length (now directory) ≡ 2 * sections .objects ⌝ }
+    ensures { λ r. ⌜ r ≡ entered (failures (lastRight environment (now (directory .entry)) (now (cells .entry))) LastCell (sections .objects) 0) ⌝ }
+{
+    let count = sections.objects;
+    let mut o = 0;
+    while o < count {
+        if !last_right(environment, directory, cells, o) {
+            return EntryVerdict::Refused(Refusal::LastCell(o));
+        }
+        o += 1;
+    }
+    EntryVerdict::Begun
+}
+
+// Causes 10 to 12 and 16 in their order.
 pub fn enter(
     sections: Sections,
     environment: Environment,
@@ -140,5 +174,9 @@ pub fn enter(
     if !lengths_right(sections, values, origins) {
         return EntryVerdict::Refused(Refusal::EntryLengths);
     }
-    check_values(sections, environment, directory, values, origins)
+    let entries = check_values(sections, environment, directory, values, origins);
+    let EntryVerdict::Begun = entries else {
+        return entries;
+    };
+    check_last(sections, environment, directory, cells)
 }

@@ -1,10 +1,13 @@
 // Whether declared bounds are true at entry. Ends are whole numbers: a constant of any size is compared without a sum that wraps.
 use ends::end_of;
 use lookups::bounds_at;
+use lookups::is_string;
+use lookups::is_terminated;
 use lookups::size_at;
 use machine::scaled;
 use machine::value_at;
 use rules::Environment;
+use rules::upper_limit;
 use sums::BIAS;
 use variables::End;
 ghost use mathlib.Core.Path.{_≡_};
@@ -40,7 +43,7 @@ fn ends_by(values: &[u32], size: u64, e: End, high: u64) -> bool
     sum + e.constant <= high
 }
 
-// The pointer is null, or its origin is an object of the directory and its ends lie there.
+// The pointer is null, or its origin is an object of the directory, a terminated one for a pointer of kind 2, and its ends lie there, up to its upper limit.
 pub(crate) fn bounds_true(
     environment: Environment,
     directory: &[u32],
@@ -63,13 +66,18 @@ pub(crate) fn bounds_true(
         return false;
     }
     let low = value_at(directory, pair);
-    let high = low + value_at(directory, pair + 1);
+    let end = low + value_at(directory, pair + 1);
+    let strings = environment.strings;
+    let terminated = environment.terminated;
     let declared = environment.declared;
     let sizes = environment.sizes;
+    let ended = is_terminated(terminated, origin - 1);
+    let high = upper_limit(ended, end);
     let size = size_at(sizes, p);
     let bounds = bounds_at(declared, p);
     let lower = bounds.lower;
     let upper = bounds.upper;
-    starts_by(values, size, end_of(lower), low + BIAS)
+    (!is_string(strings, p) | ended)
+        & starts_by(values, size, end_of(lower), low + BIAS)
         & ends_by(values, size, end_of(upper), high + BIAS)
 }

@@ -32,7 +32,7 @@ pub record Forced (E : Environment) (R : List ℕ) (F : Force) : Type 0 where
 pub record Framed (E : Environment) (r : Frame) : Type 0 where
   pub pointers : r .pointers ≡ E .pointers
   pub sizes : r .sizes ≡ E .sizes
-  pub lengths : r .lengths ≡ E .lengths
+  pub spans : r .spans ≡ E .spans
 
 -- A kind 14 at a: its own 8, then the general one; where there is none, its row is in force.
 pub record DeclaresRow (E : Environment) (f : FactSet) (R : List ℕ) (p r a : ℕ) (d : Declared) : Type 0 where

@@ -110,7 +110,7 @@ module _ {E : Environment} (f : FactSet) {F : Force} (p r a : ℕ) (o : Forced E
 pub own-seen : (E : Environment) → length (E .declared) ≡ 16 → seenOf E ≡ seenOf (inForce E ownRows)
 unfolding rowBound
 own-seen E l =
-    ap (λ (D : List Bounds). seenOf (record { pointers = E .pointers; sizes = E .sizes; declared = D; lengths = E .lengths; rows = E .rows })) (sym whole)
+    ap (λ (D : List Bounds). seenOf (record { pointers = E .pointers; strings = E .strings; sizes = E .sizes; declared = D; lengths = E .lengths; terminated = E .terminated; spans = E .spans; rows = E .rows })) (sym whole)
   where
     each : (i : ℕ) → i < 16 → rowBound E (getD ownRows i 0) i ≡ getD (E .declared) i nothingKnown
     each i h = rw (own-row i) refl

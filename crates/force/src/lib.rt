@@ -23,12 +23,12 @@ ghost use Rattle.rules.specs.Verdict.{environmentOf};
 ghost use Rattle.touched.specs.Touched.{seenOf};
 ghost use Rattle.force.specs.Force.{Framed, Forced, DeclaresRow};
 
-// What a statement's walk needs of what the table declares, whatever the rows: which variables are pointers, their element sizes, and the lengths of the
-// objects.
+// What a statement's walk needs of what the table declares, whatever the rows: which variables are pointers, their element sizes, and the upper
+// limits in the objects.
 pub struct Frame {
     pub pointers: [bool; 17],
     pub sizes: [u64; 16],
-    pub lengths: [u64; 16],
+    pub spans: [u64; 16],
 }
 
 // The rows in force, what is seen of the environment in force, and the variables that its declared bounds name.
@@ -57,11 +57,11 @@ pub fn frame_of(environment: Environment) -> Frame
 {
     let pointers = environment.pointers;
     let sizes = environment.sizes;
-    let lengths = environment.lengths;
+    let spans = environment.spans;
     Frame {
         pointers,
         sizes,
-        lengths,
+        spans,
     }
 }
 

@@ -24,14 +24,13 @@ use Rattle.rules.specs.FactSets.{FactSets}
 use Rattle.rules.specs.ByChains.{byChains, Decided}
 use Rattle.rules.specs.declared.Environment.{Environment}
 use Rattle.machine.specs.Machine.{Failing, none, fails, boundsTrue, Status, going, stopped, stuck, Point, halted, start, pointAfter}
-use Rattle.machine.specs.Points.{inBundle, failingAt, accessFrom, AccessInside, Outside}
+use Rattle.machine.specs.Points.{inBundle, failingAt, accessFrom, AccessInside, Outside, LastZero}
 use Rattle.entry.specs.Entry.{entryRefusals}
 use Rattle.stops.specs.Answers.{Answer, reads}
 use Rattle.stops.specs.Answers as says
 use Rattle.stops.specs.declared.Outcome.{Outcome}
 
--- ---- what is lent and what is left
--- What a call of `run` is lent.
+-- ---- what a call of `run` is lent and what it leaves
 pub record Lent : Type 0 where
   pub table : List ℤ
   pub directory : List ℕ
@@ -50,7 +49,7 @@ abbrev pub entryFaults : Form → Lent → List Refusal
 entryFaults (Refused r) l = []
 entryFaults (WellFormed h) l = entryRefusals h (environmentOf (l .table) h) (l .directory) (l .cells) (l .values) (l .origins)
 
--- "A run checks the routine first, then 10 to 12": the faults in that order, of which the first counts. "A run is begun when no cause refuses it."
+-- "A run checks the routine first, then 10 to 12", then 16: the faults in that order, of which the first counts. "A run is begun when no cause refuses it."
 unfoldable pub runFaults : FactSets → Lent → List Refusal
 runFaults S l = also (faults S (l .table)) (entryFaults (formOf (l .table)) l)
 
@@ -89,8 +88,7 @@ module _ (l : Lent) (h : Sections) where
   abbrev pub answerAt : ℕ → Answer
   answerAt t = answerOf h (pointOf t .status) (pointOf t .steps) (pointOf t .due)
 
-  -- Demand 3 at the point after t steps of a run with the allowance `limit` whose answer reads as `a`: all but its sentence on cells, values, statement
-  -- and steps, which is `EndsAt`.
+  -- Demand 3 after t steps of a run with the allowance `limit` whose answer reads as `a`. (Its sentence on cells, values, statement and steps is `EndsAt`.)
   pub record AtPoint (limit : ℕ) (a : Answer) (t : ℕ) : Type 0 where
     -- "Outside a bundle every declared bound is true."
     pub bounds : inBundle (tree (l .table) h) (pointOf t .due) ≡ false
@@ -99,6 +97,8 @@ module _ (l : Lent) (h : Sections) where
     pub accesses : (s : ℕ) → s < t → AccessInside (l .directory) (accessFrom (l .table) h (environmentOf (l .table) h) (pointOf s .status) (pointOf s))
     -- Demand 1: no cell outside the objects has changed.
     pub untouched : (i : ℕ) → Outside (l .directory) (h .objects) i → getD (pointOf t .cells) i 0 ≡ getD (l .cells) i 0
+    -- Document 02, point 7: "At every point of a run the last cell of each terminated object is 0."
+    pub last-zero : LastZero (environmentOf (l .table) h) (l .directory) (h .objects) (pointOf t .cells)
     -- The plain machine has had a step at each point so far (that it has the next one is `goes-on`).
     pub has-step : pointOf t .status ≢ stuck
     -- A run that goes on has made t steps.

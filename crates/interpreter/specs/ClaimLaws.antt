@@ -111,7 +111,7 @@ spent-steps h (stopped k) steps due n a e = let z : _≡_ {A = ℕ} 0 1 = cc in 
 spent-steps h stuck steps due n a e = let z : _≡_ {A = ℕ} 0 1 = cc in never z
 
 -- What the code's answer at a point reads as.
-reads-shown : (h : Sections) (s : Status) (steps due : ℕ) → ((n : ℕ) → s ≡ stopped n → (1 ≤ n) × (n ≤ 5)) → reads (outcomeShown h s steps due) ≡ answerOf h s steps due
+reads-shown : (h : Sections) (s : Status) (steps due : ℕ) → ((n : ℕ) → s ≡ stopped n → (1 ≤ n) × (n ≤ 6)) → reads (outcomeShown h s steps due) ≡ answerOf h s steps due
 reads-shown h going steps due five = go (ltb due (h .statements))
   where
     go : (b : Bool) → reads (cond b (Spent steps due) (Done steps)) ≡ cond b (says.spent steps due) (says.done steps)
@@ -241,6 +241,7 @@ module _ (T : List ℤ) (h : Sections) (formed : formOf T ≡ WellFormed h) (acc
     bounds = right t .bounds;
     accesses = λ s b. allowed-inside D (length (point s .cells)) (accessFrom T h E (point s .status) (point s)) (right s .access-allowed);
     untouched = untouched t;
+    last-zero = right t .last-zero;
     has-step = unstuck t;
     counted = λ d. counted t (d .0) (d .1);
     finished = finished limit t l;

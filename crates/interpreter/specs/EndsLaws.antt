@@ -4,11 +4,11 @@ use mathlib.Core.Path.{_≡_, refl, ap, ap₂, _∙_, sym}
 use mathlib.Core.Logic.{_≢_}
 use native.Mathlib.Decide.{ℕ-discrete}
 use native.Mathlib.Numerals.{add-one}
-use mathlib.Core.Bool.{Bool, true, false, _||_, cond}
+use mathlib.Core.Bool.{Bool, true, false, _||_, cond, not, _&&_}
 use mathlib.Core.List.{List, [], _∷_}
 use native.Mathlib.Omega.{arith}
 use borrow.Author.Tests.{lt-ltb, le-ltb, ltb-true, ltb-false}
-use lib.Dec.{leb, ltb, eqb}
+use lib.Dec.{ltb, eqb}
 use lib.IntN.{ℤ}
 use lib.ListN.{length, getD, List·getD-eq-default, set}
 use lib.Seq.{getD-set-same, getD-set-other}
@@ -29,24 +29,24 @@ use Rattle.variables.specs.declared.Variable.the-variants.{Integer, Pointer}
 use Rattle.variables.specs.declared.RowRead.{RowRead}
 use Rattle.variables.specs.declared.VariableRead.{VariableRead}
 use Rattle.variables.specs.declared.VariableRead.the-variants.{Read, Unread}
-use Rattle.rules.specs.BoundsRules.{nothingKnown, declared, rowBound, inForce, rowsAfter, elementSize, sized}
+use Rattle.rules.specs.BoundsRules.{nothingKnown, declared, rowBound, inForce, rowsAfter, elementSize, sized, isString}
 use Rattle.rules.specs.BoundsTrue.{declared-in-force}
 use Rattle.rules.specs.EnvironmentLaws.{sizes-small}
 use Rattle.rules.specs.Verdict.{boundsOf, environmentOf, rowBounds}
 use Rattle.rules.specs.declared.KnownEnd.the-variants.{Unknown}
 use Rattle.rules.specs.declared.Bounds.{Bounds}
 use Rattle.rules.specs.declared.Environment.{Environment}
-use Rattle.machine.specs.Machine.{value, endValue, endOf, lowerEnd, upperEnd, address, none, firstOf, accessFailing, failing, indexed, arithmeticFailing}
-use Rattle.ends.specs.Ends.{endNumber, boundsNumber, endsOf, placeBounds, placeNumber}
-use Rattle.checks.specs.Checked.{boundsIn, declaredIn, sizeIn}
+use Rattle.machine.specs.Machine.{value, endValue, endOf, lowerEnd, upperEnd, address, none, firstOf, accessFailing, loadFailing, storeFailing, failing, indexed, arithmeticFailing, Failing, beyond, terminatorFailing}
+use Rattle.ends.specs.Ends.{endNumber, boundsNumber, endsOf, placeBounds, afterBounds, placeNumber, markNumber}
+use Rattle.checks.specs.Checked.{boundsIn, declaredIn, sizeIn, stringIn}
 use Rattle.checks.specs.CheckLaws.{size-in}
 use Rattle.steps.specs.Bare.{copied, endsAfter}
 use Rattle.steps.specs.CopiedLaws.{copied-long, copied-inside, copied-outside}
 use Rattle.variables.specs.declared.RowRead.the-variants as row
 
-pub ends-long : (E : Environment) (R : List ℕ) → length (endsOf E R) ≡ 496
+pub ends-long : (E : Environment) (R : List ℕ) → length (endsOf E R) ≡ 512
 unfolding endsOf
-ends-long E R = length-tabulate 496 (placeNumber E R)
+ends-long E R = length-tabulate 512 (placeNumber E R)
 
 -- The number at a place.
 number-at : (E : Environment) (R : List ℕ) (i q j : ℕ) → i ≡ 6 * q + j → j < 6 → q < 80 → getD (endsOf E R) i 0 ≡ boundsNumber (placeBounds E R q) j
@@ -54,22 +54,42 @@ unfolding endsOf
 number-at E R i q j e l b =
     let d : i / 6 ≡ q = omega arith in
     let m : i % 6 ≡ j = omega arith in
-    getD-tabulate 496 (placeNumber E R) i 0 (omega arith)
-    ∙ ap (λ (t : Bool). cond t (boundsNumber (placeBounds E R (i / 6)) (i % 6)) (elementSize E (i - 480))) (lt-ltb i 480 (omega arith))
+    getD-tabulate 512 (placeNumber E R) i 0 (omega arith)
+    ∙ ap (λ (t : Bool). cond t (boundsNumber (placeBounds E R (i / 6)) (i % 6)) (afterBounds E i)) (lt-ltb i 480 (omega arith))
     ∙ ap₂ (λ (x k : ℕ). boundsNumber (placeBounds E R x) k) d m
+
+-- The numbers after those of the bounds, the same for all rows.
+after-bounds : (E : Environment) (R : List ℕ) (i : ℕ) → 480 ≤ i → i < 512 → getD (endsOf E R) i 0 ≡ afterBounds E i
+unfolding endsOf
+after-bounds E R i l u =
+    getD-tabulate 512 (placeNumber E R) i 0 u
+    ∙ ap (λ (t : Bool). cond t (boundsNumber (placeBounds E R (i / 6)) (i % 6)) (afterBounds E i)) (le-ltb i 480 l)
 
 -- Point 10: the element size of a pointer.
 size-number : (E : Environment) (R : List ℕ) (p : ℕ) → p < 16 → sizeIn (endsOf E R) p ≡ elementSize E p
-unfolding endsOf
 size-number E R p l =
     let e : 480 + p - 480 ≡ p = omega arith in
-    getD-tabulate 496 (placeNumber E R) (480 + p) 0 (omega arith)
-    ∙ ap (λ (t : Bool). cond t (boundsNumber (placeBounds E R ((480 + p) / 6)) ((480 + p) % 6)) (elementSize E (480 + p - 480)))
-    (le-ltb (480 + p) 480 (omega arith))
+    after-bounds E R (480 + p) (omega arith) (omega arith)
+    ∙ ap (λ (t : Bool). cond t (elementSize E (480 + p - 480)) (markNumber (isString E (480 + p - 496)))) (lt-ltb (480 + p) 496 (omega arith))
     ∙ ap (elementSize E) e
 
 size-same : (E : Environment) (R : List ℕ) (p : ℕ) → p < 16 → elementSize (declaredIn (endsOf E R)) p ≡ elementSize E p
 size-same E R p l = size-in (endsOf E R) p l ∙ size-number E R p l
+
+-- Point 7: the kind of a pointer.
+mark-read : (b : Bool) → eqb (markNumber b) 1 ≡ b
+mark-read true = refl
+mark-read false = refl
+
+string-same : (E : Environment) (R : List ℕ) (p : ℕ) → p < 16 → isString (declaredIn (endsOf E R)) p ≡ isString E p
+unfolding declaredIn
+string-same E R p few =
+    let e : 496 + p - 496 ≡ p = omega arith in
+    getD-tabulate 16 (stringIn (endsOf E R)) p false few
+    ∙ ap (λ (n : ℕ). eqb n 1) (after-bounds E R (496 + p) (omega arith) (omega arith)
+    ∙ ap (λ (t : Bool). cond t (elementSize E (496 + p - 480)) (markNumber (isString E (496 + p - 496)))) (le-ltb (496 + p) 496 (omega arith)))
+    ∙ mark-read (isString E (496 + p - 496))
+    ∙ ap (isString E) e
 
 place-pointer : (E : Environment) (R : List ℕ) (p : ℕ) → p < 16 → placeBounds E R p ≡ declared (inForce E R) p
 unfolding placeBounds
@@ -104,14 +124,15 @@ module _ (E : Environment) (R vs : List ℕ) (p : ℕ) (few : p < 16) where
       ∙ sum-same _ _ _ _ _ _ _ _ (size-same E R p few) (number (6 * p + 3) 3 refl (omega arith)) (number (6 * p + 3 + 1) 4 (omega arith) (omega arith))
       (number (6 * p + 3 + 2) 5 (omega arith) (omega arith))
 
-  access-same : (a : ℕ) → accessFailing (declaredIn (endsOf E R)) vs p a ≡ accessFailing (inForce E R) vs p a
+  access-same : (a : ℕ) (rest : Failing) → accessFailing (declaredIn (endsOf E R)) vs p a rest ≡ accessFailing (inForce E R) vs p a rest
   unfolding accessFailing
-  access-same a = ap₂ (λ (l u : ℕ). firstOf (eqb (value vs p) 0) 2 (firstOf (ltb a l || leb u a) 3 none)) lower-same upper-same
+  access-same a rest =
+      ap₂ (λ (l u : ℕ). firstOf (eqb (value vs p) 0) 2 (firstOf (ltb a l || beyond (isString (declaredIn (endsOf E R)) p) u a) 3 rest)) lower-same upper-same
+      ∙ ap (λ (b : Bool). firstOf (eqb (value vs p) 0) 2 (firstOf (ltb a (lowerEnd (inForce E R) vs p) || beyond b (upperEnd (inForce E R) vs p) a) 3 rest)) (string-same E R p few)
 
-address-same : (E : Environment) (R vs : List ℕ) (p i k : ℕ) → p < 16
-    → accessFailing (declaredIn (endsOf E R)) vs p (address (declaredIn (endsOf E R)) vs p i k) ≡ accessFailing (declaredIn (endsOf E R)) vs p
-    (address E vs p i k)
-address-same E R vs p i k few = ap (λ (s : ℕ). accessFailing (declaredIn (endsOf E R)) vs p (value vs p + s * value vs i + k)) (size-same E R p few)
+  terminator-same : (a x : ℕ) → terminatorFailing (declaredIn (endsOf E R)) vs p a x ≡ terminatorFailing (inForce E R) vs p a x
+  unfolding terminatorFailing
+  terminator-same a x = ap (λ (u : ℕ). firstOf (eqb a u && not (eqb x 0)) 6 none) upper-same
 
 -- Results by the laid-out sizes are those by the declared ones.
 pub address-laid : (E : Environment) (R vs : List ℕ) (p i k : ℕ) → p < 16 → address (declaredIn (endsOf E R)) vs p i k ≡ address E vs p i k
@@ -132,9 +153,13 @@ failing-same T h E R vs (PointerOffset p q k) l t = refl
 failing-same T h E R vs (PointerIndex p q i) l t =
     ap (λ (s : ℕ). arithmeticFailing (value vs q) (value vs q + s * value vs i + bias)) (size-same E R q (omega (arith, t .source .below, l .variables)))
 failing-same T h E R vs (Load x p i k) l t =
-    let few : p < 16 = omega (arith, t .pointer .below, l .variables) in address-same E R vs p i k few ∙ access-same E R vs p few (address E vs p i k)
+    let few : p < 16 = omega (arith, t .pointer .below, l .variables) in
+    ap (λ (a : ℕ). loadFailing (declaredIn (endsOf E R)) vs p a) (address-laid E R vs p i k few) ∙ access-same E R vs p few (address E vs p i k) none
 failing-same T h E R vs (Store p i k x) l t =
-    let few : p < 16 = omega (arith, t .pointer .below, l .variables) in address-same E R vs p i k few ∙ access-same E R vs p few (address E vs p i k)
+    let few : p < 16 = omega (arith, t .pointer .below, l .variables) in
+    ap (λ (a : ℕ). storeFailing (declaredIn (endsOf E R)) vs p a (value vs x)) (address-laid E R vs p i k few)
+    ∙ access-same E R vs p few (address E vs p i k) _
+    ∙ ap (accessFailing (inForce E R) vs p (address E vs p i k)) (terminator-same E R vs p few (address E vs p i k) (value vs x))
 failing-same T h E R vs (Test c) l t = refl
 failing-same T h E R vs (Declare p r) l t = refl
 
@@ -188,16 +213,12 @@ ends-declared E R p r l b e =
         ∙ ap (λ (x : Bounds). boundsNumber x (i % 6)) (sym (place-other E R p (r + 1) (i / 6) n))
         ∙ sym (number-at E (set R p (r + 1)) i (i / 6) (i % 6) g k q)
 
-    by-range : (i : ℕ) → i < 496 → (b : Bool) → ltb i 480 ≡ b → getD (copied 6 p r (endsOf E R)) i 0 ≡ getD (endsOf E (set R p (r + 1))) i 0
+    -- The sizes and the kinds of the pointers stay.
+    by-range : (i : ℕ) → i < 512 → (b : Bool) → ltb i 480 ≡ b → getD (copied 6 p r (endsOf E R)) i 0 ≡ getD (endsOf E (set R p (r + 1))) i 0
     by-range i m true q = by-place i (ltb-true i 480 q) (ℕ-discrete (i / 6) p)
     by-range i m false q =
         let s : 480 ≤ i = ltb-false i 480 q in
-        let g : 480 + (i - 480) ≡ i = omega arith in
-        copied-outside p r (endsOf E R) 6 i (λ j c z. omega arith)
-        ∙ (ap (λ (n : ℕ). getD (endsOf E R) n 0) (sym g)
-        ∙ (size-number E R (i - 480) (omega arith)
-        ∙ (sym (size-number E (set R p (r + 1)) (i - 480) (omega arith))
-        ∙ ap (λ (n : ℕ). getD (endsOf E (set R p (r + 1))) n 0) g)))
+        copied-outside p r (endsOf E R) 6 i (λ j c z. omega arith) ∙ after-bounds E R i s m ∙ sym (after-bounds E (set R p (r + 1)) i s m)
 
 pub ends-after : (T : List ℤ) (h : Sections) (E : Environment) (R : List ℕ) (s : Simple) → Limits h → SimpleTyped T h s → length R ≡ 16
     → endsAfter s (endsOf E R) ≡ endsOf E (rowsAfter s R)
@@ -289,25 +310,36 @@ module _ (T : List ℤ) (h : Sections) where
 
   pub ends-small : Limits h → (R : List ℕ) (i : ℕ) → getD (endsOf (environmentOf T h) R) i 0 < 2 ^ 34
   unfolding endsOf
-  ends-small l R i = go (ltb i 496) (ltb-true i 496) (ltb-false i 496)
+  ends-small l R i = go (ltb i 512) (ltb-true i 512) (ltb-false i 512)
     where
-      go : (b : Bool) → (b ≡ true → i < 496) → (b ≡ false → 496 ≤ i) → getD (endsOf (environmentOf T h) R) i 0 < 2 ^ 34
+      go : (b : Bool) → (b ≡ true → i < 512) → (b ≡ false → 512 ≤ i) → getD (endsOf (environmentOf T h) R) i 0 < 2 ^ 34
       go true p q =
-          rw (getD-tabulate 496 (placeNumber (environmentOf T h) R) i 0 (p refl))
-          (pick-small (ltb i 480) (boundsNumber (placeBounds (environmentOf T h) R (i / 6)) (i % 6)) (elementSize (environmentOf T h) (i - 480))
-          (place-small l R (i / 6) (i % 6)) (omega (arith, sizes-small T h (i - 480))))
+          rw (getD-tabulate 512 (placeNumber (environmentOf T h) R) i 0 (p refl))
+          (pick-small (ltb i 480) (boundsNumber (placeBounds (environmentOf T h) R (i / 6)) (i % 6)) (afterBounds (environmentOf T h) i)
+          (place-small l R (i / 6) (i % 6))
+          (pick-small (ltb i 496) (elementSize (environmentOf T h) (i - 480)) (markNumber (isString (environmentOf T h) (i - 496)))
+          (omega (arith, sizes-small T h (i - 480))) (pick-small (isString (environmentOf T h) (i - 496)) 1 0 (omega arith) (omega arith))))
       go false p q =
           let m = q refl in
           let g : length (endsOf (environmentOf T h) R) ≤ i = omega (arith, ends-long (environmentOf T h) R) in
           omega (arith, List·getD-eq-default (endsOf (environmentOf T h) R) 0 g)
 
-  -- Point 10: the element sizes are at most 8.
+  few : (b : Bool) (x y : ℕ) → x ≤ 8 → y ≤ 8 → cond b x y ≤ 8
+  few true x y p q = p
+  few false x y p q = q
+
+  after-few : (i : ℕ) → afterBounds (environmentOf T h) i ≤ 8
+  after-few i =
+      few (ltb i 496) (elementSize (environmentOf T h) (i - 480)) (markNumber (isString (environmentOf T h) (i - 496)))
+      (sizes-small T h (i - 480)) (few (isString (environmentOf T h) (i - 496)) 1 0 (omega arith) (omega arith))
+
+  -- Point 10: the element sizes are at most 8, as are the marks behind them.
   pub ends-sizes : (R : List ℕ) (p : ℕ) → sizeIn (endsOf (environmentOf T h) R) p ≤ 8
-  ends-sizes R p = go (ltb p 16) refl
+  ends-sizes R p = go (ltb p 32) refl
     where
-      go : (b : Bool) → ltb p 16 ≡ b → sizeIn (endsOf (environmentOf T h) R) p ≤ 8
-      go true q = rw (size-number (environmentOf T h) R p (ltb-true p 16 q)) (sizes-small T h p)
+      go : (b : Bool) → ltb p 32 ≡ b → sizeIn (endsOf (environmentOf T h) R) p ≤ 8
+      go true q = rw (after-bounds (environmentOf T h) R (480 + p) (omega arith) (omega (arith, ltb-true p 32 q))) (after-few (480 + p))
       go false q =
-          let m : 16 ≤ p = ltb-false p 16 q in
+          let m : 32 ≤ p = ltb-false p 32 q in
           let g : length (endsOf (environmentOf T h) R) ≤ 480 + p = omega (arith, ends-long (environmentOf T h) R) in
           omega (arith, List·getD-eq-default (endsOf (environmentOf T h) R) 0 g)

@@ -1,7 +1,7 @@
--- A run stops with a check of number 1 to 5, which the enum of checks holds with its statement.
+-- A run stops with a check of number 1 to 6, which the enum of checks holds with its statement.
 use Prim.Native.Nat.{ℕ, zero, suc, _≤_}
 use mathlib.Core.Path.{_≡_, refl, sym, subst}
-use mathlib.Core.Bool.{Bool, true, false, not, _||_}
+use mathlib.Core.Bool.{Bool, true, false, not, _||_, _&&_}
 use mathlib.Core.List.{List}
 use native.Mathlib.Omega.{arith}
 use lib.Dec.{leb, ltb, eqb}
@@ -16,22 +16,23 @@ use Rattle.statements.specs.declared.Statement.the-variants.{Plain, If, While, 
 use Rattle.statements.specs.declared.StatementRead.{StatementRead}
 use Rattle.statements.specs.declared.StatementRead.the-variants.{Read, Unread}
 use Rattle.flow.specs.Flow.{Successors}
-use Rattle.rules.specs.BoundsRules.{inForce}
+use Rattle.rules.specs.BoundsRules.{inForce, isString}
 use Rattle.rules.specs.declared.Environment.{Environment}
-use Rattle.machine.specs.Machine.{value, address, lowerEnd, upperEnd, conditionHolds, Failing, none, fails, firstOf, firstUnless, accessFailing, arithmeticFailing, failing, Status, going, stopped, stuck, Point, Performed, done, no-step, performed, memoryOf, afterPerformed, afterChecks, branched, statementStep, successorsOf, stepIfDue, nextPoint, pointAfter}
+use Rattle.machine.specs.Machine.{value, address, lowerEnd, upperEnd, conditionHolds, Failing, none, fails, firstOf, firstUnless, accessFailing, arithmeticFailing, failing, Status, going, stopped, stuck, Point, Performed, done, no-step, performed, memoryOf, afterPerformed, afterChecks, branched, statementStep, successorsOf, stepIfDue, nextPoint, pointAfter, beyond, terminatorFailing}
 use Rattle.stops.specs.Checks.{checkNumber, checkStatement, checkOf}
 use Rattle.stops.specs.declared.Check.{Check}
-use Rattle.stops.specs.declared.Check.the-variants.{ConditionFalse, NullAccess, OutOfBounds, NullArithmetic, AddressRange}
+use Rattle.stops.specs.declared.Check.the-variants.{ConditionFalse, NullAccess, OutOfBounds, NullArithmetic, AddressRange, Terminator}
 
 -- The check that a stop answers has the machine's number, and the statement that was due.
-pub number-of : (n a : ℕ) → 1 ≤ n → n ≤ 5 → checkNumber (checkOf n a) ≡ n
+pub number-of : (n a : ℕ) → 1 ≤ n → n ≤ 6 → checkNumber (checkOf n a) ≡ n
 number-of zero a p q = absurd (omega arith)
 number-of (suc zero) a p q = refl
 number-of (suc (suc zero)) a p q = refl
 number-of (suc (suc (suc zero))) a p q = refl
 number-of (suc (suc (suc (suc zero)))) a p q = refl
 number-of (suc (suc (suc (suc (suc zero))))) a p q = refl
-number-of (suc (suc (suc (suc (suc (suc n)))))) a p q = absurd (omega arith)
+number-of (suc (suc (suc (suc (suc (suc zero)))))) a p q = refl
+number-of (suc (suc (suc (suc (suc (suc (suc n))))))) a p q = absurd (omega arith)
 
 pub statement-of : (n a : ℕ) → checkStatement (checkOf n a) ≡ a
 statement-of zero a = refl
@@ -39,7 +40,8 @@ statement-of (suc zero) a = refl
 statement-of (suc (suc zero)) a = refl
 statement-of (suc (suc (suc zero))) a = refl
 statement-of (suc (suc (suc (suc zero)))) a = refl
-statement-of (suc (suc (suc (suc (suc n))))) a = refl
+statement-of (suc (suc (suc (suc (suc zero))))) a = refl
+statement-of (suc (suc (suc (suc (suc (suc n)))))) a = refl
 
 -- A check is that of its number and its statement.
 pub check-of : (c : Check) (n a : ℕ) → checkNumber c ≡ n → checkStatement c ≡ a → c ≡ checkOf n a
@@ -48,20 +50,25 @@ check-of (NullAccess s) n a p q = rw (← p, ← q)
 check-of (OutOfBounds s) n a p q = rw (← p, ← q)
 check-of (NullArithmetic s) n a p q = rw (← p, ← q)
 check-of (AddressRange s) n a p q = rw (← p, ← q)
+check-of (Terminator s) n a p q = rw (← p, ← q)
 
 abbrev Numbered : Failing → Type 0
 Numbered none = Unit {0}
-Numbered (fails n) = (1 ≤ n) × (n ≤ 5)
+Numbered (fails n) = (1 ≤ n) × (n ≤ 6)
 
-first-numbered : (b : Bool) (n : ℕ) (f : Failing) → 1 ≤ n → n ≤ 5 → Numbered f → Numbered (firstOf b n f)
+first-numbered : (b : Bool) (n : ℕ) (f : Failing) → 1 ≤ n → n ≤ 6 → Numbered f → Numbered (firstOf b n f)
 first-numbered true n f p q r = (p, q)
 first-numbered false n f p q r = r
 
-access-numbered : (E : Environment) (vs : List ℕ) (p a : ℕ) → Numbered (accessFailing E vs p a)
+access-numbered : (E : Environment) (vs : List ℕ) (p a : ℕ) (rest : Failing) → Numbered rest → Numbered (accessFailing E vs p a rest)
 unfolding accessFailing
-access-numbered E vs p a =
+access-numbered E vs p a rest r =
     first-numbered (eqb (value vs p) 0) 2 _ (omega arith) (omega arith)
-    (first-numbered (ltb a (lowerEnd E vs p) || leb (upperEnd E vs p) a) 3 none (omega arith) (omega arith) tt)
+    (first-numbered (ltb a (lowerEnd E vs p) || beyond (isString E p) (upperEnd E vs p) a) 3 rest (omega arith) (omega arith) r)
+
+end-numbered : (E : Environment) (vs : List ℕ) (p a x : ℕ) → Numbered (terminatorFailing E vs p a x)
+unfolding terminatorFailing
+end-numbered E vs p a x = first-numbered (eqb a (upperEnd E vs p) && not (eqb x 0)) 6 none (omega arith) (omega arith) tt
 
 arithmetic-numbered : (q a : ℕ) → Numbered (arithmeticFailing q a)
 unfolding arithmeticFailing
@@ -81,14 +88,14 @@ failing-numbered E vs (Null p) = tt
 failing-numbered E vs (Address p o) = tt
 failing-numbered E vs (PointerOffset p q k) = unless-numbered (eqb k bias) _ (arithmetic-numbered _ _)
 failing-numbered E vs (PointerIndex p q i) = arithmetic-numbered _ _
-failing-numbered E vs (Load x p i k) = access-numbered E vs p (address E vs p i k)
-failing-numbered E vs (Store p i k x) = access-numbered E vs p (address E vs p i k)
+failing-numbered E vs (Load x p i k) = access-numbered E vs p (address E vs p i k) none tt
+failing-numbered E vs (Store p i k x) = access-numbered E vs p (address E vs p i k) _ (end-numbered E vs p (address E vs p i k) (value vs x))
 failing-numbered E vs (simple.Check c) = first-numbered (not (conditionHolds vs c)) 1 none (omega arith) (omega arith) tt
 failing-numbered E vs (simple.Declare p r) = tt
 
 abbrev Held : Status → Type 0
 Held going = Unit {0}
-Held (stopped n) = (1 ≤ n) × (n ≤ 5)
+Held (stopped n) = (1 ≤ n) × (n ≤ 6)
 Held stuck = Unit {0}
 
 performed-held : (P : Point) (n : ℕ) (p : Performed) → Held (afterPerformed P n p .status)
@@ -128,6 +135,6 @@ module _ (T : List ℤ) (h : Sections) (E : Environment) (D : List ℕ) where
   point-held zero P k = k
   point-held (suc t) P k = next-held (pointAfter T h E D t P .status) (pointAfter T h E D t P) (point-held t P k)
 
-  -- A point of a run that stopped has one of the five numbers.
-  pub stopped-number : (t n : ℕ) (P : Point) → P .status ≡ going → pointAfter T h E D t P .status ≡ stopped n → (1 ≤ n) × (n ≤ 5)
+  -- A point of a run that stopped has one of the six numbers.
+  pub stopped-number : (t n : ℕ) (P : Point) → P .status ≡ going → pointAfter T h E D t P .status ≡ stopped n → (1 ≤ n) × (n ≤ 6)
   stopped-number t n P g e = subst Held e (point-held t P (subst Held (sym g) tt))

@@ -12,7 +12,7 @@ use lib.IntN.{ℤ}
 use lib.ListN.{length, getD, List·getD-eq-default}
 use Rattle.sums.specs.Numbers.{bias}
 use Rattle.refusals.specs.declared.Refusal.{Refusal}
-use Rattle.refusals.specs.declared.Refusal.the-variants.{MemorySize, DirectoryPair, EntryLengths, EntryValue}
+use Rattle.refusals.specs.declared.Refusal.the-variants.{MemorySize, DirectoryPair, EntryLengths, EntryValue, LastCell}
 use Rattle.sections.specs.SectionsLaws.{both}
 use Rattle.sections.specs.declared.Sections.{Sections}
 use Rattle.table.specs.FormLaws.{Formed}
@@ -24,8 +24,8 @@ use Rattle.flow.specs.SuccessorLaws.{written-at}
 use Rattle.rules.specs.BoundsRules.{isPointer, objectLength, ownRows}
 use Rattle.rules.specs.Verdict.{environmentOf}
 use Rattle.rules.specs.declared.Environment.{Environment}
-use Rattle.machine.specs.Machine.{value, lowerEnd, upperEnd, low, high, isObject, originHolds, boundsTrue, stuck, start, pointAfter}
-use Rattle.entry.specs.Entry.{memoryRight, endBefore, pairRight, lengthsRight, entryRight, consUnless, failures, entryRefusals}
+use Rattle.machine.specs.Machine.{value, lowerEnd, upperEnd, low, high, isObject, top, takesFrom, originHolds, boundsTrue, stuck, start, pointAfter}
+use Rattle.entry.specs.Entry.{memoryRight, endBefore, pairRight, lengthsRight, entryRight, consUnless, failures, entryRefusals, lastRight}
 use Rattle.steps.specs.Bare.{Prepared}
 use Rattle.runs.specs.BareRun.{bareRun, SafeRun}
 use Rattle.ends.specs.Ends.{endsOf}
@@ -56,7 +56,7 @@ none-fails right r (suc n) i j e p q =
     let c = no-cons (right i) (r i) (failures right r n (i + 1)) e in
     ⊎-elim (λ (g : i ≡ j). rw g at (c .0)) (λ (l : i < j). none-fails right r n (i + 1) j (c .1) (omega arith) (omega arith)) (eq-or-lt-of-le p)
 
--- What causes 10 to 12 leave.
+-- What causes 10 to 12 and 16 leave.
 pub record Admitted (h : Sections) (E : Environment) (D cs vs os : List ℕ) : Type 0 where
   pub memory : length cs ≤ 16777216
   pub pairs : length D ≡ 2 * h .objects
@@ -64,6 +64,7 @@ pub record Admitted (h : Sections) (E : Environment) (D cs vs os : List ℕ) : T
   pub values : length vs ≡ h .variables
   pub origins : length os ≡ h .variables
   pub entries : (v : ℕ) → v < h .variables → entryRight E D vs os v ≡ true
+  pub last : (o : ℕ) → o < h .objects → lastRight E D cs o ≡ true
 
 pub admitted : (h : Sections) (E : Environment) (D cs vs os : List ℕ) → entryRefusals h E D cs vs os ≡ [] → Admitted h E D cs vs os
 unfolding entryRefusals memoryRight lengthsRight
@@ -71,6 +72,7 @@ admitted h E D cs vs os e =
     let m = no-cons (memoryRight h D cs) MemorySize _ e in
     let p = no-append (failures (pairRight E D cs) DirectoryPair (h .objects) 0) _ (m .1) in
     let l = no-cons (lengthsRight h vs os) EntryLengths _ (p .1) in
+    let v = no-append (failures (entryRight E D vs os) EntryValue (h .variables) 0) _ (l .1) in
     let a = both (leb (length cs) 16777216) (eqb (length D) (2 * h .objects)) (m .0) in
     let b = both (eqb (length vs) (h .variables)) (eqb (length os) (h .variables)) (l .0) in
     record {
@@ -79,7 +81,8 @@ admitted h E D cs vs os e =
       objects = λ o q. none-fails (pairRight E D cs) DirectoryPair (h .objects) 0 o (p .0) (omega arith) (omega arith);
       values = eqb-true _ _ (b .0);
       origins = eqb-true _ _ (b .1);
-      entries = λ v q. none-fails (entryRight E D vs os) EntryValue (h .variables) 0 v (l .1) (omega arith) (omega arith);
+      entries = λ x q. none-fails (entryRight E D vs os) EntryValue (h .variables) 0 x (v .0) (omega arith) (omega arith);
+      last = λ o q. none-fails (lastRight E D cs) LastCell (h .objects) 0 o (v .1) (omega arith) (omega arith);
     }
 
 module _ (h : Sections) (E : Environment) (D cs vs os : List ℕ) (A : Admitted h E D cs vs os) where
@@ -94,16 +97,17 @@ module _ (h : Sections) (E : Environment) (D cs vs os : List ℕ) (A : Admitted 
   unfolding entryRight boundsTrue originHolds
   entry-origin v e = go (isPointer E v) (eqb (value vs v) 0) e
     where
-      origin : (o l u : ℕ) → originHolds D o l u ≡ true → o ≤ h .objects
+      origin : (o l u : ℕ) → originHolds E D v o l u ≡ true → o ≤ h .objects
       origin zero l u t = omega arith
       origin (suc o) l u t =
-          let b = both (isObject D o) (leb (low D o + bias) l) (both (isObject D o && leb (low D o + bias) l) (leb u (high D o + bias)) t .0) in
-          omega (arith, ltb-true (2 * o + 1) (length D) (b .0), A .pairs)
+          let a = both (isObject D o && takesFrom E v o && leb (low D o + bias) l) (leb u (top E D o + bias)) t in
+          let b = both (isObject D o && takesFrom E v o) (leb (low D o + bias) l) (a .0) in
+          omega (arith, ltb-true (2 * o + 1) (length D) (both (isObject D o) (takesFrom E v o) (b .0) .0), A .pairs)
 
       none : eqb (getD os v 0) 0 ≡ true → getD os v 0 ≤ h .objects
       none e = let z : getD os v 0 ≡ 0 = eqb-true _ _ e in omega arith
 
-      go : (a b : Bool) → cond (a && not b) (b || originHolds D (getD os v 0) (lowerEnd E vs v) (upperEnd E vs v)) (eqb (getD os v 0) 0) ≡ true → getD os v 0 ≤ h .objects
+      go : (a b : Bool) → cond (a && not b) (b || originHolds E D v (getD os v 0) (lowerEnd E vs v) (upperEnd E vs v)) (eqb (getD os v 0) 0) ≡ true → getD os v 0 ≤ h .objects
       go true true e = none e
       go true false e = origin (getD os v 0) (lowerEnd E vs v) (upperEnd E vs v) e
       go false b e = none e

@@ -1,24 +1,19 @@
 -- The proof of point 12: from the frame law of the plain machine and from two contracts of `run`.
-use Prim.Native.Nat.{ℕ, zero, suc, _+_, _-_, _*_, _<_, _≤_}
+use Prim.Native.Nat.{ℕ, _-_, _<_}
 use mathlib.Core.Path.{_≡_, refl, sym, ap, subst, _∙_}
 use mathlib.Core.Logic.{inl, inr}
-use mathlib.Core.Bool.{Bool, true, false, _&&_}
 use mathlib.Core.List.{List, [], _∷_}
 use native.Mathlib.Omega.{arith}
 use native.Mathlib.Decide.{ℕ-discrete}
-use borrow.Author.Tests.{leb-true, ltb-true, ltb-false}
-use lib.Dec.{leb, ltb, eqb}
 use lib.IntN.{ℤ}
 use lib.ListN.{length, getD}
 use Rattle.refusals.specs.declared.Refusal.{Refusal}
-use Rattle.sections.specs.SectionsLaws.{both}
 use Rattle.sections.specs.declared.Sections.{Sections}
 use Rattle.statements.specs.StatementLaws.{read-typed}
 use Rattle.statements.specs.declared.Simple.the-variants.{Address}
 use Rattle.statements.specs.declared.Statement.the-variants.{Plain}
 use Rattle.table.specs.Form.{sectionsOf, formOf}
 use Rattle.table.specs.declared.Form.the-variants.{WellFormed}
-use Rattle.rules.specs.BoundsRules.{objectLength}
 use Rattle.rules.specs.Verdict.{environmentOf, faults}
 use Rattle.rules.specs.Stored.{store}
 use Rattle.rules.specs.ByChains.{byChains}
@@ -26,48 +21,17 @@ use Rattle.rules.specs.Decidable.{decider, decider-decides}
 use Rattle.rules.specs.Agreement.{SameFirst, faults-agree}
 use Rattle.rules.specs.AcceptedLaws.{faults-clear}
 use Rattle.rules.specs.RuleLaws.{no-first, no-rest}
-use Rattle.rules.specs.declared.Environment.{Environment}
-use Rattle.machine.specs.Machine.{low, high, Point}
+use Rattle.machine.specs.Machine.{Point}
 use Rattle.machine.specs.Frame.{Elsewhere, SameCells}
 use Rattle.machine.specs.Reach.{CellOf, Reachable}
 use Rattle.machine.specs.FrameLaws.{two-alike, others-untouched}
-use Rattle.entry.specs.Entry.{endBefore, pairRight, entryRefusals}
+use Rattle.entry.specs.Entry.{entryRefusals}
 use Rattle.interpreter.specs.StartLaws.{Admitted, admitted, origin-inside}
+use Rattle.interpreter.specs.BegunLaws.{one-object}
 use Rattle.interpreter.specs.ClaimLaws.{lends, formed-sections, judged-ran}
 use Rattle.interpreter.specs.Claim.{runFaults, answerOf, Begins}
 use Rattle.interpreter.specs.TwoRuns.{OtherCell, DifferElsewhere, TwoRuns, withCells}
 use Rattle.stops.specs.declared.Outcome.the-variants as outcome
-
--- ---- no cell is in two objects
-
-module _ (h : Sections) (E : Environment) (D cs vs os : List ℕ) (A : Admitted h E D cs vs os) where
-  -- An object begins where the one before it has ended.
-  pair-after : (o : ℕ) → o < h .objects → endBefore D o ≤ low D o
-  unfolding pairRight
-  pair-after o l =
-      let t = both (leb (endBefore D o) (getD D (2 * o) 0) && leb (high D o) (length cs)) (eqb (getD D (2 * o + 1) 0) (objectLength E o)) (A .objects o l) in
-      leb-true (endBefore D o) (low D o) (both (leb (endBefore D o) (getD D (2 * o) 0)) (leb (high D o) (length cs)) (t .0) .0)
-
-  in-order : (o d : ℕ) → o + suc d < h .objects → high D o ≤ low D (o + suc d)
-  unfolding endBefore
-  in-order o zero l = let q : o + 1 ≡ suc o = omega arith in rw q (pair-after (suc o) (omega arith))
-  in-order o (suc d) l =
-      let q : o + suc (suc d) ≡ suc (o + suc d) = omega arith in
-      rw q (omega (arith, in-order o d (omega arith), pair-after (suc (o + suc d)) (omega arith)))
-
-  apart : (o k i : ℕ) → o < k → k < h .objects → i < high D o → low D k ≤ i → ⊥
-  apart o k i l m b a = go (k - suc o) refl
-    where
-      go : (d : ℕ) → k - suc o ≡ d → ⊥
-      go d e = let q : k ≡ o + suc d = omega arith in omega (arith, rw q at a, in-order o d (rw q at m))
-
-  one-object : (o k i : ℕ) → o < h .objects → k < h .objects → low D o ≤ i → i < high D o → low D k ≤ i → i < high D k → o ≡ k
-  one-object o k i l m a b c d = go (ltb o k) (ltb-true o k) (ltb-false o k) (ltb k o) (ltb-true k o) (ltb-false k o)
-    where
-      go : (x : Bool) → (x ≡ true → o < k) → (x ≡ false → k ≤ o) → (y : Bool) → (y ≡ true → k < o) → (y ≡ false → o ≤ k) → o ≡ k
-      go true p p′ y q q′ = absurd (apart o k i (p refl) m b c)
-      go false p p′ true q q′ = absurd (apart k o i (q refl) l d a)
-      go false p p′ false q q′ = omega (arith, p′ refl, q′ refl)
 
 -- ---- a run that begins
 

@@ -17,6 +17,26 @@ pub fn is_pointer(pointers: [bool; 17], v: usize) -> bool
     false
 }
 
+// v is a pointer of kind 2.
+pub fn is_string(strings: [bool; 17], v: usize) -> bool
+    ensures { λ r. ⌜ r ≡ getD strings v false ⌝ }
+{
+    if v < 17 {
+        return strings[v];
+    }
+    false
+}
+
+// o is a terminated object.
+pub fn is_terminated(terminated: [bool; 16], o: usize) -> bool
+    ensures { λ r. ⌜ r ≡ getD terminated o false ⌝ }
+{
+    if o < 16 {
+        return terminated[o];
+    }
+    false
+}
+
 // The bounds of a pointer.
 pub fn bounds_at(each: [Bounds; 16], p: usize) -> Bounds
     ensures { λ r. ⌜ r ≡ getD each p nothingKnown ⌝ }
@@ -97,8 +117,11 @@ pub fn in_force(environment: Environment, rows: Rows) -> Environment
     ensures { λ r. ⌜ r ≡ inForce environment (rows .each) ⌝ }
 {
     let pointers = environment.pointers;
+    let strings = environment.strings;
     let sizes = environment.sizes;
     let lengths = environment.lengths;
+    let terminated = environment.terminated;
+    let spans = environment.spans;
     let all = environment.rows;
     let mut declared = environment.declared;
     for p in 0..16 {
@@ -106,9 +129,12 @@ pub fn in_force(environment: Environment, rows: Rows) -> Environment
     }
     Environment {
         pointers,
+        strings,
         sizes,
         declared,
         lengths,
+        terminated,
+        spans,
         rows: all,
     }
 }

@@ -1,24 +1,24 @@
 -- An access through a pointer whose declared bounds are true lies in the origin object, where no check fails.
-use Prim.Native.Nat.{ℕ, suc, _+_, _≤_, _<_}
-use mathlib.Core.Path.{_≡_, refl}
-use mathlib.Core.Logic.{inl, inr}
-use mathlib.Core.Bool.{Bool, true, false, _||_}
+use Prim.Native.Nat.{ℕ, suc, _+_, _≤_, _<_, _-_}
+use mathlib.Core.Path.{_≡_, refl, sym, _∙_}
+use mathlib.Core.Logic.{inl, inr, _≢_}
+use mathlib.Core.Bool.{Bool, true, false, _||_, not, _&&_, false≢true}
 use mathlib.Core.List.{List}
 use native.Mathlib.Omega.{arith}
-use borrow.Author.Tests.{ltb-false, leb-false, eqb-false, le-leb, lt-ltb}
-use lib.Dec.{leb, ltb, eqb}
+use borrow.Author.Tests.{eqb-true, eq-eqb, ltb-false, leb-false, eqb-false, le-leb, lt-ltb}
+use lib.Dec.{ltb, eqb}
 use lib.ListN.{getD}
 use Rattle.sums.specs.Numbers.{bias}
 use Rattle.statements.specs.declared.Simple.{Simple}
 use Rattle.statements.specs.declared.Simple.the-variants.{Literal, AddConstant, Arithmetic, Null, Address, PointerOffset, PointerIndex, Load, Store, Check, Declare}
 use Rattle.rules.specs.FactsTrue.{neither}
-use Rattle.rules.specs.BoundsRules.{declared, elementSize}
+use Rattle.rules.specs.BoundsRules.{declared, elementSize, isString, isTerminated, upperLimit}
 use Rattle.rules.specs.BoundsTrue.{endAt, BoundsHold}
 use Rattle.rules.specs.EnvironmentLaws.{DeclaredEnds}
 use Rattle.rules.specs.declared.KnownEnd.the-variants.{Known}
 use Rattle.rules.specs.declared.Environment.{Environment}
-use Rattle.machine.specs.Machine.{value, lowerEnd, upperEnd, low, high, inOrigin, Failing, none, firstOf, accessFailing, Memory}
-use Rattle.machine.specs.Good.{TrueOf}
+use Rattle.machine.specs.Machine.{value, lowerEnd, upperEnd, low, high, inOrigin, Failing, none, firstOf, accessFailing, Memory, beyond, terminatorFailing}
+use Rattle.machine.specs.Good.{TrueOf, InObject}
 
 pub first-none : (b : Bool) (n : ℕ) (rest : Failing) → firstOf b n rest ≡ none → (b ≡ false) × (rest ≡ none)
 first-none true n rest e = let z : _≡_ {A = ℕ} 0 1 = cc in absurd (omega arith)
@@ -36,6 +36,22 @@ pub inside-origin : (D : List ℕ) (objects origin a : ℕ) → Inside D objects
 unfolding inOrigin
 inside-origin D objects origin a i = rw (i .origin-is, le-leb _ _ (i .above)) (lt-ltb _ _ (i .below))
 
+-- The upper limit of an object.
+pub limit-most : (b : Bool) (n : ℕ) → upperLimit b n ≤ n
+unfolding upperLimit
+limit-most true n = omega arith
+limit-most false n = omega arith
+
+pub limit-terminated : (b : Bool) (n : ℕ) → b ≡ true → upperLimit b n ≡ n - 1
+unfolding upperLimit
+limit-terminated true n e = refl
+limit-terminated false n e = absurd (false≢true e)
+
+-- An address that is not beyond the upper end.
+inside-upper : (s : Bool) (u a : ℕ) → beyond s u a ≡ false → (a ≤ u) × (s ≡ false → a < u)
+inside-upper true u a e = (ltb-false u a e, λ f. absurd (false≢true (sym f)))
+inside-upper false u a e = let l : a < u = leb-false u a e in (omega arith, λ f. l)
+
 -- What an access needs: the declared bounds of its pointer are true.
 abbrev pub Ready : Environment → List ℕ → ℕ → Simple → Memory → Type 0
 Ready E D objects (Literal x k) m = Unit {0}
@@ -45,8 +61,8 @@ Ready E D objects (Null p) m = Unit {0}
 Ready E D objects (Address p o) m = Unit {0}
 Ready E D objects (PointerOffset p q k) m = Unit {0}
 Ready E D objects (PointerIndex p q i) m = Unit {0}
-Ready E D objects (Load x p i k) m = TrueOf D objects m p (declared E p)
-Ready E D objects (Store p i k x) m = TrueOf D objects m p (declared E p)
+Ready E D objects (Load x p i k) m = TrueOf E D objects m p (declared E p)
+Ready E D objects (Store p i k x) m = TrueOf E D objects m p (declared E p)
 Ready E D objects (Check c) m = Unit {0}
 Ready E D objects (Declare p r) m = Unit {0}
 
@@ -64,23 +80,75 @@ module _ (E : Environment) (D : List ℕ) (objects : ℕ) (m : Memory) (p : ℕ)
       (ends .bounds) at b in
       (omega (arith, c .lower .1, lower-value), omega (arith, c .upper .1, upper-value))
 
-  pub access-inside : (a : ℕ) → accessFailing E (m .values) p a ≡ none → TrueOf D objects m p (declared E p) → Inside D objects (getD (m .origins) p 0) a
+  -- What checks 2 and 3 say, where they do not fail.
+  pub record Passed (a : ℕ) (rest : Failing) : Type 0 where
+    pub some : value (m .values) p ≢ 0
+    pub above : lowerEnd E (m .values) p ≤ a
+    pub within : a ≤ upperEnd E (m .values) p
+    pub below : isString E p ≡ false → a < upperEnd E (m .values) p
+    pub then : rest ≡ none
+
+  pub passed : (a : ℕ) (rest : Failing) → accessFailing E (m .values) p a rest ≡ none → Passed a rest
   unfolding accessFailing
-  access-inside a e t = go t
+  passed a rest e =
+      let u = upperEnd E (m .values) p in
+      let l = lowerEnd E (m .values) p in
+      let first = first-none (eqb (value (m .values) p) 0) 2 (firstOf (ltb a l || beyond (isString E p) u a) 3 rest) e in
+      let second = first-none (ltb a l || beyond (isString E p) u a) 3 rest (first .1) in
+      let q = neither (ltb a l) (beyond (isString E p) u a) (second .0) in
+      let w = inside-upper (isString E p) u a (q .1) in
+      record { some = eqb-false (value (m .values) p) 0 (first .0); above = ltb-false a l (q .0); within = w .0; below = w .1; then = second .1 }
+
+  -- The object of a pointer's bounds, which are true: its upper end by the kind of the object.
+  upper-within : (i : InObject (E .terminated) D objects (isString E p) (getD (m .origins) p 0) (declared E p) (value (m .values)))
+      → upperEnd E (m .values) p ≤ upperLimit (isTerminated E (i .object)) (high D (i .object)) + bias
+  upper-within i = ends-inside _ _ (i .bounds) .1
+
+  module _ (placed : (o : ℕ) → o < objects → 1 ≤ low D o) where
+    pub access-inside : (a : ℕ) (rest : Failing) → accessFailing E (m .values) p a rest ≡ none → TrueOf E D objects m p (declared E p) → Inside D objects (getD (m .origins) p 0) a
+    access-inside a rest e t = go t
+      where
+        w : Passed a rest
+        w = passed a rest e
+
+        go : TrueOf E D objects m p (declared E p) → Inside D objects (getD (m .origins) p 0) a
+        go (inl z) = absurd (w .some z)
+        go (inr i) =
+            record {
+              object = i .object;
+              origin-is = i .origin-is;
+              exists = i .exists;
+              above = omega (arith, ends-inside _ _ (i .bounds) .0, w .above);
+              below = by-kind (isString E p) refl;
+            }
+          where
+            by-kind : (s : Bool) → isString E p ≡ s → a < high D (i .object) + bias
+            by-kind true q = omega (arith, w .within, upper-within i, limit-terminated (isTerminated E (i .object)) (high D (i .object)) (i .ended q), placed (i .object) (i .exists))
+            by-kind false q = omega (arith, w .below q, upper-within i, limit-most (isTerminated E (i .object)) (high D (i .object)))
+
+    -- THE TERMINATOR IS NOT REACHED BUT AT THE UPPER END: an access at the last cell of a terminated object is at the upper end of its pointer, since no upper
+    -- end goes beyond that cell; and that is a kind 2 pointer, since another may access only what is below its upper end.
+    pub access-last : (a : ℕ) (rest : Failing) → accessFailing E (m .values) p a rest ≡ none → TrueOf E D objects m p (declared E p)
+        → (o : ℕ) → getD (m .origins) p 0 ≡ suc o → isTerminated E o ≡ true → a + 1 ≡ high D o + bias → a ≡ upperEnd E (m .values) p
+    access-last a rest e t o q z l = go t
+      where
+        w : Passed a rest
+        w = passed a rest e
+
+        go : TrueOf E D objects m p (declared E p) → a ≡ upperEnd E (m .values) p
+        go (inl n) = absurd (w .some n)
+        go (inr i) =
+            let same : suc o ≡ suc (i .object) = sym q ∙ i .origin-is in
+            let k : o ≡ i .object = omega arith in
+            let u : upperEnd E (m .values) p ≤ upperLimit (isTerminated E o) (high D o) + bias = rw k (upper-within i) in
+            let some : 1 ≤ low D o = rw k (placed (i .object) (i .exists)) in
+            omega (arith, w .within, limit-terminated (isTerminated E o) (high D o) z)
+
+  -- What is stored at the upper end is 0, where check 6 does not fail.
+  pub stored-zero : (a x : ℕ) → terminatorFailing E (m .values) p a x ≡ none → a ≡ upperEnd E (m .values) p → x ≡ 0
+  unfolding terminatorFailing
+  stored-zero a x e q = go (eqb x 0) refl (first-none (eqb a (upperEnd E (m .values) p) && not (eqb x 0)) 6 none e .0)
     where
-      first : (eqb (value (m .values) p) 0 ≡ false) × (firstOf (ltb a (lowerEnd E (m .values) p) || leb (upperEnd E (m .values) p) a) 3 none ≡ none)
-      first = first-none (eqb (value (m .values) p) 0) 2 (firstOf (ltb a (lowerEnd E (m .values) p) || leb (upperEnd E (m .values) p) a) 3 none) e
-
-      second : ((ltb a (lowerEnd E (m .values) p) || leb (upperEnd E (m .values) p) a) ≡ false) × (none ≡ none)
-      second = first-none (ltb a (lowerEnd E (m .values) p) || leb (upperEnd E (m .values) p) a) 3 none (first .1)
-
-      tests : (lowerEnd E (m .values) p ≤ a) × (a < upperEnd E (m .values) p)
-      tests =
-          let q = neither (ltb a (lowerEnd E (m .values) p)) (leb (upperEnd E (m .values) p) a) (second .0) in
-          (ltb-false a (lowerEnd E (m .values) p) (q .0), leb-false (upperEnd E (m .values) p) a (q .1))
-
-      go : TrueOf D objects m p (declared E p) → Inside D objects (getD (m .origins) p 0) a
-      go (inl z) = absurd (eqb-false (value (m .values) p) 0 (first .0) z)
-      go (inr i) =
-          let b = ends-inside _ _ (i .bounds) in
-          record { object = i .object; origin-is = i .origin-is; exists = i .exists; above = omega (arith, b .0, tests .0); below = omega (arith, b .1, tests .1) }
+      go : (b : Bool) → eqb x 0 ≡ b → (eqb a (upperEnd E (m .values) p) && not b) ≡ false → x ≡ 0
+      go true z f = eqb-true x 0 z
+      go false z f = let g : (true && not false) ≡ false = rw (eq-eqb a (upperEnd E (m .values) p) q) at f in absurd (false≢true (sym g))

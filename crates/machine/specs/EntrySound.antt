@@ -2,7 +2,7 @@
 use Prim.Native.Nat.{ℕ, zero, suc, _+_, _*_, _≤_, _<_}
 use mathlib.Core.Path.{_≡_, refl}
 use mathlib.Core.Logic.{inl, inr}
-use mathlib.Core.Bool.{Bool, true, false, _||_, _&&_, false≢true}
+use mathlib.Core.Bool.{Bool, true, false, _||_, _&&_, false≢true, not}
 use mathlib.Core.List.{List}
 use native.Mathlib.Omega.{arith}
 use borrow.Author.Tests.{leb-true, le-leb, ltb-true, lt-ltb, eqb-true, eq-eqb}
@@ -14,12 +14,12 @@ use Rattle.arrays.specs.TabulateLaws.{length-tabulate}
 use Rattle.chains.specs.Sound.{InRange, new-holds}
 use Rattle.sections.specs.SectionsLaws.{both}
 use Rattle.sections.specs.declared.Sections.{Sections}
-use Rattle.rules.specs.BoundsRules.{declared, isPointer, ownRows, inForce}
+use Rattle.rules.specs.BoundsRules.{declared, isPointer, ownRows, inForce, isString, isTerminated}
 use Rattle.rules.specs.Stored.{newState}
 use Rattle.rules.specs.BoundsTrue.{BoundsHold, own-row, own-declared}
 use Rattle.rules.specs.EnvironmentLaws.{Declares, DeclaredEnds, Named}
 use Rattle.rules.specs.declared.Environment.{Environment}
-use Rattle.machine.specs.Machine.{value, lowerEnd, upperEnd, low, high, isObject, originHolds, boundsTrue, Memory}
+use Rattle.machine.specs.Machine.{value, lowerEnd, upperEnd, low, isObject, originHolds, boundsTrue, Memory, top, takesFrom}
 use Rattle.machine.specs.Soundness.{Begun}
 use Rattle.machine.specs.Good.{TrueOf, Good}
 use Rattle.machine.specs.AccessSound.{lower-value, upper-value, ends-inside}
@@ -35,39 +35,61 @@ object-of D objects o e t = omega (arith, ltb-true (2 * o + 1) (length D) t)
 is-object : (D : List ℕ) (objects o : ℕ) → length D ≡ 2 * objects → o < objects → isObject D o ≡ true
 is-object D objects o e l = lt-ltb (2 * o + 1) (length D) (omega arith)
 
+-- A test that holds only where another one does.
+implied : (a b : Bool) → (not a || b) ≡ true → a ≡ true → b ≡ true
+implied true b e g = e
+implied false b e g = absurd (false≢true g)
+
+implies : (a b : Bool) → (a ≡ true → b ≡ true) → (not a || b) ≡ true
+implies true b f = f refl
+implies false b f = refl
+
 module _ (E : Environment) (D : List ℕ) (objects : ℕ) (pairs : length D ≡ 2 * objects) (m : Memory) (p : ℕ) (ends : DeclaredEnds E p) where
-  holds-inside : (o : ℕ) → o < objects → low D o + bias ≤ lowerEnd E (m .values) p → upperEnd E (m .values) p ≤ high D o + bias
-      → BoundsHold (low D o + bias) (high D o + bias) (declared E p) (value (m .values))
-  holds-inside o x l u =
+  holds-inside : (o u : ℕ) → low D o + bias ≤ lowerEnd E (m .values) p → upperEnd E (m .values) p ≤ u
+      → BoundsHold (low D o + bias) u (declared E p) (value (m .values))
+  holds-inside o u l b =
       rw (ends .bounds)
       (record {
         lower = (ends .low-proper, omega (arith, lower-value E D objects m p ends));
         upper = (ends .high-proper, omega (arith, upper-value E D objects m p ends));
       })
 
-  pub test-true : boundsTrue E D (m .values) (m .origins) p ≡ true → TrueOf D objects m p (declared E p)
+  pub test-true : boundsTrue E D (m .values) (m .origins) p ≡ true → TrueOf E D objects m p (declared E p)
   unfolding boundsTrue originHolds
   test-true e = null (eqb (value (m .values) p) 0) refl
     where
-      origin : (o : ℕ) → getD (m .origins) p 0 ≡ o → originHolds D o (lowerEnd E (m .values) p) (upperEnd E (m .values) p) ≡ true → TrueOf D objects m p (declared E p)
+      origin : (o : ℕ) → getD (m .origins) p 0 ≡ o → originHolds E D p o (lowerEnd E (m .values) p) (upperEnd E (m .values) p) ≡ true
+          → TrueOf E D objects m p (declared E p)
       origin zero q t = absurd (false≢true t)
       origin (suc o) q t =
-          let a = both (isObject D o && leb (low D o + bias) (lowerEnd E (m .values) p)) (leb (upperEnd E (m .values) p) (high D o + bias)) t in
-          let b = both (isObject D o) (leb (low D o + bias) (lowerEnd E (m .values) p)) (a .0) in
-          let r = object-of D objects o pairs (b .0) in
-          inr (record { object = o; origin-is = q; exists = r; bounds = holds-inside o r (leb-true _ _ (b .1)) (leb-true _ _ (a .1)) })
+          let a = both (isObject D o && takesFrom E p o && leb (low D o + bias) (lowerEnd E (m .values) p)) (leb (upperEnd E (m .values) p) (top E D o + bias)) t in
+          let b = both (isObject D o && takesFrom E p o) (leb (low D o + bias) (lowerEnd E (m .values) p)) (a .0) in
+          let c = both (isObject D o) (takesFrom E p o) (b .0) in
+          inr (record {
+            object = o;
+            origin-is = q;
+            exists = object-of D objects o pairs (c .0);
+            ended = implied (isString E p) (isTerminated E o) (c .1);
+            bounds = holds-inside o (top E D o + bias) (leb-true _ _ (b .1)) (leb-true _ _ (a .1));
+          })
 
-      null : (b : Bool) → eqb (value (m .values) p) 0 ≡ b → TrueOf D objects m p (declared E p)
+      null : (b : Bool) → eqb (value (m .values) p) 0 ≡ b → TrueOf E D objects m p (declared E p)
       null true q = inl (eqb-true _ _ q)
       null false q = origin (getD (m .origins) p 0) refl (rw q at e)
 
-  pub true-test : TrueOf D objects m p (declared E p) → boundsTrue E D (m .values) (m .origins) p ≡ true
+  pub true-test : TrueOf E D objects m p (declared E p) → boundsTrue E D (m .values) (m .origins) p ≡ true
   unfolding boundsTrue originHolds
   true-test (inl z) = rw (eq-eqb (value (m .values) p) 0 z)
   true-test (inr i) =
       let b = ends-inside E D objects m p ends _ _ (i .bounds) in
-      or-second (eqb (value (m .values) p) 0) (originHolds D (getD (m .origins) p 0) (lowerEnd E (m .values) p) (upperEnd E (m .values) p))
-      (rw (i .origin-is, is-object D objects (i .object) pairs (i .exists), le-leb _ _ (b .0)) (le-leb _ _ (b .1)))
+      or-second (eqb (value (m .values) p) 0) (originHolds E D p (getD (m .origins) p 0) (lowerEnd E (m .values) p) (upperEnd E (m .values) p))
+      (rw (i .origin-is, is-object D objects (i .object) pairs (i .exists), implies (isString E p) (isTerminated E (i .object)) (i .ended), le-leb _ _ (b .0)) (le-leb _ _ (b .1)))
+
+-- The rows in force do not change the kinds of pointers and objects.
+origin-in-force : (E : Environment) (R D : List ℕ) (p o l u : ℕ) → originHolds (inForce E R) D p o l u ≡ originHolds E D p o l u
+unfolding originHolds
+origin-in-force E R D p zero l u = refl
+origin-in-force E R D p (suc o) l u = refl
 
 module _ (T : List ℤ) (h : Sections) (E : Environment) (D cs vs os : List ℕ) (declares : Declares T h E) (b : Begun h E D cs vs os) where
   begun-range : InRange (value vs)
@@ -81,7 +103,8 @@ module _ (T : List ℤ) (h : Sections) (E : Environment) (D cs vs os : List ℕ)
   -- At entry the environment itself is in force.
   own-true : (p : ℕ) → isPointer E p ≡ true → boundsTrue (inForce E ownRows) D vs os p ≡ true
   unfolding boundsTrue
-  own-true p t = rw (own-declared E p (omega (arith, declares .few, declares .below p t))) (b .bounds p t)
+  own-true p t =
+      rw (own-declared E p (omega (arith, declares .few, declares .below p t)), origin-in-force E ownRows D p (getD os p 0) (lowerEnd E vs p) (upperEnd E vs p)) (b .bounds p t)
 
   pub begun-good : Good h E D (length cs) newState (inForce E ownRows .declared) (record { cells = cs; values = vs; origins = os; rows = ownRows })
   begun-good =
@@ -101,4 +124,5 @@ module _ (T : List ℤ) (h : Sections) (E : Environment) (D cs vs os : List ℕ)
               cells-long = refl;
               cells-small = b .cells-small;
             };
+        last-zero = b .last-zero;
       }

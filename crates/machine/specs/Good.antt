@@ -16,7 +16,7 @@ use Rattle.facts.specs.declared.FactSet.{FactSet}
 use Rattle.sections.specs.declared.Sections.{Sections}
 use Rattle.blocks.specs.Tree.{tree}
 use Rattle.blocks.specs.Layout.{layout}
-use Rattle.rules.specs.BoundsRules.{isPointer, declared, known, inForce}
+use Rattle.rules.specs.BoundsRules.{isPointer, declared, known, inForce, isString, upperLimit}
 use Rattle.rules.specs.States.{State}
 use Rattle.rules.specs.Stored.{boundsShown, blockFaults, effectOn, boundsAfter, newState, unshownIn, declaredIn}
 use Rattle.rules.specs.BoundsTrue.{BoundsHold, known-after, all-shown, shown-holds, ProperEnd}
@@ -25,7 +25,8 @@ use Rattle.rules.specs.declared.Bounds.{Bounds}
 use Rattle.rules.specs.declared.Effect.{Effect}
 use Rattle.rules.specs.declared.Environment.{Environment}
 use Rattle.machine.specs.Machine.{value, low, high, Memory}
-use Rattle.machine.specs.Soundness.{Placed}
+use Rattle.machine.specs.Points.{LastZero}
+use Rattle.machine.specs.Soundness.{Placed, Apart}
 
 -- What stays the same in a run of an accepted routine: the table is laid out and its walk has no fault, the environment is the table's, and each object
 -- is placed in a memory of `room` cells.
@@ -35,18 +36,20 @@ pub record Setting (T : List ℤ) (h : Sections) (E : Environment) (D : List ℕ
   pub declares : Declares T h E
   pub pairs : length D ≡ 2 * h .objects
   pub placed : (o : ℕ) → o < h .objects → Placed E D room o
+  pub apart : Apart D (h .objects)
   pub memory : room ≤ 2 ^ 24
 
--- The bounds b lie in the object of the origin.
-pub record InObject (D : List ℕ) (objects origin : ℕ) (b : Bounds) (v : ℕ → ℕ) : Type 0 where
+-- The bounds b of a pointer, of kind 2 or not, lie in the object of the origin, up to its upper limit; that of a kind 2 pointer is terminated.
+pub record InObject (terminated : List Bool) (D : List ℕ) (objects : ℕ) (string : Bool) (origin : ℕ) (b : Bounds) (v : ℕ → ℕ) : Type 0 where
   pub object : ℕ
   pub origin-is : origin ≡ suc object
   pub exists : object < objects
-  pub bounds : BoundsHold (low D object + bias) (high D object + bias) b v
+  pub ended : string ≡ true → getD terminated object false ≡ true
+  pub bounds : BoundsHold (low D object + bias) (upperLimit (getD terminated object false) (high D object) + bias) b v
 
 -- "Bounds of p are true when p is null or" they lie in its origin object: any bounds b of p.
-abbrev pub TrueOf : List ℕ → ℕ → Memory → ℕ → Bounds → Type 0
-TrueOf D objects m p b = (value (m .values) p ≡ 0) ⊎ InObject D objects (getD (m .origins) p 0) b (value (m .values))
+abbrev pub TrueOf : Environment → List ℕ → ℕ → Memory → ℕ → Bounds → Type 0
+TrueOf E D objects m p b = (value (m .values) p ≡ 0) ⊎ InObject (E .terminated) D objects (isString E p) (getD (m .origins) p 0) b (value (m .values))
 
 -- What no statement changes.
 pub record Steady (h : Sections) (room : ℕ) (m : Memory) : Type 0 where
@@ -58,24 +61,27 @@ pub record Steady (h : Sections) (room : ℕ) (m : Memory) : Type 0 where
   pub cells-small : (i : ℕ) → getD (m .cells) i 0 ≤ maxValue
 
 module _ (h : Sections) (E : Environment) (D : List ℕ) (room : ℕ) where
-  -- The facts of the walk are true of the values, its rows are those in force, and the known bounds K of each pointer are true.
+  -- The facts of the walk are true of the values, its rows are those in force, the known bounds K of each pointer are true, and terminated objects end in 0.
   pub record Good (W : State FactSet) (K : List Bounds) (m : Memory) : Type 0 where
     pub facts : Holds (W .facts) (value (m .values))
     pub rows : m .rows ≡ W .rows
     pub named : Named h (W .rows)
-    pub bounds : (p : ℕ) → isPointer E p ≡ true → TrueOf D (h .objects) m p (known K p)
+    pub bounds : (p : ℕ) → isPointer E p ≡ true → TrueOf E D (h .objects) m p (known K p)
     pub steady : Steady h room m
+    pub last-zero : LastZero E D (h .objects) (m .cells)
 
   pub with-facts : (W U : State FactSet) (K : List Bounds) (m : Memory) → Good W K m → U .rows ≡ W .rows → Holds (U .facts) (value (m .values)) → Good U K m
-  with-facts W U K m g e f = record { facts = f; rows = g .rows ∙ sym e; named = rw e (g .named); bounds = g .bounds; steady = g .steady }
+  with-facts W U K m g e f = record { facts = f; rows = g .rows ∙ sym e; named = rw e (g .named); bounds = g .bounds; steady = g .steady; last-zero = g .last-zero }
 
 -- True bounds of q before a statement make true bounds of p after it.
-pub carry : (D : List ℕ) (objects : ℕ) (m n : Memory) (q p : ℕ) (b c : Bounds) → TrueOf D objects m q b
+pub carry : (E : Environment) (D : List ℕ) (objects : ℕ) (m n : Memory) (q p : ℕ) (b c : Bounds) → TrueOf E D objects m q b
     → (value (m .values) q ≡ 0 → value (n .values) p ≡ 0) → getD (n .origins) p 0 ≡ getD (m .origins) q 0
     → ((l u : ℕ) → BoundsHold l u b (value (m .values)) → BoundsHold l u c (value (n .values)))
-    → TrueOf D objects n p c
-carry D objects m n q p b c (inl z) null o k = inl (null z)
-carry D objects m n q p b c (inr i) null o k = inr (record { object = i .object; origin-is = o ∙ i .origin-is; exists = i .exists; bounds = k _ _ (i .bounds) })
+    → (isString E p ≡ true → isString E q ≡ true)
+    → TrueOf E D objects n p c
+carry E D objects m n q p b c (inl z) null o k s = inl (null z)
+carry E D objects m n q p b c (inr i) null o k s =
+    inr (record { object = i .object; origin-is = o ∙ i .origin-is; exists = i .exists; ended = λ e. i .ended (s e); bounds = k _ _ (i .bounds) })
 
 -- ---- the assignment of a variable
 
@@ -127,7 +133,7 @@ module _ (T : List ℤ) (h : Sections) (E : Environment) (D : List ℕ) (room : 
         → ((r : ℕ) → r ≢ x → getD os r 0 ≡ getD (m .origins) r 0)
         → (Assigned before after x a → Holds G after)
         → (Assigned before after x a → (r l u : ℕ) → r ≢ x → BoundsHold l u (known K r) before → BoundsHold l u (effectOn e K r) after)
-        → (Assigned before after x a → isPointer E x ≡ true → TrueOf D (h .objects) memoryAfter x (effectOn e K x))
+        → (Assigned before after x a → isPointer E x ≡ true → TrueOf E D (h .objects) memoryAfter x (effectOn e K x))
         → Good h E D room (record { facts = G; rows = W .rows }) (boundsAfter e K) memoryAfter
     set-good g l small long same facts others own =
         record {
@@ -136,22 +142,23 @@ module _ (T : List ℤ) (h : Sections) (E : Environment) (D : List ℕ) (room : 
           named = g .named;
           bounds = λ r t. rw (known-after e K r (omega (arith, S .declares .few, S .declares .below r t))) (true-of r t (eqb r x) refl);
           steady = steady-values m x a os (g .steady) (is .range) long;
+          last-zero = g .last-zero;
         }
       where
         is : Assigned before after x a
         is = assigned (m .values) x a (g .steady .range) (omega (arith, g .steady .values-long)) (omega (arith, g .steady .values-long, S .declares .few)) small
 
-        true-of : (r : ℕ) → isPointer E r ≡ true → (b : Bool) → eqb r x ≡ b → TrueOf D (h .objects) memoryAfter r (effectOn e K r)
+        true-of : (r : ℕ) → isPointer E r ≡ true → (b : Bool) → eqb r x ≡ b → TrueOf E D (h .objects) memoryAfter r (effectOn e K r)
         true-of r t true q = let p : r ≡ x = eqb-true r x q in rw p (own is (rw p at t))
         true-of r t false q =
             let p : r ≢ x = eqb-false r x q in
-            carry D (h .objects) m memoryAfter r r (known K r) (effectOn e K r) (g .bounds r t) (λ z. is .except r p ∙ z) (same r p) (λ l u b. others is r l u p b)
+            carry E D (h .objects) m memoryAfter r r (known K r) (effectOn e K r) (g .bounds r t) (λ z. is .except r p ∙ z) (same r p) (λ l u b. others is r l u p b) (λ s. s)
 
 -- ---- all declared bounds are shown, and become the known ones
 
 module _ (T : List ℤ) (h : Sections) (E : Environment) (D : List ℕ) (room : ℕ) (S : Setting T h E D room) where
   pub shown-true : (F : FactSet) (R : List ℕ) (m : Memory) (p : ℕ) (b : Bounds) → Named h R → isPointer E p ≡ true → Steady h room m → Holds F (value (m .values))
-      → boundsShown F p b (declared (inForce E R) p) ≡ true → TrueOf D (h .objects) m p b → TrueOf D (h .objects) m p (declared (inForce E R) p)
+      → boundsShown F p b (declared (inForce E R) p) ≡ true → TrueOf E D (h .objects) m p b → TrueOf E D (h .objects) m p (declared (inForce E R) p)
   shown-true F R m p b n t s f q (inl z) = inl z
   shown-true F R m p b n t s f q (inr i) = go (shown-holds F (value (m .values)) f (s .range) _ _ p b (declared (inForce E R) p) below lower upper q (i .bounds))
     where
@@ -167,9 +174,9 @@ module _ (T : List ℤ) (h : Sections) (E : Environment) (D : List ℕ) (room : 
       upper : ProperEnd (declared (inForce E R) p .upper)
       upper = rw (ends .bounds) (ends .high-proper)
 
-      go : (value (m .values) p ≡ 0) ⊎ BoundsHold (low D (i .object) + bias) (high D (i .object) + bias) (declared (inForce E R) p) (value (m .values)) → TrueOf D (h .objects) m p (declared (inForce E R) p)
+      go : (value (m .values) p ≡ 0) ⊎ BoundsHold (low D (i .object) + bias) (upperLimit (getD (E .terminated) (i .object) false) (high D (i .object)) + bias) (declared (inForce E R) p) (value (m .values)) → TrueOf E D (h .objects) m p (declared (inForce E R) p)
       go (inl z) = inl z
-      go (inr d) = inr (record { object = i .object; origin-is = i .origin-is; exists = i .exists; bounds = d })
+      go (inr d) = inr (record { object = i .object; origin-is = i .origin-is; exists = i .exists; ended = i .ended; bounds = d })
 
   pub redeclared : (W : State FactSet) (K : List Bounds) (m : Memory) → unshownIn E W K ≡ [] → Good h E D room W K m → Good h E D room W (declaredIn E W) m
   redeclared W K m e g =
@@ -182,8 +189,9 @@ module _ (T : List ℤ) (h : Sections) (E : Environment) (D : List ℕ) (room : 
             shown-true (W .facts) (W .rows) m p (known K p) (g .named) t (g .steady) (g .facts)
             (all-shown (inForce E (W .rows)) (W .facts) K e p (omega (arith, S .declares .few, S .declares .below p t)) t) (g .bounds p t);
         steady = g .steady;
+        last-zero = g .last-zero;
       }
 
   -- Outside a bundle the known bounds are the declared ones.
-  pub declared-true : (W : State FactSet) (m : Memory) (p : ℕ) → isPointer E p ≡ true → Good h E D room W (declaredIn E W) m → TrueOf D (h .objects) m p (declared (inForce E (m .rows)) p)
+  pub declared-true : (W : State FactSet) (m : Memory) (p : ℕ) → isPointer E p ≡ true → Good h E D room W (declaredIn E W) m → TrueOf E D (h .objects) m p (declared (inForce E (m .rows)) p)
   declared-true W m p t g = rw (g .rows) (g .bounds p t)

@@ -17,7 +17,7 @@ use Rattle.statements.specs.declared.StatementRead.{StatementRead}
 use Rattle.statements.specs.declared.StatementRead.the-variants.{Read, Unread}
 use Rattle.variables.specs.declared.End.{End}
 use Rattle.flow.specs.Flow.{Successors, successors, tableFlow, tableEntry}
-use Rattle.rules.specs.BoundsRules.{declared, ownRows, inForce, rowsAfter, elementSize}
+use Rattle.rules.specs.BoundsRules.{declared, ownRows, inForce, rowsAfter, elementSize, isString, isTerminated, upperLimit}
 use Rattle.rules.specs.declared.KnownEnd.{KnownEnd}
 use Rattle.rules.specs.declared.KnownEnd.the-variants.{Known, Unknown}
 use Rattle.rules.specs.declared.Environment.{Environment}
@@ -55,14 +55,22 @@ high D o = getD D (2 * o) 0 + getD D (2 * o + 1) 0
 abbrev pub isObject : List ℕ → ℕ → Bool
 isObject D o = ltb (2 * o + 1) (length D)
 
+-- Point 7: "For every pointer into such an object the upper end must be at most high - 1."
+abbrev pub top : Environment → List ℕ → ℕ → ℕ
+top E D o = upperLimit (isTerminated E o) (high D o)
+
+-- Point 7: the bounds of a kind 2 pointer "are true only when it is null or its origin is a terminated object".
+abbrev pub takesFrom : Environment → ℕ → ℕ → Bool
+takesFrom E p o = not (isString E p) || isTerminated E o
+
 -- "Bounds of p are true when p is null or its origin object [low, high) has low <= lower end and upper end <= high." So a pointer that is not null has an
 -- object for its origin: origin 0 is none, and so is a number past the directory.
-unfoldable pub originHolds : List ℕ → ℕ → ℕ → ℕ → Bool
-originHolds D zero l u = false
-originHolds D (suc o) l u = isObject D o && leb (low D o + bias) l && leb u (high D o + bias)
+unfoldable pub originHolds : Environment → List ℕ → ℕ → ℕ → ℕ → ℕ → Bool
+originHolds E D p zero l u = false
+originHolds E D p (suc o) l u = isObject D o && takesFrom E p o && leb (low D o + bias) l && leb u (top E D o + bias)
 
 unfoldable pub boundsTrue : Environment → List ℕ → List ℕ → List ℕ → ℕ → Bool
-boundsTrue E D vs os p = eqb (value vs p) 0 || originHolds D (getD os p 0) (lowerEnd E vs p) (upperEnd E vs p)
+boundsTrue E D vs os p = eqb (value vs p) 0 || originHolds E D p (getD os p 0) (lowerEnd E vs p) (upperEnd E vs p)
 
 -- The address, with the bias, lies in the object of the origin.
 unfoldable pub inOrigin : List ℕ → ℕ → ℕ → Bool
@@ -74,7 +82,7 @@ inOrigin D (suc o) a = leb (low D o + bias) a && ltb a (high D o + bias)
 unfoldable pub conditionHolds : List ℕ → Condition → Bool
 conditionHolds vs c = relates (c .relation) (value vs (c .left)) (value vs (c .right) + c .offset)
 
--- ---- the five checks
+-- ---- the six checks
 
 -- The first named check that fails, by its number.
 pub data Failing : Type 0 where
@@ -97,9 +105,26 @@ address E vs p i k = value vs p + elementSize E p * value vs i + k
 abbrev pub indexed : Environment → List ℕ → ℕ → ℕ → ℕ
 indexed E vs q i = value vs q + elementSize E q * value vs i
 
--- "2 access through null; 3 address p + i + k below the lower end or not below the upper"
-unfoldable pub accessFailing : Environment → List ℕ → ℕ → ℕ → Failing
-accessFailing E vs p a = firstOf (eqb (value vs p) 0) 2 (firstOf (ltb a (lowerEnd E vs p) || leb (upperEnd E vs p) a) 3 none)
+-- An address a that is "not below the upper" end u; point 7: of a kind 2 pointer, above it.
+abbrev pub beyond : Bool → ℕ → ℕ → Bool
+beyond true u a = ltb u a
+beyond false u a = leb u a
+
+-- "2 access through null; 3 address p + i + k below the lower end or not below the upper", then the rest.
+unfoldable pub accessFailing : Environment → List ℕ → ℕ → ℕ → Failing → Failing
+accessFailing E vs p a rest = firstOf (eqb (value vs p) 0) 2 (firstOf (ltb a (lowerEnd E vs p) || beyond (isString E p) (upperEnd E vs p) a) 3 rest)
+
+-- Point 7: a store of a number x that is not 0 at the upper end. (An array_ptr is stopped there before.)
+unfoldable pub terminatorFailing : Environment → List ℕ → ℕ → ℕ → ℕ → Failing
+terminatorFailing E vs p a x = firstOf (eqb a (upperEnd E vs p) && not (eqb x 0)) 6 none
+
+-- What may be read and what may be written. Point 7: "A kind 2 pointer may also read the cell at its upper end and store 0 there; storing another number
+-- there is stop 6, tested after stop 3."
+abbrev pub loadFailing : Environment → List ℕ → ℕ → ℕ → Failing
+loadFailing E vs p a = accessFailing E vs p a none
+
+abbrev pub storeFailing : Environment → List ℕ → ℕ → ℕ → ℕ → Failing
+storeFailing E vs p a x = accessFailing E vs p a (terminatorFailing E vs p a x)
 
 -- "4 arithmetic on null; 5 result outside 1 to 4,294,967,295": the result with the bias.
 unfoldable pub arithmeticFailing : ℕ → ℕ → Failing
@@ -114,8 +139,8 @@ failing E vs (Address p o) = none
 -- "(kind 6 with k not 0, kind 7)"
 failing E vs (PointerOffset p q k) = firstUnless (eqb k bias) (arithmeticFailing (value vs q) (value vs q + k))
 failing E vs (PointerIndex p q i) = arithmeticFailing (value vs q) (indexed E vs q i + bias)
-failing E vs (Load x p i k) = accessFailing E vs p (address E vs p i k)
-failing E vs (Store p i k x) = accessFailing E vs p (address E vs p i k)
+failing E vs (Load x p i k) = loadFailing E vs p (address E vs p i k)
+failing E vs (Store p i k x) = storeFailing E vs p (address E vs p i k) (value vs x)
 -- "1 dynamic check false"
 failing E vs (Check c) = firstOf (not (conditionHolds vs c)) 1 none
 failing E vs (Declare p r) = none

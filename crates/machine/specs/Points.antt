@@ -1,5 +1,6 @@
--- Points of a run (document 01, "The plain machine"): which are in a bundle, the access that the step from a point performs, the cells outside of all objects.
-use Prim.Native.Nat.{ℕ, _+_, _≤_, _<_}
+-- Points of a run (document 01, "The plain machine"): which are in a bundle, the access that the step from a point performs, the cells outside of all
+-- objects, the last cells of terminated ones.
+use Prim.Native.Nat.{ℕ, _+_, _-_, _≤_, _<_}
 use mathlib.Core.Path.{_≡_}
 use mathlib.Core.Bool.{Bool, true, false, _&&_, _||_}
 use mathlib.Core.List.{List}
@@ -14,7 +15,7 @@ use Rattle.statements.specs.declared.Statement.the-variants.{Plain, If, While, 
 use Rattle.statements.specs.declared.StatementRead.{StatementRead}
 use Rattle.statements.specs.declared.StatementRead.the-variants.{Read, Unread}
 use Rattle.blocks.specs.Tree.{Block, nil, plain, branch, loop, bundle, unread}
-use Rattle.rules.specs.BoundsRules.{inForce}
+use Rattle.rules.specs.BoundsRules.{isTerminated, inForce}
 use Rattle.rules.specs.declared.Environment.{Environment}
 use Rattle.machine.specs.Machine.{low, high, Failing, none, fails, failing, address, Status, going, stopped, stuck, Point, Memory, memoryOf, inOrigin}
 
@@ -70,6 +71,10 @@ accessFrom T h E stuck P = no-access
 -- Cell i is in none of the objects.
 abbrev pub Outside : List ℕ → ℕ → ℕ → Type 0
 Outside D objects i = (o : ℕ) → o < objects → low D o ≤ i → i < high D o → ⊥
+
+-- Point 7: "the last cell of each terminated object is 0".
+abbrev pub LastZero : Environment → List ℕ → ℕ → List ℕ → Type 0
+LastZero E D objects cs = (o : ℕ) → o < objects → isTerminated E o ≡ true → getD cs (high D o - 1) 0 ≡ 0
 
 -- "a named check fails at the statement due": the first such check. Heads of blocks have none.
 abbrev pub failingAt : Environment → StatementRead → List ℕ → Failing

@@ -1,5 +1,5 @@
--- Soundness: at every point of a begun run of an accepted routine the machine has a step or has ended, every access is inside its origin object, and
--- outside bundles the declared bounds of every pointer are true.
+-- Soundness: at every point of a begun run of an accepted routine the machine has a step or has ended, every access is inside its origin object,
+-- outside bundles the declared bounds of every pointer are true, and the last cell of each terminated object is 0.
 use Prim.Native.Nat.{ℕ, zero, suc, _≤_, _<_}
 use mathlib.Core.Path.{_≡_, refl, sym, ap, _∙_}
 use mathlib.Core.Logic.{_≢_, _⊎_, inl, inr}
@@ -43,7 +43,7 @@ use Rattle.rules.specs.Verdict.{environmentOf}
 use Rattle.rules.specs.AcceptedLaws.{clear}
 use Rattle.rules.specs.declared.Environment.{Environment}
 use Rattle.machine.specs.Machine.{value, boundsTrue, Failing, none, fails, failing, Memory, Status, going, stopped, stuck, Point, memoryOf, statementStep, successorsOf, stepIfDue, nextPoint, start, pointAfter}
-use Rattle.machine.specs.Points.{inBundle, simpleAccess, unlessFailing, statementAccess, accessIf, accessFrom}
+use Rattle.machine.specs.Points.{inBundle, simpleAccess, unlessFailing, statementAccess, accessIf, accessFrom, LastZero}
 use Rattle.machine.specs.Soundness.{AccessRight, AccessAllowed, Begun, Sound}
 use Rattle.machine.specs.Good.{Setting, Steady, Good, declared-true}
 use Rattle.machine.specs.AccessSound.{Inside, Ready, inside-origin, access-inside}
@@ -124,6 +124,10 @@ module _ (T : List ℤ) (h : Sections) (E : Environment) (D : List ℕ) (room : 
     steady-of P (inl w) = w .good .steady
     steady-of P (inr w) = w .1 .steady
 
+    last-of : (P : Point) → Somewhere P → LastZero E D (h .objects) (P .cells)
+    last-of P (inl w) = w .good .last-zero
+    last-of P (inr w) = w .1 .last-zero
+
     due-of : (P : Point) → Somewhere P → P .due ≤ h .statements
     due-of P (inl w) = omega (arith, w .within)
     due-of P (inr w) = omega (arith, w .0)
@@ -157,10 +161,10 @@ module _ (T : List ℤ) (h : Sections) (E : Environment) (D : List ℕ) (room : 
     simple-allowed (PointerIndex p q i) a m w n r y e = tt
     simple-allowed (Load x p i k) a m w n r y e =
         let typed = read-typed T h a (Plain (Load x p i k)) r in
-        access-right m _ _ w (access-inside (inForce E (m .rows)) D (h .objects) m p (S .declares .ends (m .rows) n p (S .declares .pointer p (typed .pointer))) _ e y)
+        access-right m _ _ w (access-inside (inForce E (m .rows)) D (h .objects) m p (S .declares .ends (m .rows) n p (S .declares .pointer p (typed .pointer))) (λ o l. S .placed o l .first) _ _ e y)
     simple-allowed (Store p i k x) a m w n r y e =
         let typed = read-typed T h a (Plain (Store p i k x)) r in
-        access-right m _ _ w (access-inside (inForce E (m .rows)) D (h .objects) m p (S .declares .ends (m .rows) n p (S .declares .pointer p (typed .pointer))) _ e y)
+        access-right m _ _ w (access-inside (inForce E (m .rows)) D (h .objects) m p (S .declares .ends (m .rows) n p (S .declares .pointer p (typed .pointer))) (λ o l. S .placed o l .first) _ _ e y)
     simple-allowed (Check c) a m w n r y e = tt
     simple-allowed (Declare p i) a m w n r y e = tt
 
@@ -203,6 +207,7 @@ module _ (T : List ℤ) (h : Sections) (E : Environment) (D : List ℕ) (room : 
           has-step = i .has-step;
           bounds = bounds-of P w;
           access-allowed = from-allowed P (P .status) i;
+          last-zero = last-of P w;
           due-within = due-of P w;
           cells-long = s .cells-long;
           values-long = s .values-long;
@@ -225,7 +230,7 @@ module _ (T : List ℤ) (h : Sections) (formed : formOf T ≡ WellFormed h) (acc
   pub begun-setting : Setting T h (environmentOf T h) D (length cs)
   begun-setting =
       let a = clear T h formed accepts in
-      record { laid = a .laid; walked = a .walked; declares = declares; pairs = begun .pairs; placed = begun .placed; memory = begun .memory }
+      record { laid = a .laid; walked = a .walked; declares = declares; pairs = begun .pairs; placed = begun .placed; apart = begun .apart; memory = begun .memory }
 
   -- The invariant holds at the start.
   pub begun-invariant : Invariant T h (environmentOf T h) D (length cs) (start T h (environmentOf T h) D cs vs os)

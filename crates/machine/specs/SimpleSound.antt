@@ -21,13 +21,13 @@ use Rattle.blocks.specs.Tree.{target}
 use Rattle.rules.specs.Stored.{equated, sumFacts, offsetFacts, effect, effectOn, boundsAfter, stateAfter}
 use Rattle.rules.specs.BoundsRules as boundsRules
 use Rattle.rules.specs.FactsTrue.{Agree, among-one, equated-holds, positive-holds, sum-in-range}
-use Rattle.rules.specs.BoundsRules.{objectLength, known, forgetBounds, objectBounds, elementSize}
+use Rattle.rules.specs.BoundsRules.{objectLength, known, forgetBounds, objectBounds, elementSize, isString, isTerminated, upperLimit, objectSpan}
 use Rattle.rules.specs.BoundsTrue.{BoundsHold, forget-holds, shift-holds, object-holds}
 use Rattle.rules.specs.declared.Bounds.{Bounds}
 use Rattle.rules.specs.declared.Effect.{Effect}
 use Rattle.rules.specs.declared.Effect.the-variants.{Forget, Shift, Copy, Object}
 use Rattle.rules.specs.declared.Environment.{Environment}
-use Rattle.machine.specs.Machine.{value, low, high, Memory, Performed, done, no-step, combined}
+use Rattle.machine.specs.Machine.{value, low, high, Memory, Performed, done, no-step, combined, top}
 use Rattle.machine.specs.Good.{Setting, TrueOf, Good, carry, Assigned, set-good}
 use Rattle.rules.specs.FactRules as factRules
 use Rattle.rules.specs.States.{State}
@@ -53,6 +53,12 @@ unfolding combined
 combined-small zero a b = remainder-small (a + b)
 combined-small (suc zero) a b = remainder-small (a + 2 ^ 32 - b)
 combined-small (suc (suc n)) a b = remainder-small (a * b)
+
+-- The upper limit of an object, counted from its first cell.
+limit-add : (b : Bool) (l n : ℕ) → 1 ≤ n → l + upperLimit b n ≡ upperLimit b (l + n)
+unfolding upperLimit
+limit-add true l n p = omega arith
+limit-add false l n p = refl
 
 -- The values and the memory with one variable set.
 abbrev pub valuesSet : Memory → ℕ → ℕ → ℕ → ℕ
@@ -165,7 +171,7 @@ module _ (T : List ℤ) (h : Sections) (E : Environment) (D : List ℕ) (room : 
     module _ (p a o : ℕ) (i : IsPointer T h p) (small : a ≤ maxValue) where
       pointer-good : (G : FactSet) (e : Effect) → (Assigned v (valuesSet m p a) p a → Holds G (valuesSet m p a))
           → (Assigned v (valuesSet m p a) p a → (r l u : ℕ) → r ≢ p → BoundsHold l u (known K r) v → BoundsHold l u (effectOn e K r) (valuesSet m p a))
-          → (Assigned v (valuesSet m p a) p a → getD (set (m .origins) p o) p 0 ≡ o → TrueOf D (h .objects) (pointerSet m p a o) p (effectOn e K p))
+          → (Assigned v (valuesSet m p a) p a → getD (set (m .origins) p o) p 0 ≡ o → TrueOf E D (h .objects) (pointerSet m p a o) p (effectOn e K p))
           → GoodAfter G (boundsAfter e K) (pointerSet m p a o)
       pointer-good G e facts others own =
           set-good T h E D room S W G K e m p a (set (m .origins) p o) g (i .below) small (length-set (m .origins) p o ∙ g .steady .origins-long)
@@ -185,41 +191,43 @@ module _ (T : List ℤ) (h : Sections) (E : Environment) (D : List ℕ) (room : 
         pointer-good p 0 0 i (omega arith) (ranged F p 0 0) (Forget p) (ranged-fact p 0 0 i (omega arith) 0 0 (omega arith) (omega arith))
         (others-forget K v (valuesSet m p 0) p 0) (λ is e. inl (is .value-is))
 
-    pub address-left : (p o : ℕ) → IsPointer T h p → o < h .objects
-        → GoodAfter (ranged F p 1 maxValue) (boundsAfter (Object p (elementSize E p) (objectLength E o)) K) (pointerSet m p (low D o) (o + 1))
+    -- Where the bounds of an object's address end.
+    span-top : (o : ℕ) → o < h .objects → low D o + objectSpan E o ≡ top E D o
+    span-top o l =
+        rw (S .declares .span o l, S .placed o l .long) (limit-add (isTerminated E o) (low D o) (objectLength E o) (S .declares .long o l))
+
+    pub address-left : (p o : ℕ) → IsPointer T h p → o < h .objects → (isString E p ≡ true → isTerminated E o ≡ true)
+        → GoodAfter (ranged F p 1 maxValue) (boundsAfter (Object p (elementSize E p) (objectSpan E o)) K) (pointerSet m p (low D o) (o + 1))
     unfolding boundsRules.effectOn
-    address-left p o i l =
+    address-left p o i l fits =
         let placed = S .placed o l in
-        let long : getD D (2 * o + 1) 0 ≡ objectLength E o = placed .long in
         let inside : high D o ≤ room = placed .inside in
         let small : low D o ≤ maxValue = omega (arith, S .memory) in
-        pointer-good p (low D o) (o + 1) i small (ranged F p 1 maxValue) (Object p (elementSize E p) (objectLength E o))
+        pointer-good p (low D o) (o + 1) i small (ranged F p 1 maxValue) (Object p (elementSize E p) (objectSpan E o))
         (ranged-fact p (low D o) (o + 1) i small 1 maxValue (placed .first) small)
-        (others-object K v (valuesSet m p (low D o)) p (elementSize E p) (objectLength E o) (low D o))
+        (others-object K v (valuesSet m p (low D o)) p (elementSize E p) (objectSpan E o) (low D o))
         (λ is e.
         inr (record {
           object = o;
           origin-is = e ∙ omega arith;
           exists = l;
+          ended = fits;
           bounds = own is;
         }))
       where
         own : Assigned v (valuesSet m p (low D o)) p (low D o)
-            → BoundsHold (low D o + bias) (high D o + bias)
-            (cond (eqb p p) (objectBounds p (elementSize E p) (objectLength E o)) (forgetBounds p (known K p))) (valuesSet m p (low D o))
+            → BoundsHold (low D o + bias) (top E D o + bias)
+            (cond (eqb p p) (objectBounds p (elementSize E p) (objectSpan E o)) (forgetBounds p (known K p))) (valuesSet m p (low D o))
         own is =
-            let placed = S .placed o l in
-            let long : getD D (2 * o + 1) 0 ≡ objectLength E o = placed .long in
-            let inside : high D o ≤ room = placed .inside in
-            let b = object-holds (low D o) (elementSize E p) (objectLength E o) p (valuesSet m p (low D o)) (is .range) (variable-small p (i .below))
+            let b = object-holds (low D o) (elementSize E p) (objectSpan E o) p (valuesSet m p (low D o)) (is .range) (variable-small p (i .below))
             (is .value-is) in
-            rw (eq-eqb p p refl, long) b
+            rw (eq-eqb p p refl, ← (span-top o l)) b
 
     -- p becomes q moved to the address a, with the origin of q.
-    module _ (p q a : ℕ) (i : IsPointer T h p) (j : IsPointer T h q) (small : a ≤ maxValue) (null : v q ≡ 0 → a ≡ 0) where
+    module _ (p q a : ℕ) (i : IsPointer T h p) (j : IsPointer T h q) (small : a ≤ maxValue) (fits : isString E p ≡ true → isString E q ≡ true) (null : v q ≡ 0 → a ≡ 0) where
       derived-own : (b : Bounds) → Assigned v (valuesSet m p a) p a → getD (set (m .origins) p (getD (m .origins) q 0)) p 0 ≡ getD (m .origins) q 0
-          → ((l u : ℕ) → BoundsHold l u (known K q) v → BoundsHold l u b (valuesSet m p a)) → TrueOf D (h .objects) (derivedSet m p q a) p b
-      derived-own b is e k = carry D (h .objects) m (derivedSet m p q a) q p (known K q) b (g .bounds q (S .declares .pointer q j)) (λ z. is .value-is ∙ null z) e k
+          → ((l u : ℕ) → BoundsHold l u (known K q) v → BoundsHold l u b (valuesSet m p a)) → TrueOf E D (h .objects) (derivedSet m p q a) p b
+      derived-own b is e k = carry E D (h .objects) m (derivedSet m p q a) q p (known K q) b (g .bounds q (S .declares .pointer q j)) (λ z. is .value-is ∙ null z) e k fits
 
       copy-good : (G : FactSet) → (Assigned v (valuesSet m p a) p a → Holds G (valuesSet m p a))
           → GoodAfter G (boundsAfter (Copy p q) K) (derivedSet m p q a)

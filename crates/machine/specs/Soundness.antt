@@ -12,7 +12,7 @@ use Rattle.blocks.specs.Tree.{tree}
 use Rattle.rules.specs.BoundsRules.{isPointer, objectLength, inForce}
 use Rattle.rules.specs.declared.Environment.{Environment}
 use Rattle.machine.specs.Machine.{low, high, boundsTrue, inOrigin, stuck, Point}
-use Rattle.machine.specs.Points.{inBundle, Access, no-access, access, accessFrom}
+use Rattle.machine.specs.Points.{inBundle, Access, no-access, access, accessFrom, LastZero}
 
 -- ---- where a run is begun
 
@@ -22,11 +22,16 @@ pub record Placed (E : Environment) (D : List ℕ) (n o : ℕ) : Type 0 where
   pub long : getD D (2 * o + 1) 0 ≡ objectLength E o
   pub inside : high D o ≤ n
 
--- "A run is begun when no cause refuses it": what soundness needs of causes 10 to 12, and of the words of 32 bits.
+-- No cell is in two objects: the pairs are "sorted by offset" and none is "overlapping".
+abbrev pub Apart : List ℕ → ℕ → Type 0
+Apart D objects = (o k i : ℕ) → o < objects → k < objects → low D o ≤ i → i < high D o → low D k ≤ i → i < high D k → o ≡ k
+
+-- "A run is begun when no cause refuses it": what soundness needs of causes 10 to 12 and 16, and of the words of 32 bits.
 -- Every origin is 0 or that of an object; of a pointer that is not null it is not 0, since origin 0 has no true bounds.
 pub record Begun (h : Sections) (E : Environment) (D cs vs os : List ℕ) : Type 0 where
   pub pairs : length D ≡ 2 * h .objects
   pub placed : (o : ℕ) → o < h .objects → Placed E D (length cs) o
+  pub apart : Apart D (h .objects)
   pub memory : length cs ≤ 2 ^ 24
   pub values-long : length vs ≡ h .variables
   pub origins-long : length os ≡ h .variables
@@ -34,6 +39,7 @@ pub record Begun (h : Sections) (E : Environment) (D cs vs os : List ℕ) : Type
   pub cells-small : (i : ℕ) → getD cs i 0 ≤ maxValue
   pub bounds : (p : ℕ) → isPointer E p ≡ true → boundsTrue E D vs os p ≡ true
   pub origins : (v : ℕ) → getD os v 0 ≤ h .objects
+  pub last-zero : LastZero E D (h .objects) cs
 
 -- ---- what holds at a point
 
@@ -55,6 +61,8 @@ pub record Sound (T : List ℤ) (h : Sections) (E : Environment) (D : List ℕ) 
   pub bounds : inBundle (tree T h) (P .due) ≡ false → (p : ℕ) → isPointer E p ≡ true → boundsTrue (inForce E (P .rows)) D (P .values) (P .origins) p ≡ true
   -- The access that the step from here performs is inside the origin object of its pointer, and at a cell of the memory.
   pub access-allowed : AccessAllowed D (length (P .cells)) (accessFrom T h E (P .status) P)
+  -- Point 7: "At every point of a run the last cell of each terminated object is 0."
+  pub last-zero : LastZero E D (h .objects) (P .cells)
   -- The statement due is one of the table, or the number past the last.
   pub due-within : P .due ≤ h .statements
   pub cells-long : length (P .cells) ≡ room

@@ -1,7 +1,7 @@
 -- The paper's number and place of each refusal (document 01, "Causes of refusal").
 use Prim.Native.Nat.{ℕ}
 use Rattle.refusals.specs.declared.Refusal.{Refusal}
-use Rattle.refusals.specs.declared.Refusal.the-variants.{Length, Directory, ObjectLength, VariableRecord, StatementRecord, BlockLayout, BoundsNotShown, BundleAccess, MemorySize, DirectoryPair, EntryLengths, EntryValue, RowsDiffer}
+use Rattle.refusals.specs.declared.Refusal.the-variants.{Length, Directory, ObjectLength, VariableRecord, StatementRecord, BlockLayout, BoundsNotShown, BundleAccess, MemorySize, DirectoryPair, EntryLengths, EntryValue, RowsDiffer, LastCell}
 
 -- "Causes of refusal", the column "No." Point 11: "Refusal 7 no longer occurs."
 abbrev pub number : Refusal → ℕ
@@ -19,6 +19,8 @@ number EntryLengths = 11
 number (EntryValue v) = 12
 -- Point 2: "It refuses with 13, at the if or while"
 number (RowsDiffer s) = 13
+-- Point 7: "It refuses with 16, after 12, when such a last cell is not 0 at entry, giving the lowest such object."
+number (LastCell o) = 16
 
 -- The column "Returned": object, variable, statement, pair, or 0.
 abbrev pub place : Refusal → ℕ
@@ -35,6 +37,7 @@ place (DirectoryPair i) = i
 place EntryLengths = 0
 place (EntryValue v) = v
 place (RowsDiffer s) = s
+place (LastCell o) = o
 
 -- Refusal 8 also returns a pointer (point 6: "the lowest-numbered one not shown"); the others return none, for which 0 stands.
 abbrev pub pointer : Refusal → ℕ
@@ -51,3 +54,4 @@ pointer (DirectoryPair i) = 0
 pointer EntryLengths = 0
 pointer (EntryValue v) = 0
 pointer (RowsDiffer s) = 0
+pointer (LastCell o) = 0

@@ -17,6 +17,7 @@ pub enum Refusal {
     EntryLengths,
     EntryValue(usize),
     RowsDiffer(usize),
+    LastCell(usize),
 }
 
 pub fn refusal_number(r: Refusal) -> u32
@@ -39,6 +40,7 @@ pub fn refusal_number(r: Refusal) -> u32
         Refusal::EntryLengths => 11,
         Refusal::EntryValue(_) => 12,
         Refusal::RowsDiffer(_) => 13,
+        Refusal::LastCell(_) => 16,
     }
 }
 
@@ -62,6 +64,7 @@ pub fn refusal_place(r: Refusal) -> usize
         Refusal::EntryLengths => 0,
         Refusal::EntryValue(v) => v,
         Refusal::RowsDiffer(a) => a,
+        Refusal::LastCell(o) => o,
     }
 }
 
@@ -86,5 +89,6 @@ pub fn refusal_pointer(r: Refusal) -> usize
         Refusal::EntryLengths => 0,
         Refusal::EntryValue(_) => 0,
         Refusal::RowsDiffer(_) => 0,
+        Refusal::LastCell(_) => 0,
     }
 }

@@ -1,5 +1,5 @@
 -- The paper's section "Bounds in force": what each kind of statement does to the known bounds, and when declared bounds are shown.
-use Prim.Native.Nat.{ℕ, zero, suc, _+_}
+use Prim.Native.Nat.{ℕ, zero, suc, _+_, _-_}
 use mathlib.Core.Bool.{Bool, true, false, not, _&&_, _||_, cond}
 use mathlib.Core.List.{List, [], _∷_}
 use lib.Dec.{eqb}
@@ -25,6 +25,13 @@ nothingKnown = record { size = 1; lower = Unknown; upper = Unknown }
 
 abbrev pub isPointer : Environment → ℕ → Bool
 isPointer E p = getD (E .pointers) p false
+
+-- Point 7: a pointer of kind 2, `nt_array_ptr`, to a string; an object that is terminated.
+abbrev pub isString : Environment → ℕ → Bool
+isString E p = getD (E .strings) p false
+
+abbrev pub isTerminated : Environment → ℕ → Bool
+isTerminated E o = getD (E .terminated) o false
 
 -- Point 10: the element size of a pointer, in cells.
 abbrev pub elementSize : Environment → ℕ → ℕ
@@ -53,9 +60,12 @@ rowBound E (suc r) p = sized (elementSize E p) (getD (E .rows) r nothingKnown)
 abbrev pub inForce : Environment → List ℕ → Environment
 inForce E R = record {
   pointers = E .pointers;
+  strings = E .strings;
   sizes = E .sizes;
   declared = tabulate 16 (λ p. rowBound E (getD R p 0) p);
   lengths = E .lengths;
+  terminated = E .terminated;
+  spans = E .spans;
   rows = E .rows;
 }
 
@@ -75,6 +85,14 @@ rowsAfter (Declare p r) R = set R p (r + 1)
 
 abbrev pub objectLength : Environment → ℕ → ℕ
 objectLength E o = getD (E .lengths) o 0
+
+-- Point 7: "For every pointer into such an object the upper end must be at most high - 1": the upper limit of an object of n cells, or with the end n.
+unfoldable pub upperLimit : Bool → ℕ → ℕ
+upperLimit terminated n = cond terminated (n - 1) n
+
+-- The upper limit of an object, counted from its address.
+abbrev pub objectSpan : Environment → ℕ → ℕ
+objectSpan E o = getD (E .spans) o 0
 
 -- "Each pointer has known bounds": a list of 16, one for each number of a variable.
 abbrev pub known : List Bounds → ℕ → Bounds
@@ -96,7 +114,7 @@ weight s v e = cond (eqb (e .pointer) v) 1 s
 unfoldable pub forgetBounds : ℕ → Bounds → Bounds
 forgetBounds v b = record { size = b .size; lower = forgetEnd v (b .lower); upper = forgetEnd v (b .upper) }
 
--- "Kind 5 then gives (p, p + length)". Point 10: "Known bounds carry the size they came with, those of kind 5 the size of p."
+-- "Kind 5 then gives (p, p + length)"; point 7: of a terminated object "(p, p + length - 1)". Point 10: "Known bounds carry the size they came with, those of kind 5 the size of p."
 unfoldable pub objectBounds : ℕ → ℕ → ℕ → Bounds
 objectBounds p s n = record {
   size = s;
@@ -142,7 +160,7 @@ module _ (S : FactSets) where
   effect E f (Arithmetic x y z op) = Forget x
   -- "kind 4 leaves p's own": nothing new is put in their place.
   effect E f (Null p) = Forget p
-  effect E f (Address p o) = Object p (elementSize E p) (objectLength E o)
+  effect E f (Address p o) = Object p (elementSize E p) (objectSpan E o)
   effect E f (PointerOffset p q k) = cond (eqb p q) (Shift p k) (Copy p q)
   effect E f (PointerIndex p q i) = cond (eqb p q) (Forget p) (Copy p q)
   effect E f (Load x p i k) = Forget x

@@ -9,15 +9,14 @@ use borrow.Author.Tests.{ltb-true, ltb-false, eqb-true, ne-eqb}
 use lib.IntN.{ℤ}
 use lib.ListN.{length, List·getD-eq-default, getD}
 use lib.Dec.{ltb}
-use Rattle.sums.specs.Numbers.{bias}
 use Rattle.arrays.specs.Tabulate.{tabulate}
 use Rattle.arrays.specs.TabulateLaws.{getD-tabulate, length-tabulate}
-use Rattle.sections.specs.Sections.{kindAt, integerAt, pointerAt}
+use Rattle.sections.specs.Sections.{pointerAt, stringAt, objectTerminated}
 use Rattle.sections.specs.Typed.{IsInteger, IsPointer, IsIndex, missing, given}
-use Rattle.sections.specs.NameLaws.{pointer-limits}
+use Rattle.sections.specs.NameLaws.{pointer-limits, integer-no-pointer}
 use Rattle.sections.specs.declared.Sections.{Sections}
 use Rattle.variables.specs.Typed.{EndTyped, PointerTyped}
-use Rattle.variables.specs.Variables.{variableAt, rowAt}
+use Rattle.variables.specs.Variables.{variableAt, rowAt, objectAt}
 use Rattle.variables.specs.VariableLaws.{variable-read-typed, row-read-typed}
 use Rattle.variables.specs.declared.End.{End}
 use Rattle.variables.specs.declared.Variable.{Variable}
@@ -26,7 +25,7 @@ use Rattle.variables.specs.declared.VariableRead.{VariableRead}
 use Rattle.variables.specs.declared.VariableRead.the-variants.{Read, Unread}
 use Rattle.variables.specs.declared.RowRead.{RowRead}
 use Rattle.table.specs.FormLaws.{Formed}
-use Rattle.rules.specs.BoundsRules.{nothingKnown, isPointer, declared, rowBound, inForce, elementSize, sized}
+use Rattle.rules.specs.BoundsRules.{nothingKnown, isPointer, declared, rowBound, inForce, elementSize, sized, isString, isTerminated, objectLength, objectSpan, upperLimit}
 use Rattle.rules.specs.BoundsTrue.{Proper, declared-in-force}
 use Rattle.rules.specs.Verdict.{boundsOf, environmentOf, rowBounds, variableSize}
 use Rattle.rules.specs.declared.KnownEnd.the-variants.{Known}
@@ -56,16 +55,33 @@ pub record Declares (T : List ℤ) (h : Sections) (E : Environment) : Type 0 whe
   pub pointer : (p : ℕ) → IsPointer T h p → isPointer E p ≡ true
   pub integer : (x : ℕ) → IsInteger T h x → isPointer E x ≡ false
   pub below : (p : ℕ) → isPointer E p ≡ true → p < h .variables
+  -- Point 7: the pointers of kind 2, and the terminated objects.
+  pub string : (p : ℕ) → p < h .variables → isString E p ≡ stringAt T h p
+  pub ended : (o : ℕ) → o < h .objects → isTerminated E o ≡ objectTerminated T h o
+  pub long : (o : ℕ) → o < h .objects → 1 ≤ objectLength E o
+  pub span : (o : ℕ) → o < h .objects → objectSpan E o ≡ upperLimit (isTerminated E o) (objectLength E o)
   pub ends : (R : List ℕ) → Named h R → (p : ℕ) → isPointer E p ≡ true → DeclaredEnds (inForce E R) p
 
 module _ (T : List ℤ) (h : Sections) where
-  integer-no-pointer : (x : ℕ) → integerAt T h x ≡ true → pointerAt T h x ≡ false
-  unfolding integerAt pointerAt
-  integer-no-pointer x e = let k : kindAt T h x ≡ bias = eqb-true (kindAt T h x) bias e in ne-eqb (kindAt T h x) (bias + 1) (λ q. omega arith)
-
   pointer-at : (p : ℕ) → p < 17 → isPointer (environmentOf T h) p ≡ pointerAt T h p
   unfolding environmentOf
   pointer-at p l = getD-tabulate 17 (pointerAt T h) p false l
+
+  string-at : (p : ℕ) → p < 17 → isString (environmentOf T h) p ≡ stringAt T h p
+  unfolding environmentOf
+  string-at p l = getD-tabulate 17 (stringAt T h) p false l
+
+  ended-at : (o : ℕ) → o < 16 → isTerminated (environmentOf T h) o ≡ objectTerminated T h o
+  unfolding environmentOf
+  ended-at o l = getD-tabulate 16 (objectTerminated T h) o false l
+
+  length-at : (o : ℕ) → o < 16 → objectLength (environmentOf T h) o ≡ objectAt T h o
+  unfolding environmentOf
+  length-at o l = getD-tabulate 16 (objectAt T h) o 0 l
+
+  span-at : (o : ℕ) → o < 16 → objectSpan (environmentOf T h) o ≡ upperLimit (isTerminated (environmentOf T h) o) (objectLength (environmentOf T h) o)
+  unfolding environmentOf
+  span-at o l = getD-tabulate 16 (λ x. upperLimit (objectTerminated T h x) (objectAt T h x)) o 0 l ∙ rw (getD-tabulate 16 (objectTerminated T h) o false l, getD-tabulate 16 (objectAt T h) o 0 l)
 
   declared-at : (p : ℕ) → p < 16 → rowBound (environmentOf T h) 0 p ≡ boundsOf (variableAt T h p)
   unfolding environmentOf rowBound
@@ -115,7 +131,7 @@ module _ (T : List ℤ) (h : Sections) where
 
   apart : (p x : ℕ) → h .variables ≤ 16 → IsPointer T h p → IsIndex T h x → p ≢ x
   apart p x few i (missing e) q = omega (arith, i .below)
-  apart p x few i (given j) q = false≢true (sym (integer-no-pointer x (j .kind)) ∙ (ap (pointerAt T h) (sym q) ∙ i .kind))
+  apart p x few i (given j) q = false≢true (sym (integer-no-pointer T h x (j .kind)) ∙ (ap (pointerAt T h) (sym q) ∙ i .kind))
 
   end-proper : (e : End) → h .variables ≤ 16 → EndTyped T h e → Proper e
   end-proper e few t =
@@ -127,7 +143,7 @@ module _ (T : List ℤ) (h : Sections) where
 
   ends-of : h .variables ≤ 16 → (p : ℕ) → p < 16 → pointerAt T h p ≡ true → (x : Variable) → variableAt T h p ≡ Read x
       → Ends (elementSize (environmentOf T h) p) (rowBound (environmentOf T h) 0 p)
-  ends-of few p l k Integer e = absurd (false≢true (sym (integer-no-pointer p (variable-read-typed T h p Integer e)) ∙ k))
+  ends-of few p l k Integer e = absurd (false≢true (sym (integer-no-pointer T h p (variable-read-typed T h p Integer e)) ∙ k))
   ends-of few p l k (Pointer s low high) e =
       let t : PointerTyped T h p s low high = variable-read-typed T h p (Pointer s low high) e in
       let z : elementSize (environmentOf T h) p ≡ s = size-at p l ∙ ap (λ (r : VariableRead). variableSize r) e in
@@ -171,5 +187,9 @@ environment-declares T h f =
       pointer = λ p i. pointer-at T h p (omega (arith, i .below)) ∙ i .kind;
       integer = λ x i. pointer-at T h x (omega (arith, i .below)) ∙ integer-no-pointer T h x (i .kind);
       below = λ p e. pointer-limits T h p (pointer-kind T h p e) .1;
+      string = λ p l. string-at T h p (omega arith);
+      ended = λ o l. ended-at T h o (omega (arith, f .limits .objects));
+      long = λ o l. rw (length-at T h o (omega (arith, f .limits .objects))) (f .objects o l .0);
+      span = λ o l. span-at T h o (omega (arith, f .limits .objects));
       ends = λ R n p e. rw (declared-in-force (environmentOf T h) R p (omega (arith, few, pointer-limits T h p (pointer-kind T h p e) .1))) (number-ends T h f p e (getD R p 0) (n p));
     }

@@ -18,6 +18,7 @@ use Rattle.arrays.specs.TabulateLaws.{length-tabulate, getD-tabulate}
 use Rattle.facts.specs.Store.{inRange}
 use Rattle.chains.specs.Facts.{Variables, Node}
 use Rattle.facts.specs.declared.FactSet.{FactSet}
+use Rattle.sections.specs.Sections.{objectTerminated}
 use Rattle.sections.specs.Typed.{IsIndex, missing, given, IsSmall}
 use Rattle.sections.specs.declared.Sections.{Sections}
 use Rattle.statements.specs.Typed.{SimpleTyped}
@@ -32,7 +33,7 @@ use Rattle.variables.specs.declared.VariableRead.{VariableRead}
 use Rattle.variables.specs.declared.VariableRead.the-variants.{Read, Unread}
 use Rattle.variables.specs.declared.RowRead.{RowRead}
 use Rattle.table.specs.FormLaws.{Formed}
-use Rattle.rules.specs.BoundsRules.{nothingKnown, known, names, objectLength, forgetEnd, forgetBounds, objectBounds, effect, rowBound, declared, inForce, weight}
+use Rattle.rules.specs.BoundsRules.{nothingKnown, known, names, forgetEnd, forgetBounds, objectBounds, effect, rowBound, declared, inForce, weight, objectSpan, upperLimit}
 use Rattle.rules.specs.Verdict.{boundsOf, environmentOf, rowBounds}
 use Rattle.rules.specs.EnvironmentLaws.{sizes-small}
 use Rattle.rules.specs.Stored.{store, shiftConstant, shiftEnd, shiftBounds, effectOn, boundsAfter}
@@ -230,9 +231,15 @@ module _ (T : List ℤ) (h : Sections) (w : Formed T h) where
           let i : length (tabulate 16 (λ q. rowBound (environmentOf T h) (getD R q 0) q)) ≤ p = omega (arith, length-tabulate 16 (λ q. rowBound (environmentOf T h) (getD R q 0) q), ltb-false p 16 q) in
           rw (List·getD-eq-default (tabulate 16 (λ q. rowBound (environmentOf T h) (getD R q 0) q)) nothingKnown {n = p} i) (nothing-fair vars 0)
 
-  length-fair : (o : ℕ) → o < h .objects → objectLength (environmentOf T h) o ≤ 1000000
+  limit-small : (b : Bool) (n : ℕ) → n ≤ 1000000 → upperLimit b n ≤ 1000000
+  unfolding upperLimit
+  limit-small true n l = omega arith
+  limit-small false n l = l
+
+  span-fair : (o : ℕ) → o < h .objects → objectSpan (environmentOf T h) o ≤ 1000000
   unfolding environmentOf
-  length-fair o l = rw (getD-tabulate 16 (objectAt T h) o 0 (omega (arith, w .limits .objects))) (w .objects o l .1)
+  span-fair o l =
+      rw (getD-tabulate 16 (λ x. upperLimit (objectTerminated T h x) (objectAt T h x)) o 0 (omega (arith, w .limits .objects))) (limit-small (objectTerminated T h o) (objectAt T h o) (w .objects o l .1))
 
   pub statement-fair : (f : FactSet) (s : Simple) → SimpleTyped T h s → FairEffect vars (effect store (environmentOf T h) f s)
   unfolding effect
@@ -240,7 +247,7 @@ module _ (T : List ℤ) (h : Sections) (w : Formed T h) where
   statement-fair f (AddConstant x y k) s = cond-either (FairEffect vars) (inRange f y k && eqb x y) (Shift x k) (Forget x) (s .constant) tt
   statement-fair f (Arithmetic x y z op) s = tt
   statement-fair f (Null p) s = tt
-  statement-fair f (Address p o) s = (s .target .below, length-fair o (s .object), sizes-small T h p)
+  statement-fair f (Address p o) s = (s .target .below, span-fair o (s .object), sizes-small T h p)
   statement-fair f (PointerOffset p q k) s = cond-either (FairEffect vars) (eqb p q) (Shift p k) (Copy p q) (s .constant) tt
   statement-fair f (PointerIndex p q i) s = cond-either (FairEffect vars) (eqb p q) (Forget p) (Copy p q) tt tt
   statement-fair f (Load x p i k) s = tt

@@ -2,7 +2,7 @@
 use Prim.Native.Nat.{ℕ, _^_, _≤_, _<_}
 use Rattle.statements.specs.declared.Simple.{Simple}
 use Rattle.statements.specs.declared.Simple.the-variants.{Literal, AddConstant, Arithmetic, Null, Address, PointerOffset, PointerIndex, Load, Store, Check, Declare}
-use Rattle.rules.specs.BoundsRules.{elementSize, objectLength}
+use Rattle.rules.specs.BoundsRules.{elementSize, objectSpan}
 use Rattle.rules.specs.declared.Environment.{Environment}
 use Rattle.rules.specs.declared.Effect.{Effect}
 use Rattle.rules.specs.declared.Effect.the-variants.{Keep, Forget, Shift, Copy, Object}
@@ -25,9 +25,9 @@ InRange (Declare p r) = Unit
 abbrev pub Sized : Environment → Type 0
 Sized E = (p : ℕ) → elementSize E p ≤ 8
 
--- The lengths of objects are in range.
+-- The spans of objects are in range.
 abbrev pub Measured : Environment → Type 0
-Measured E = (o : ℕ) → objectLength E o < 2 ^ 40
+Measured E = (o : ℕ) → objectSpan E o < 2 ^ 40
 
 -- The numbers of an effect are in range, too.
 abbrev pub Short : Effect → Type 0

@@ -18,7 +18,8 @@ use Rattle.chains.specs.Exact.{Exact, end-exact}
 use Rattle.chains.specs.History.{History, new, add, drop, range, shift, join, known, Legal, Slight}
 use Rattle.chains.specs.HistoryLaws.{made, exact, shows-exactly}
 use Rattle.facts.specs.declared.FactSet.{FactSet}
-use Rattle.sections.specs.Sections.{kindAt, integerAt, pointerAt, Limits}
+use Rattle.sections.specs.Sections.{pointerAt, Limits}
+use Rattle.sections.specs.NameLaws.{integer-no-pointer}
 use Rattle.sections.specs.SectionsLaws.{both}
 use Rattle.sections.specs.Typed.{IsInteger, IsPointer, IsSmall}
 use Rattle.sections.specs.declared.Sections.{Sections}
@@ -179,8 +180,7 @@ module _ (T : List ℤ) (h : Sections) (w : Limits h) where
   pointer-kind {v} p = kind-of v (p .below) ∙ p .kind
 
   integer-kind : {v : ℕ} → IsInteger T h v → vars .pointer v ≡ false
-  unfolding pointerAt integerAt
-  integer-kind {v} p = kind-of v (p .below) ∙ ne-eqb (kindAt T h v) (bias + 1) (omega (arith, eqb-true (kindAt T h v) bias (p .kind)))
+  integer-kind {v} p = kind-of v (p .below) ∙ integer-no-pointer T h v (p .kind)
 
   two-integers : {x y : ℕ} → IsInteger T h x → IsInteger T h y → Comparable vars x y
   two-integers a b = same-kind (a .below) (b .below) (integer-kind a ∙ sym (integer-kind b))

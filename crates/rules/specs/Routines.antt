@@ -7,17 +7,17 @@ use Rattle.facts.specs.Store.{leastSum, shown, endShown, newRow, newSet, lowere
 use Rattle.arrays.specs.Tabulate.{tabulate}
 use Rattle.words.specs.Words.{fieldsAt, biased, word}
 use Rattle.fields.specs.Fields.{indexOf, isBelow, literalValue, isConstant}
-use Rattle.sections.specs.Sections.{inLimits, isVariable, kindAt, integerAt, pointerAt, namesInteger, namesPointer, namesIndex, startRight}
+use Rattle.sections.specs.Sections.{inLimits, isVariable, kindAt, integerAt, pointerAt, namesInteger, namesPointer, namesIndex, startRight, kindOf, kindIs, arrayAt, stringAt, objectTerminated, takesPointer, takesObject, namesArray, namesString}
 use Rattle.conditions.specs.Negation.{negation, negatedOf}
 use Rattle.conditions.specs.Conditions.{sameKind, besideLiteral, conditionRight, rightOf, offsetOf, conditionOf}
 use Rattle.statements.specs.Statements.{unusedFrom, literalRead, addConstantRead, arithmeticRead, nullRead, addressRead, pointerOffsetRead, pointerIndexRead, loadRead, storeRead, bundleRead, checkRead, ifRead, whileRead, kindRead, statementAt, declareRead}
-use Rattle.variables.specs.Variables.{endWordsAt, variableWordsAt, endRight, endZero, endOf, integerRecord, pointerRecord, variableOf, variableAt, objectAt, rowWordsAt, rowOf, rowAt, isSize, sizeOf}
+use Rattle.variables.specs.Variables.{endWordsAt, variableWordsAt, endRight, endZero, endOf, integerRecord, pointerRecord, variableOf, variableAt, objectAt, rowWordsAt, rowOf, rowAt, isSize, sizeOf, objectCells}
 use Rattle.table.specs.Form.{lengthRight, isNumber, sectionsOf, directoryRight, objectRight, variableReads, statementReads, lowestFrom, lowestObject, lowestVariable, lowestStatement, itemsForm, formOf, fourPairs, fourthRight, rowReads, lowestRow}
 use Rattle.blocks.specs.Layout.{also, when, contents, bundleLayout, blockLayout, layout, verdict}
 use Rattle.flow.specs.Shape.{size}
 use Rattle.flow.specs.Targets.{targetsFrom}
 use Rattle.blocks.specs.Tree.{simples, parse, tree, targets, assigned}
-use Rattle.rules.specs.BoundsRules.{forgetEnd, forgetBounds, objectBounds, rowBound, rowsAfter, weight}
+use Rattle.rules.specs.BoundsRules.{forgetEnd, forgetBounds, objectBounds, rowBound, rowsAfter, weight, upperLimit}
 use Rattle.rules.specs.Stored.{effect, endAtMost, knownAtMost, boundsShown, unshownFrom, unshown, accessShown, equated, positive, differs, relationFacts, conditionFacts, sumFacts, offsetFacts, factsAfter, droppedEach, loopFacts, bundleBounds, bundleFaults, blockFaults, sectionFaults, faults, shiftConstant, shiftEnd, shiftBounds, effectOn, boundsAfter, bundleAfter, blockAfter}
 use Rattle.rules.specs.FactRules.{among}
 use Rattle.rules.specs.Rules.{accessAt, boundsAt, sameRows, rowsAt}
@@ -81,7 +81,7 @@ routines =
     []
 
 computed : map (λ (r : Routine). verdictOf (faults (r .table))) routines ≡ map (λ (r : Routine). r .verdict) routines
-unfolding routines concatenated leastSum shown withinEnd endShown newRow newSet loweredRow lowered marked added ownRow reroutedRow reassigned ranged dropped shifted joinedSum joinedRow joined tabulate lengthRight isNumber fourPairs sectionsOf fourthRight directoryRight objectRight variableReads rowReads statementReads lowestFrom lowestObject lowestVariable lowestRow lowestStatement itemsForm formOf negation negatedOf startRight inLimits isVariable kindAt integerAt pointerAt namesInteger namesPointer namesIndex fieldsAt unusedFrom literalRead addConstantRead arithmeticRead nullRead addressRead pointerOffsetRead pointerIndexRead loadRead storeRead sameKind besideLiteral conditionRight rightOf offsetOf conditionOf bundleRead declareRead checkRead ifRead whileRead kindRead statementAt endWordsAt variableWordsAt endRight endZero endOf integerRecord isSize sizeOf pointerRecord variableOf variableAt rowWordsAt rowOf rowAt objectAt biased word indexOf isBelow literalValue isConstant also when contents bundleLayout blockLayout layout verdict size targetsFrom simples parse tree targets assigned forgetEnd weight shiftConstant boundsRules.shiftEnd forgetBounds boundsRules.shiftBounds objectBounds boundsRules.effectOn boundsRules.boundsAfter rowBound rowsAfter boundsRules.effect boundsRules.endAtMost boundsRules.knownAtMost boundsRules.boundsShown boundsRules.unshownFrom boundsRules.unshown boundsRules.rowUnshown boundsRules.accessShown factRules.equated factRules.positive factRules.differs factRules.relationFacts factRules.conditionFacts factRules.sumFacts factRules.offsetFacts factRules.factsAfter among factRules.droppedEach factRules.loopFacts accessAt boundsAt sameRows rowsAt walkRules.bundleAfter walkRules.bundleBounds walkRules.bundleFaults walkRules.blockAfter walkRules.blockFaults environmentOf verdictRules.sectionFaults verdictRules.faults verdictOf
+unfolding routines concatenated leastSum shown withinEnd endShown newRow newSet loweredRow lowered marked added ownRow reroutedRow reassigned ranged dropped shifted joinedSum joinedRow joined tabulate lengthRight isNumber fourPairs sectionsOf fourthRight directoryRight objectRight variableReads rowReads statementReads lowestFrom lowestObject lowestVariable lowestRow lowestStatement itemsForm formOf negation negatedOf startRight inLimits isVariable kindOf kindAt kindIs integerAt pointerAt arrayAt stringAt objectTerminated takesPointer takesObject namesInteger namesPointer namesArray namesString namesIndex fieldsAt unusedFrom literalRead addConstantRead arithmeticRead nullRead addressRead pointerOffsetRead pointerIndexRead loadRead storeRead sameKind besideLiteral conditionRight rightOf offsetOf conditionOf bundleRead declareRead checkRead ifRead whileRead kindRead statementAt endWordsAt variableWordsAt endRight endZero endOf integerRecord isSize sizeOf pointerRecord variableOf variableAt rowWordsAt rowOf rowAt objectCells objectAt biased word indexOf isBelow literalValue isConstant also when contents bundleLayout blockLayout layout verdict size targetsFrom simples parse tree targets assigned forgetEnd weight shiftConstant boundsRules.shiftEnd forgetBounds boundsRules.shiftBounds objectBounds upperLimit boundsRules.effectOn boundsRules.boundsAfter rowBound rowsAfter boundsRules.effect boundsRules.endAtMost boundsRules.knownAtMost boundsRules.boundsShown boundsRules.unshownFrom boundsRules.unshown boundsRules.rowUnshown boundsRules.accessShown factRules.equated factRules.positive factRules.differs factRules.relationFacts factRules.conditionFacts factRules.sumFacts factRules.offsetFacts factRules.factsAfter among factRules.droppedEach factRules.loopFacts accessAt boundsAt sameRows rowsAt walkRules.bundleAfter walkRules.bundleBounds walkRules.bundleFaults walkRules.blockAfter walkRules.blockFaults environmentOf verdictRules.sectionFaults verdictRules.faults verdictOf
 computed = refl
 
 -- By the paper's chains, the rules give each routine its verdict.

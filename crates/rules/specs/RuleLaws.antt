@@ -1,15 +1,16 @@
 -- A walk without faults has none in any of its parts.
 use mathlib.Core.Path.{_≡_, refl, ap₂}
-use mathlib.Core.Bool.{Bool, true, false, not, false≢true}
+use mathlib.Core.Bool.{Bool, true, false, not, _&&_, false≢true}
 use mathlib.Core.List.{List, [], _∷_}
-use Prim.Native.Nat.{ℕ}
+use Prim.Native.Nat.{ℕ, _-_, _≤_}
 use native.Mathlib.Omega.{arith}
 use Rattle.refusals.specs.declared.Refusal.{Refusal}
 use Rattle.refusals.specs.declared.Refusal.the-variants.{RowsDiffer}
 use Rattle.sections.specs.SectionsLaws.{both}
-use borrow.Author.Tests.{eqb-true, not-false}
-use lib.Dec.{eqb}
+use borrow.Author.Tests.{leb-true, leb-false, eqb-true, not-false}
+use lib.Dec.{leb, eqb}
 use Rattle.blocks.specs.Layout.{also, when}
+use Rattle.rules.specs.BoundsRules.{upperLimit}
 use Rattle.rules.specs.Rules.{accessAt, boundsAt, sameRows, rowsAt}
 
 pub no-first : (xs ys : List Refusal) → also xs ys ≡ [] → xs ≡ []
@@ -50,3 +51,14 @@ no-fault false r e = refl
 pub rows-passed : (a : ℕ) (R Q : List ℕ) → rowsAt a R Q ≡ [] → R ≡ Q
 unfolding rowsAt
 rows-passed a R Q e = same-rows R Q (not-false (sameRows R Q) (no-fault (not (sameRows R Q)) (RowsDiffer a) e))
+
+-- The upper limit, in the words of the code.
+pub limit-some : (b : Bool) (n : ℕ) → (b && leb 1 n) ≡ true → (1 ≤ n) × (n - 1 ≡ upperLimit b n)
+unfolding upperLimit
+limit-some true n e = (leb-true 1 n e, refl)
+limit-some false n e = absurd (false≢true e)
+
+pub limit-all : (b : Bool) (n : ℕ) → (b && leb 1 n) ≡ false → n ≡ upperLimit b n
+unfolding upperLimit
+limit-all true n e = omega (arith, leb-false 1 n e)
+limit-all false n e = refl

@@ -6,7 +6,7 @@ use lib.IntN.{ℤ}
 use Rattle.arrays.specs.Tabulate.{tabulate}
 use Rattle.refusals.specs.Refusals.{number, place, pointer}
 use Rattle.refusals.specs.declared.Refusal.{Refusal}
-use Rattle.sections.specs.Sections.{pointerAt}
+use Rattle.sections.specs.Sections.{pointerAt, stringAt, objectTerminated}
 use Rattle.sections.specs.declared.Sections.{Sections}
 use Rattle.variables.specs.Variables.{variableAt, objectAt, rowAt}
 use Rattle.variables.specs.declared.Variable.the-variants.{Integer, Pointer}
@@ -19,7 +19,7 @@ use Rattle.table.specs.declared.Form.the-variants as form
 use Rattle.blocks.specs.Tree.{tree}
 use Rattle.blocks.specs.Layout.{also, layout}
 use Rattle.rules.specs.FactSets.{FactSets}
-use Rattle.rules.specs.BoundsRules.{nothingKnown}
+use Rattle.rules.specs.BoundsRules.{nothingKnown, upperLimit}
 use Rattle.rules.specs.Rules.{newState, blockFaults}
 use Rattle.rules.specs.declared.KnownEnd.the-variants.{Known}
 use Rattle.rules.specs.declared.Bounds.{Bounds}
@@ -27,7 +27,6 @@ use Rattle.rules.specs.declared.Environment.{Environment}
 use Rattle.rules.specs.declared.Verdict.{Verdict}
 use Rattle.rules.specs.declared.Verdict.the-variants.{Accepted, Refused}
 use Rattle.variables.specs.declared.RowRead.the-variants as row
-use Prim.Native.Nat.{ℕ}
 
 -- ---- what a table declares
 
@@ -51,9 +50,12 @@ unfoldable pub environmentOf : List ℤ → Sections → Environment
 environmentOf T h =
     record {
       pointers = tabulate 17 (pointerAt T h);
+      strings = tabulate 17 (stringAt T h);
       sizes = tabulate 16 (λ v. variableSize (variableAt T h v));
       declared = tabulate 16 (λ v. boundsOf (variableAt T h v));
       lengths = tabulate 16 (objectAt T h);
+      terminated = tabulate 16 (objectTerminated T h);
+      spans = tabulate 16 (λ o. upperLimit (objectTerminated T h o) (objectAt T h o));
       rows = tabulate 64 (λ r. rowBounds (rowAt T h r));
     }
 

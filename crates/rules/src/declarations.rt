@@ -7,9 +7,11 @@ use variables::RowRead;
 use variables::Variable;
 use variables::VariableRead;
 ghost use mathlib.Core.Path.{_≡_};
+ghost use Prim.Native.Nat.{_≤_};
 ghost use Rattle.arrays.specs.Tabulate.{tabulate};
-ghost use Rattle.sections.specs.Sections.{pointerAt};
+ghost use Rattle.sections.specs.Sections.{pointerAt, stringAt, objectTerminated};
 ghost use Rattle.variables.specs.Variables.{variableAt, rowAt, objectAt};
+ghost use Rattle.rules.specs.BoundsRules.{upperLimit};
 ghost use Rattle.rules.specs.Verdict.{boundsOf, variableSize, rowBounds, environmentOf};
 
 // The declared bounds of a variable; an integer has none.
@@ -89,6 +91,16 @@ fn read_pointers(table: &[i32], sections: Sections) -> [bool; 17]
     pointers
 }
 
+fn read_strings(table: &[i32], sections: Sections) -> [bool; 17]
+    ensures { λ r. ⌜ r ≡ tabulate 17 (stringAt (now (table .entry)) sections) ⌝ }
+{
+    let mut strings = [false; 17];
+    for v in 0..17 {
+        strings[v] = sections::is_string(table, sections, v);
+    }
+    strings
+}
+
 fn read_declared(table: &[i32], sections: Sections) -> [Bounds; 16]
     ensures { λ r. ⌜ r ≡ tabulate 16 (λ v. boundsOf (variableAt (now (table .entry)) sections v)) ⌝ }
 {
@@ -114,6 +126,39 @@ fn read_lengths(table: &[i32], sections: Sections) -> [u64; 16]
     lengths
 }
 
+fn read_terminated(table: &[i32], sections: Sections) -> [bool; 16]
+    ensures { λ r. ⌜ r ≡ tabulate 16 (objectTerminated (now (table .entry)) sections) ⌝ }
+{
+    let mut terminated = [false; 16];
+    for o in 0..16 {
+        terminated[o] = sections::object_terminated(table, sections, o);
+    }
+    terminated
+}
+
+// The upper limit of bounds in an object with the end `high`: all but the last cell of a terminated object.
+pub fn upper_limit(terminated: bool, high: u64) -> u64
+    ensures { λ r. ⌜ (r ≡ upperLimit terminated high) × (r ≤ high) ⌝ }
+{
+    if terminated & (1 <= high) {
+        return high - 1;
+    }
+    high
+}
+
+fn read_spans(table: &[i32], sections: Sections) -> [u64; 16]
+    ensures { λ r. ⌜ r ≡ tabulate 16 (λ o. upperLimit (objectTerminated (now (table .entry)) sections o) (objectAt (now (table .entry)) sections o)) ⌝ }
+{
+    let mut spans = [0; 16];
+    for o in 0..16 {
+        spans[o] = upper_limit(
+            sections::object_terminated(table, sections, o),
+            variables::read_object(table, sections, o),
+        );
+    }
+    spans
+}
+
 fn read_rows(table: &[i32], sections: Sections) -> [Bounds; 64]
     ensures { λ r. ⌜ r ≡ tabulate 64 (λ v. rowBounds (rowAt (now (table .entry)) sections v)) ⌝ }
 {
@@ -134,9 +179,12 @@ pub fn read_environment(table: &[i32], sections: Sections) -> Environment
 {
     Environment {
         pointers: read_pointers(table, sections),
+        strings: read_strings(table, sections),
         sizes: read_sizes(table, sections),
         declared: read_declared(table, sections),
         lengths: read_lengths(table, sections),
+        terminated: read_terminated(table, sections),
+        spans: read_spans(table, sections),
         rows: read_rows(table, sections),
     }
 }

@@ -2,6 +2,7 @@
 mod declarations; // declarations.rt: what a table declares
 
 pub use declarations::read_environment;
+pub use declarations::upper_limit;
 use variables::End;
 
 // An end of the bounds that are known of a pointer.
@@ -17,13 +18,17 @@ pub struct Bounds {
     pub upper: KnownEnd,
 }
 
-// What a table declares, read once: which variables are pointers, their element sizes (1 for an integer), the declared bounds (unknown for an integer), the
-// lengths of the objects, the bounds rows (unknown where there is none; the size of a row's bounds is that of the pointer it is in force for).
+// What a table declares, read once: which variables are pointers, which of them are of kind 2, their element sizes (1 for an integer), the declared bounds
+// (unknown for an integer), the lengths of the objects, which of them are terminated, the upper limits of bounds in them, the bounds rows (unknown where
+// there is none; the size of a row's bounds is that of the pointer it is in force for).
 pub struct Environment {
     pub pointers: [bool; 17],
+    pub strings: [bool; 17],
     pub sizes: [u64; 16],
     pub declared: [Bounds; 16],
     pub lengths: [u64; 16],
+    pub terminated: [bool; 16],
+    pub spans: [u64; 16],
     pub rows: [Bounds; 64],
 }
 

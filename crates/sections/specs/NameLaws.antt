@@ -1,7 +1,7 @@
 -- What the tests of a field say.
 use Prim.Native.Nat.{ℕ, _+_, _-_, _≤_, _<_}
 use mathlib.Core.Path.{_≡_, refl}
-use mathlib.Core.Bool.{Bool, true, false, _||_, cond}
+use mathlib.Core.Bool.{Bool, true, false, not, _&&_, _||_, cond, false≢true}
 use mathlib.Core.List.{List}
 use mathlib.Core.Logic.{_⊎_, inl, inr}
 use lib.IntN.{ℤ}
@@ -11,10 +11,13 @@ use native.Mathlib.Omega.{arith}
 use Rattle.sums.specs.Numbers.{bias, zeroVar}
 use Rattle.words.specs.Words.{word}
 use Rattle.fields.specs.Fields.{plain, indexOf, literalLimit, literalValue, isBelow, isConstant}
-use Rattle.sections.specs.Sections.{isVariable, variableStart, kindAt, integerAt, pointerAt, namesInteger, namesPointer, namesIndex, Limits}
+use Rattle.sections.specs.Sections.{isVariable, variableStart, kindAt, integerAt, pointerAt, namesInteger, namesPointer, namesIndex, Limits, kindOf, kindIs, arrayAt, stringAt, objectTerminated, takesPointer, takesObject, namesArray, namesString}
 use Rattle.sections.specs.SectionsLaws.{both, variable-limits}
 use Rattle.sections.specs.Typed.{IsInteger, IsPointer, IsIndex, missing, given, IsSmall}
 use Rattle.sections.specs.declared.Sections.{Sections}
+use Rattle.sections.specs.declared.Kind.the-variants.{Integer, Array, String}
+use Rattle.sections.specs.declared.KindRead.{KindRead}
+use Rattle.sections.specs.declared.KindRead.the-variants.{Read, Unread}
 
 pub either : (a b : Bool) → (a || b) ≡ true → (a ≡ true) ⊎ (b ≡ true)
 either true b e = inl refl
@@ -44,22 +47,66 @@ constant-small w e =
     record { low = leb-true (bias - 65536) w (p .0); high = leb-true w (bias + 65536) (p .1) }
 
 module _ (table : List ℤ) (h : Sections) where
-  -- A kind word below 2 is that of a variable.
-  pub kind-within : (v n : ℕ) → n < bias + 2 → kindAt table h v ≡ n → isVariable h v ≡ true
-  unfolding kindAt
-  kind-within v n l e = go (isVariable h v) refl e
+  -- A test of a kind that holds is that of a variable.
+  pub kind-within : (v : ℕ) (i a t : Bool) → kindIs i a t (kindAt table h v) ≡ true → isVariable h v ≡ true
+  unfolding kindAt kindIs
+  kind-within v i a t e = go (isVariable h v) refl e
     where
-      go : (b : Bool) → isVariable h v ≡ b → cond b (word table (variableStart h v)) (bias + 2) ≡ n → isVariable h v ≡ true
+      go : (b : Bool) → isVariable h v ≡ b → kindIs i a t (cond b (kindOf (word table (variableStart h v))) Unread) ≡ true → isVariable h v ≡ true
       go true q g = q
-      go false q g = absurd (omega arith)
+      go false q g = absurd (false≢true g)
 
   pub integer-limits : (v : ℕ) → integerAt table h v ≡ true → Limits h × (v < h .variables)
   unfolding integerAt
-  integer-limits v e = variable-limits h v (kind-within v bias (omega arith) (eqb-true (kindAt table h v) bias e))
+  integer-limits v e = variable-limits h v (kind-within v true false false e)
 
   pub pointer-limits : (v : ℕ) → pointerAt table h v ≡ true → Limits h × (v < h .variables)
   unfolding pointerAt
-  pointer-limits v e = variable-limits h v (kind-within v (bias + 1) (omega arith) (eqb-true (kindAt table h v) (bias + 1) e))
+  pointer-limits v e = variable-limits h v (kind-within v false true true e)
+
+  -- An integer is no pointer; a pointer of either kind is one.
+  pub integer-no-pointer : (v : ℕ) → integerAt table h v ≡ true → pointerAt table h v ≡ false
+  unfolding integerAt pointerAt kindIs
+  integer-no-pointer v e = go (kindAt table h v) e
+    where
+      go : (k : KindRead) → kindIs true false false k ≡ true → kindIs false true true k ≡ false
+      go (Read Integer) g = refl
+      go (Read Array) g = absurd (false≢true g)
+      go (Read String) g = absurd (false≢true g)
+      go Unread g = refl
+
+  pub array-pointer : (v : ℕ) → arrayAt table h v ≡ true → pointerAt table h v ≡ true
+  unfolding arrayAt pointerAt kindIs
+  array-pointer v e = go (kindAt table h v) e
+    where
+      go : (k : KindRead) → kindIs false true false k ≡ true → kindIs false true true k ≡ true
+      go (Read Integer) g = g
+      go (Read Array) g = refl
+      go (Read String) g = refl
+      go Unread g = g
+
+  pub string-pointer : (v : ℕ) → stringAt table h v ≡ true → pointerAt table h v ≡ true
+  unfolding stringAt pointerAt kindIs
+  string-pointer v e = go (kindAt table h v) e
+    where
+      go : (k : KindRead) → kindIs false false true k ≡ true → kindIs false true true k ≡ true
+      go (Read Integer) g = g
+      go (Read Array) g = refl
+      go (Read String) g = refl
+      go Unread g = g
+
+  -- What a kind 2 pointer takes.
+  implied : (a b : Bool) → (not a || b) ≡ true → a ≡ true → b ≡ true
+  implied true b e g = e
+  implied false b e g = absurd (false≢true g)
+
+  pub takes-pointer : (v w : ℕ) → takesPointer table h v w ≡ true → stringAt table h (plain v) ≡ true → stringAt table h (plain w) ≡ true
+  unfolding takesPointer
+  takes-pointer v w e g = implied (stringAt table h (plain v)) (stringAt table h (plain w)) e g
+
+  pub takes-object : (v w : ℕ) → takesObject table h v w ≡ true → stringAt table h (plain v) ≡ true → objectTerminated table h (plain w) ≡ true
+  unfolding takesObject
+  takes-object v w e g = implied (stringAt table h (plain v)) (objectTerminated table h (plain w)) e g
 
   pub integer-named : (w : ℕ) → namesInteger table h w ≡ true → IsInteger table h (plain w)
   unfolding namesInteger
@@ -68,6 +115,25 @@ module _ (table : List ℤ) (h : Sections) where
   pub pointer-named : (w : ℕ) → namesPointer table h w ≡ true → IsPointer table h (plain w)
   unfolding namesPointer
   pointer-named w e = let k = both (leb bias w) (pointerAt table h (plain w)) e .1 in record { below = pointer-limits (plain w) k .1; kind = k }
+
+  both-true : (a b : Bool) → a ≡ true → b ≡ true → (a && b) ≡ true
+  both-true true b p q = q
+  both-true false b p q = p
+
+  -- A field that names a pointer of one kind names a pointer.
+  pub array-names : (w : ℕ) → namesArray table h w ≡ true → namesPointer table h w ≡ true
+  unfolding namesArray namesPointer
+  array-names w e = let p = both (leb bias w) (arrayAt table h (plain w)) e in both-true (leb bias w) (pointerAt table h (plain w)) (p .0) (array-pointer (plain w) (p .1))
+
+  pub string-names : (w : ℕ) → namesString table h w ≡ true → namesPointer table h w ≡ true
+  unfolding namesString namesPointer
+  string-names w e = let p = both (leb bias w) (stringAt table h (plain w)) e in both-true (leb bias w) (pointerAt table h (plain w)) (p .0) (string-pointer (plain w) (p .1))
+
+  pub array-named : (w : ℕ) → namesArray table h w ≡ true → IsPointer table h (plain w)
+  array-named w e = pointer-named w (array-names w e)
+
+  pub string-named : (w : ℕ) → namesString table h w ≡ true → IsPointer table h (plain w)
+  string-named w e = pointer-named w (string-names w e)
 
   pub index-named : (w : ℕ) → namesIndex table h w ≡ true → IsIndex table h (indexOf w)
   unfolding namesIndex indexOf

@@ -3,7 +3,7 @@ use fields::plain;
 use sums::BIAS;
 use words::word;
 ghost use mathlib.Core.Path.{_≡_};
-ghost use Rattle.sections.specs.Sections.{startRight, inLimits, isVariable, kindAt, integerAt, pointerAt, namesInteger, namesPointer, namesIndex};
+ghost use Rattle.sections.specs.Sections.{startRight, inLimits, isVariable, kindOf, kindAt, kindIs, integerAt, pointerAt, arrayAt, stringAt, objectTerminated, takesPointer, takesObject, namesInteger, namesPointer, namesArray, namesString, namesIndex};
 
 // Where the first section starts (6, or 8 where there is a section of rows), and how many items each section has. The offsets follow: objects at word
 // start, variables at start + objects, statements at start + objects + 8 * variables, rows after 7 * statements more.
@@ -13,6 +13,18 @@ pub struct Sections {
     pub variables: usize,
     pub statements: usize,
     pub rows: usize,
+}
+
+// The kinds of variables: 0 integer, 1 array_ptr, 2 nt_array_ptr.
+pub enum Kind {
+    Integer,
+    Array,
+    String,
+}
+
+pub enum KindRead {
+    Read(Kind),
+    Unread,
 }
 
 // Six words and no row, or eight words and at most 64 rows.
@@ -38,26 +50,93 @@ fn is_variable(sections: Sections, v: usize) -> bool
     in_limits(sections) & (v < sections.variables)
 }
 
-// The kind word of a variable; 2, which is no kind, where there is no such variable.
-fn kind_at(table: &[i32], sections: Sections, v: usize) -> u64
+// The kind of a kind word.
+pub fn kind_of(w: u64) -> KindRead
+    ensures { λ r. ⌜ r ≡ kindOf w ⌝ }
+{
+    if w == BIAS {
+        return KindRead::Read(Kind::Integer);
+    }
+    if w == BIAS + 1 {
+        return KindRead::Read(Kind::Array);
+    }
+    if w == BIAS + 2 {
+        return KindRead::Read(Kind::String);
+    }
+    KindRead::Unread
+}
+
+// The kind of a variable; none where there is no such variable.
+fn kind_at(table: &[i32], sections: Sections, v: usize) -> KindRead
     ensures { λ r. ⌜ r ≡ kindAt (now (table .entry)) sections v ⌝ }
 {
     if is_variable(sections, v) {
-        return word(table, sections.start + sections.objects + 8 * v);
+        return kind_of(word(table, sections.start + sections.objects + 8 * v));
     }
-    BIAS + 2
+    KindRead::Unread
+}
+
+// A test of the kind, by its three answers.
+pub fn kind_is(integer: bool, array: bool, string: bool, read: KindRead) -> bool
+    ensures { λ r. ⌜ r ≡ kindIs integer array string read ⌝ }
+{
+    let KindRead::Read(kind) = read else {
+        return false;
+    };
+    match kind {
+        Kind::Integer => integer,
+        Kind::Array => array,
+        Kind::String => string,
+    }
 }
 
 fn is_integer(table: &[i32], sections: Sections, v: usize) -> bool
     ensures { λ r. ⌜ r ≡ integerAt (now (table .entry)) sections v ⌝ }
 {
-    kind_at(table, sections, v) == BIAS
+    kind_is(true, false, false, kind_at(table, sections, v))
 }
 
 pub fn is_pointer(table: &[i32], sections: Sections, v: usize) -> bool
     ensures { λ r. ⌜ r ≡ pointerAt (now (table .entry)) sections v ⌝ }
 {
-    kind_at(table, sections, v) == BIAS + 1
+    kind_is(false, true, true, kind_at(table, sections, v))
+}
+
+fn is_array(table: &[i32], sections: Sections, v: usize) -> bool
+    ensures { λ r. ⌜ r ≡ arrayAt (now (table .entry)) sections v ⌝ }
+{
+    kind_is(false, true, false, kind_at(table, sections, v))
+}
+
+// An nt_array_ptr.
+pub fn is_string(table: &[i32], sections: Sections, v: usize) -> bool
+    ensures { λ r. ⌜ r ≡ stringAt (now (table .entry)) sections v ⌝ }
+{
+    kind_is(false, false, true, kind_at(table, sections, v))
+}
+
+// A terminated object: its word is below 0.
+pub fn object_terminated(table: &[i32], sections: Sections, o: usize) -> bool
+    ensures { λ r. ⌜ r ≡ objectTerminated (now (table .entry)) sections o ⌝ }
+{
+    if in_limits(sections) & (o < sections.objects) {
+        return word(table, sections.start + o) < BIAS;
+    }
+    false
+}
+
+// Kinds 6 and 7: a kind 2 pointer takes kind 2 pointers only.
+pub fn takes_pointer(table: &[i32], sections: Sections, v: u64, w: u64) -> bool
+    ensures { λ r. ⌜ r ≡ takesPointer (now (table .entry)) sections v w ⌝ }
+{
+    !is_string(table, sections, plain(v)) | is_string(table, sections, plain(w))
+}
+
+// Kind 5: a kind 2 pointer takes terminated objects only.
+pub fn takes_object(table: &[i32], sections: Sections, v: u64, w: u64) -> bool
+    ensures { λ r. ⌜ r ≡ takesObject (now (table .entry)) sections v w ⌝ }
+{
+    !is_string(table, sections, plain(v)) | object_terminated(table, sections, plain(w))
 }
 
 pub fn names_integer(table: &[i32], sections: Sections, w: u64) -> bool
@@ -70,6 +149,18 @@ pub fn names_pointer(table: &[i32], sections: Sections, w: u64) -> bool
     ensures { λ r. ⌜ r ≡ namesPointer (now (table .entry)) sections w ⌝ }
 {
     (BIAS <= w) & is_pointer(table, sections, plain(w))
+}
+
+pub fn names_array(table: &[i32], sections: Sections, w: u64) -> bool
+    ensures { λ r. ⌜ r ≡ namesArray (now (table .entry)) sections w ⌝ }
+{
+    (BIAS <= w) & is_array(table, sections, plain(w))
+}
+
+pub fn names_string(table: &[i32], sections: Sections, w: u64) -> bool
+    ensures { λ r. ⌜ r ≡ namesString (now (table .entry)) sections w ⌝ }
+{
+    (BIAS <= w) & is_string(table, sections, plain(w))
 }
 
 // An integer variable, or -1 for none.

@@ -10,9 +10,9 @@ use native.Mathlib.Omega.{arith}
 use Rattle.words.specs.Words.{fieldsAt}
 use Rattle.words.specs.declared.Fields.{Fields}
 use Rattle.fields.specs.Fields.{plain, isCount, isBelow, isConstant}
-use Rattle.sections.specs.Sections.{inLimits, statementStart, namesInteger, namesPointer, namesIndex, Limits}
+use Rattle.sections.specs.Sections.{inLimits, statementStart, namesInteger, namesPointer, namesIndex, Limits, takesPointer, takesObject}
 use Rattle.sections.specs.SectionsLaws.{both, statement-limits}
-use Rattle.sections.specs.NameLaws.{below-holds, literal-small, constant-small, integer-named, pointer-named, index-named}
+use Rattle.sections.specs.NameLaws.{below-holds, literal-small, constant-small, integer-named, pointer-named, index-named, takes-pointer, takes-object}
 use Rattle.sections.specs.declared.Sections.{Sections}
 use Rattle.conditions.specs.Conditions.{conditionRight}
 use Rattle.conditions.specs.ConditionLaws.{condition-typed}
@@ -82,20 +82,22 @@ module _ (table : List ℤ) (h : Sections) where
     address-typed : TypedRead (addressRead table h f)
     unfolding addressRead
     address-typed =
-        typed₃ (names-pointer (f .first)) (isBelow (h .objects) (f .second)) (unusedFrom 3 f) _
-        (λ a b c. record { target = pointer-named table h (f .first) a; object = below-holds (h .objects) (f .second) b })
+        typed₄ (names-pointer (f .first)) (isBelow (h .objects) (f .second)) (takesObject table h (f .first) (f .second)) (unusedFrom 3 f) _
+        (λ a b c d. record { target = pointer-named table h (f .first) a; object = below-holds (h .objects) (f .second) b; fits = takes-object table h (f .first) (f .second) c })
 
     pointer-offset-typed : TypedRead (pointerOffsetRead table h f)
     unfolding pointerOffsetRead
     pointer-offset-typed =
-        typed₄ (names-pointer (f .first)) (names-pointer (f .second)) (isConstant (f .third)) (unusedFrom 4 f) _
-        (λ a b c d. record { target = pointer-named table h (f .first) a; source = pointer-named table h (f .second) b; constant = constant-small (f .third) c })
+        typed₅ (names-pointer (f .first)) (names-pointer (f .second)) (isConstant (f .third)) (takesPointer table h (f .first) (f .second)) (unusedFrom 4 f) _
+        (λ a b c d e.
+        record { target = pointer-named table h (f .first) a; source = pointer-named table h (f .second) b; constant = constant-small (f .third) c; fits = takes-pointer table h (f .first) (f .second) d })
 
     pointer-index-typed : TypedRead (pointerIndexRead table h f)
     unfolding pointerIndexRead
     pointer-index-typed =
-        typed₄ (names-pointer (f .first)) (names-pointer (f .second)) (names-integer (f .third)) (unusedFrom 4 f) _
-        (λ a b c d. record { target = pointer-named table h (f .first) a; source = pointer-named table h (f .second) b; index = integer-named table h (f .third) c })
+        typed₅ (names-pointer (f .first)) (names-pointer (f .second)) (names-integer (f .third)) (takesPointer table h (f .first) (f .second)) (unusedFrom 4 f) _
+        (λ a b c d e.
+        record { target = pointer-named table h (f .first) a; source = pointer-named table h (f .second) b; index = integer-named table h (f .third) c; fits = takes-pointer table h (f .first) (f .second) d })
 
     load-typed : TypedRead (loadRead table h f)
     unfolding loadRead

@@ -7,7 +7,7 @@ use lib.Dec.{ltb, eqb}
 use Rattle.words.specs.Words.{fieldsAt}
 use Rattle.words.specs.declared.Fields.{Fields}
 use Rattle.fields.specs.Fields.{plain, indexOf, literalValue, isZero, isBelow, isCount, isConstant}
-use Rattle.sections.specs.Sections.{inLimits, statementStart, namesInteger, namesPointer, namesIndex}
+use Rattle.sections.specs.Sections.{inLimits, statementStart, namesInteger, namesPointer, namesIndex, takesPointer, takesObject}
 use Rattle.sections.specs.declared.Sections.{Sections}
 use Rattle.conditions.specs.Conditions.{conditionRight, conditionOf}
 use Rattle.statements.specs.declared.Simple.the-variants.{Literal, AddConstant, Arithmetic, Null, Address, PointerOffset, PointerIndex, Load, Store, Check, Declare}
@@ -48,21 +48,22 @@ module _ (table : List ℤ) (h : Sections) where
   unfoldable pub nullRead : Fields → StatementRead
   nullRead f = readIf (namesPointer table h (f .first) && unusedFrom 2 f) (Plain (Null (plain (f .first))))
 
-  -- "5. p := address of object o"
+  -- "5. p := address of object o"; point 7: of a kind 2 pointer "the address of a plain object" is refusal 5.
   unfoldable pub addressRead : Fields → StatementRead
   addressRead f =
-      readIf (namesPointer table h (f .first) && isBelow (h .objects) (f .second) && unusedFrom 3 f) (Plain (Address (plain (f .first)) (plain (f .second))))
+      readIf (namesPointer table h (f .first) && isBelow (h .objects) (f .second) && takesObject table h (f .first) (f .second) && unusedFrom 3 f)
+      (Plain (Address (plain (f .first)) (plain (f .second))))
 
-  -- "6. p := q + k"
+  -- "6. p := q + k"; point 7: "Kinds 6 and 7 may take a kind 2 pointer to an array_ptr. The other way .." is refusal 5.
   unfoldable pub pointerOffsetRead : Fields → StatementRead
   pointerOffsetRead f =
-      readIf (namesPointer table h (f .first) && namesPointer table h (f .second) && isConstant (f .third) && unusedFrom 4 f)
+      readIf (namesPointer table h (f .first) && namesPointer table h (f .second) && isConstant (f .third) && takesPointer table h (f .first) (f .second) && unusedFrom 4 f)
       (Plain (PointerOffset (plain (f .first)) (plain (f .second)) (f .third)))
 
   -- "7. p := q + i": i is a variable, never -1.
   unfoldable pub pointerIndexRead : Fields → StatementRead
   pointerIndexRead f =
-      readIf (namesPointer table h (f .first) && namesPointer table h (f .second) && namesInteger table h (f .third) && unusedFrom 4 f)
+      readIf (namesPointer table h (f .first) && namesPointer table h (f .second) && namesInteger table h (f .third) && takesPointer table h (f .first) (f .second) && unusedFrom 4 f)
       (Plain (PointerIndex (plain (f .first)) (plain (f .second)) (plain (f .third))))
 
   -- "8. x := p[i + k]": fields x, p, i, k; "here and in kind 9 i may be -1, then it counts as 0"

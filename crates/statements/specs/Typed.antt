@@ -1,8 +1,11 @@
 -- What holds of a statement that was read: what its fields name, and their ranges.
 use Prim.Native.Nat.{ℕ, _^_, _<_}
+use mathlib.Core.Path.{_≡_}
+use mathlib.Core.Bool.{true}
 use mathlib.Core.List.{List}
 use lib.IntN.{ℤ}
 use Rattle.fields.specs.Fields.{literalLimit}
+use Rattle.sections.specs.Sections.{stringAt, objectTerminated}
 use Rattle.sections.specs.Typed.{IsInteger, IsPointer, IsIndex, IsSmall}
 use Rattle.sections.specs.declared.Sections.{Sections}
 use Rattle.conditions.specs.Typed.{ConditionTyped}
@@ -31,16 +34,19 @@ module _ (table : List ℤ) (h : Sections) where
   pub record AddressTyped (p o : ℕ) : Type 0 where
     pub target : IsPointer table h p
     pub object : o < h .objects
+    pub fits : stringAt table h p ≡ true → objectTerminated table h o ≡ true
 
   pub record PointerOffsetTyped (p q k : ℕ) : Type 0 where
     pub target : IsPointer table h p
     pub source : IsPointer table h q
     pub constant : IsSmall k
+    pub fits : stringAt table h p ≡ true → stringAt table h q ≡ true
 
   pub record PointerIndexTyped (p q i : ℕ) : Type 0 where
     pub target : IsPointer table h p
     pub source : IsPointer table h q
     pub index : IsInteger table h i
+    pub fits : stringAt table h p ≡ true → stringAt table h q ≡ true
 
   -- Kinds 8 and 9: x is read into, or stored.
   pub record AccessTyped (x p i k : ℕ) : Type 0 where

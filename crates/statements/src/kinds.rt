@@ -15,6 +15,8 @@ use sections::Sections;
 use sections::names_index;
 use sections::names_integer;
 use sections::names_pointer;
+use sections::takes_object;
+use sections::takes_pointer;
 use words::Fields;
 ghost use mathlib.Core.Path.{_≡_};
 ghost use Rattle.statements.specs.Statements.{unusedFrom, literalRead, addConstantRead, arithmeticRead, nullRead, addressRead, pointerOffsetRead, pointerIndexRead, loadRead, storeRead, checkRead, ifRead, whileRead, bundleRead, declareRead, kindRead};
@@ -99,6 +101,7 @@ fn read_address(table: &[i32], sections: Sections, f: Fields) -> StatementRead
 {
     if names_pointer(table, sections, f.first)
         & is_below(sections.objects, f.second)
+        & takes_object(table, sections, f.first, f.second)
         & unused_from(3, f)
     {
         return StatementRead::Read(Statement::Plain(Simple::Address {
@@ -116,6 +119,7 @@ fn read_pointer_offset(table: &[i32], sections: Sections, f: Fields) -> Statemen
     if names_pointer(table, sections, f.first)
         & names_pointer(table, sections, f.second)
         & is_constant(f.third)
+        & takes_pointer(table, sections, f.first, f.second)
         & unused_from(4, f)
     {
         return StatementRead::Read(Statement::Plain(Simple::PointerOffset {
@@ -134,6 +138,7 @@ fn read_pointer_index(table: &[i32], sections: Sections, f: Fields) -> Statement
     if names_pointer(table, sections, f.first)
         & names_pointer(table, sections, f.second)
         & names_integer(table, sections, f.third)
+        & takes_pointer(table, sections, f.first, f.second)
         & unused_from(4, f)
     {
         return StatementRead::Read(Statement::Plain(Simple::PointerIndex {

@@ -11,7 +11,7 @@ use Rattle.sums.specs.Numbers.{bias, maxValue}
 use Rattle.conditions.specs.declared.Condition.{Condition}
 use Rattle.statements.specs.declared.Simple.{Simple}
 use Rattle.statements.specs.declared.Simple.the-variants.{Literal, AddConstant, Arithmetic, Null, Address, PointerOffset, PointerIndex, Load, Store, Check as Test, Declare}
-use Rattle.machine.specs.Machine.{value, address, conditionHolds, Failing, none, fails, firstOf, failing, accessFailing, arithmeticFailing, combined, indexed}
+use Rattle.machine.specs.Machine.{value, address, conditionHolds, Failing, none, fails, firstOf, failing, loadFailing, storeFailing, arithmeticFailing, combined, indexed}
 use Rattle.checks.specs.Checked.{declaredIn, stepUnless, sizeIn}
 use Rattle.checks.specs.CheckLaws.{size-in}
 use Rattle.steps.specs.Bare.{offsetFailing, indexFailing, changedUnless, valuesAfter, cellsAfter, simpleMove, Moves, Assigns, copied, endsAfter}
@@ -116,13 +116,13 @@ module _ (W D : List ℕ) (a n : ℕ) (vs cs : List ℕ) where
   moves-index p q i r ws m = record { said = m .said; ends = unchanged _ W; values = m .buffer; cells = unchanged _ cs }
 
   pub moves-load : (x p i k : ℕ) (r : Step) (ws : List ℕ) →
-      Assigns (accessFailing (declaredIn W) vs p (address (declaredIn W) vs p i k)) a n x (getD cs (address (declaredIn W) vs p i k - bias) 0) vs r ws →
+      Assigns (loadFailing (declaredIn W) vs p (address (declaredIn W) vs p i k)) a n x (getD cs (address (declaredIn W) vs p i k - bias) 0) vs r ws →
       Moves (simpleMove W D (Load x p i k) a n vs cs) r W ws cs
   unfolding simpleMove failing valuesAfter cellsAfter endsAfter
   moves-load x p i k r ws m = record { said = m .said; ends = unchanged _ W; values = m .buffer; cells = unchanged _ cs }
 
   pub moves-store : (p i k x : ℕ) (r : Step) (ds : List ℕ) →
-      Assigns (accessFailing (declaredIn W) vs p (address (declaredIn W) vs p i k)) a n (address (declaredIn W) vs p i k - bias) (value vs x) cs r ds →
+      Assigns (storeFailing (declaredIn W) vs p (address (declaredIn W) vs p i k) (value vs x)) a n (address (declaredIn W) vs p i k - bias) (value vs x) cs r ds →
       Moves (simpleMove W D (Store p i k x) a n vs cs) r W vs ds
   unfolding simpleMove failing valuesAfter cellsAfter endsAfter
   moves-store p i k x r ds m = record { said = m .said; ends = unchanged _ W; values = unchanged _ vs; cells = m .buffer }

@@ -18,7 +18,7 @@ use Rattle.statements.specs.declared.StatementRead.the-variants.{Read}
 use Rattle.decode.specs.Decode.{decodedAt}
 use Rattle.flow.specs.Flow.{Successors}
 use Rattle.flow.specs.Shape.{entriesAt}
-use Rattle.machine.specs.Machine.{value, low, conditionHolds, Failing, none, fails, firstUnless, failing, accessFailing, arithmeticFailing, address, combined, indexed}
+use Rattle.machine.specs.Machine.{value, low, conditionHolds, Failing, none, fails, firstUnless, failing, loadFailing, storeFailing, arithmeticFailing, address, combined, indexed}
 use Rattle.checks.specs.Checked.{declaredIn, stepUnless, sizeIn}
 use Rattle.checks.specs.declared.Step.{Step}
 use Rattle.checks.specs.declared.Step.the-variants.{Go}
@@ -132,15 +132,15 @@ Inside W (If c x y) vs cs = Unit {0}
 Inside W (While c x) vs cs = Unit {0}
 Inside W (Bundle x) vs cs = Unit {0}
 
--- What the step of an access needs: x is the variable read into or stored, and no sum wraps.
-pub record Accessible (W : List ℕ) (x p i k : ℕ) (vs cs : List ℕ) : Type 0 where
+-- What the step of an access needs: x is the variable read into or stored, f the first of its checks that fails, and no sum wraps.
+pub record Accessible (W : List ℕ) (x p i k : ℕ) (f : Failing) (vs cs : List ℕ) : Type 0 where
   pub value : x < length vs
   pub pointer : p < 16
   pub constant : k < 2 ^ 34
-  pub ends : length W ≡ 496
+  pub ends : length W ≡ 512
   pub small : (n : ℕ) → getD W n 0 < 2 ^ 34
   pub sizes : (n : ℕ) → sizeIn W n ≤ 8
-  pub inside : accessFailing (declaredIn W) vs p (address (declaredIn W) vs p i k) ≡ none → InCells (address (declaredIn W) vs p i k) cs
+  pub inside : f ≡ none → InCells (address (declaredIn W) vs p i k) cs
 
 -- The same of each kind of statement.
 abbrev pub Operable : List ℕ → List ℕ → Simple → List ℕ → List ℕ → Type 0
@@ -150,11 +150,11 @@ Operable W D (Arithmetic x y z op) vs cs = (x < length vs) × (y < length vs) ×
 Operable W D (Null p) vs cs = p < length vs
 Operable W D (Address p o) vs cs = (p < length vs) × (2 * o < length D)
 Operable W D (PointerOffset p q k) vs cs = (p < length vs) × (q < length vs) × (k < 2 ^ 34)
-Operable W D (PointerIndex p q i) vs cs = (p < length vs) × (q < length vs) × (i < length vs) × (q < 16) × (length W ≡ 496) × ((x : ℕ) → sizeIn W x ≤ 8)
-Operable W D (Load x p i k) vs cs = Accessible W x p i k vs cs
-Operable W D (Store p i k x) vs cs = Accessible W x p i k vs cs
+Operable W D (PointerIndex p q i) vs cs = (p < length vs) × (q < length vs) × (i < length vs) × (q < 16) × (length W ≡ 512) × ((x : ℕ) → sizeIn W x ≤ 8)
+Operable W D (Load x p i k) vs cs = Accessible W x p i k (loadFailing (declaredIn W) vs p (address (declaredIn W) vs p i k)) vs cs
+Operable W D (Store p i k x) vs cs = Accessible W x p i k (storeFailing (declaredIn W) vs p (address (declaredIn W) vs p i k) (value vs x)) vs cs
 Operable W D (Test c) vs cs = c .offset < 2 ^ 32
-Operable W D (Declare p r) vs cs = (p < 16) × (r < 64) × (length W ≡ 496)
+Operable W D (Declare p r) vs cs = (p < 16) × (r < 64) × (length W ≡ 512)
 
 -- The statement a reads, and its access is inside.
 pub record Ready (T : List ℤ) (h : Sections) (W : List ℕ) (a : ℕ) (vs cs : List ℕ) : Type 0 where
@@ -165,7 +165,7 @@ pub record Ready (T : List ℤ) (h : Sections) (W : List ℕ) (a : ℕ) (vs cs :
 -- The slices are long enough, and the ends small enough that no sum wraps.
 pub record Prepared (T : List ℤ) (h : Sections) (W D S vs : List ℕ) : Type 0 where
   pub table : statementStart h (h .statements) ≤ length T
-  pub ends : length W ≡ 496
+  pub ends : length W ≡ 512
   pub small : (i : ℕ) → getD W i 0 < 2 ^ 34
   pub sizes : (p : ℕ) → sizeIn W p ≤ 8
   pub directory : 2 * h .objects ≤ length D

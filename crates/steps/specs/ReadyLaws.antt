@@ -20,16 +20,15 @@ use Rattle.statements.specs.declared.Statement.the-variants.{Plain, If, While, 
 use Rattle.statements.specs.declared.StatementRead.the-variants.{Read}
 use Rattle.decode.specs.Decode.{decodeStart, decodedAt}
 use Rattle.decode.specs.DecodeLaws.{read-decoded}
-use Rattle.machine.specs.Machine.{address, conditionHolds, none, failing, accessFailing}
+use Rattle.machine.specs.Machine.{address, conditionHolds, Failing, none, failing}
 use Rattle.checks.specs.Checked.{declaredIn}
 use Rattle.steps.specs.Bare.{InCells, InsideSimple, Inside, Accessible, Operable, Ready, Prepared, simpleMove, statementMove, bareMove, Moves}
 use Rattle.checks.specs.declared.Step.{Step}
 use Rattle.checks.specs.declared.Step.the-variants.{Go}
 
 module _ (T : List ℤ) (h : Sections) (W D S vs cs : List ℕ) (few : Limits h) (P : Prepared T h W D S vs) where
-  accessible : (x p i k : ℕ) → AccessTyped T h x p i k
-      → (accessFailing (declaredIn W) vs p (address (declaredIn W) vs p i k) ≡ none → InCells (address (declaredIn W) vs p i k) cs) → Accessible W x p i k vs cs
-  accessible x p i k t n =
+  accessible : (x p i k : ℕ) (f : Failing) → AccessTyped T h x p i k → (f ≡ none → InCells (address (declaredIn W) vs p i k) cs) → Accessible W x p i k f vs cs
+  accessible x p i k f t n =
       record {
         value = omega (arith, t .value .below, P .values);
         pointer = omega (arith, t .pointer .below, few .variables);
@@ -60,8 +59,8 @@ module _ (T : List ℤ) (h : Sections) (W D S vs cs : List ℕ) (few : Limits h)
     P .ends,
     P .sizes,
   )
-  operable (Load x p i k) t n = accessible x p i k t n
-  operable (Store p i k x) t n = accessible x p i k t n
+  operable (Load x p i k) t n = accessible x p i k _ t n
+  operable (Store p i k x) t n = accessible x p i k _ t n
   operable (Test c) t n = offset-small t
   operable (Declare p r) t n = (omega (arith, t .pointer .below, few .variables), omega (arith, t .row, few .rows), P .ends)
 

@@ -2,9 +2,10 @@
 use crate::numbers::add_constant;
 use crate::numbers::combine;
 use checks::Step;
-use checks::check_access;
 use checks::check_arithmetic;
 use checks::check_condition;
+use checks::check_load;
+use checks::check_store;
 use checks::size_in;
 use machine::scaled;
 use machine::value_at;
@@ -15,7 +16,7 @@ ghost use mathlib.Core.Path.{_≡_};
 ghost use Prim.Native.Nat.{ℕ, _+_, _-_, _^_, _<_, _≤_};
 ghost use lib.ListN.{length, getD};
 ghost use Rattle.sums.specs.Numbers.{bias};
-ghost use Rattle.machine.specs.Machine.{value, address, indexed, arithmeticFailing, accessFailing};
+ghost use Rattle.machine.specs.Machine.{value, address, indexed, arithmeticFailing, loadFailing, storeFailing};
 ghost use Rattle.checks.specs.Checked.{sizeIn, declaredIn};
 ghost use Rattle.checks.specs.declared.Step.the-variants.{Go};
 ghost use Rattle.steps.specs.Bare.{offsetFailing, indexFailing, copied, Accessible, Operable, simpleMove, Assigns, Moves};
@@ -70,7 +71,7 @@ fn index_pointer(
     index: usize,
     values: &mut [u32],
 ) -> Step
-    requires { ⌜ (target < length (now values)) × (source < length (now values)) × (index < length (now values)) × (source < 16) × (length (now ends) ≡ 496) × ((p : ℕ) → sizeIn (now ends) p ≤ 8) ⌝ }
+    requires { ⌜ (target < length (now values)) × (source < length (now values)) × (index < length (now values)) × (source < 16) × (length (now ends) ≡ 512) × ((p : ℕ) → sizeIn (now ends) p ≤ 8) ⌝ }
     ensures { λ r. ⌜ Assigns (indexFailing (now (ends .entry)) (now (values .entry)) source index) at next target (indexed (declaredIn (now (ends .entry))) (now (values .entry)) source index) (now (values .entry)) r (now (values .exit)) ⌝ }
 {
     let base = wide(values[source]);
@@ -80,7 +81,7 @@ fn index_pointer(
 
 // The whole number p + s of p times i + k, with the bias.
 fn address_of(ends: &[u64], values: &[u32], pointer: usize, index: usize, constant: u64) -> u64
-    requires { ⌜ (pointer < 16) × (length (now ends) ≡ 496) × (sizeIn (now ends) pointer ≤ 8) × (constant < 2 ^ 34) ⌝ }
+    requires { ⌜ (pointer < 16) × (length (now ends) ≡ 512) × (sizeIn (now ends) pointer ≤ 8) × (constant < 2 ^ 34) ⌝ }
     ensures { λ r. ⌜ r ≡ address (declaredIn (now (ends .entry))) (now (values .entry)) pointer index constant ⌝ }
     ensures small { λ r. ⌜ r < 2 ^ 40 ⌝ }
 {
@@ -99,11 +100,11 @@ fn load(
     values: &mut [u32],
     cells: &[u32],
 ) -> Step
-    requires { ⌜ Accessible (now ends) target pointer index constant (now values) (now cells) ⌝ }
-    ensures { λ r. ⌜ Assigns (accessFailing (declaredIn (now (ends .entry))) (now (values .entry)) pointer (address (declaredIn (now (ends .entry))) (now (values .entry)) pointer index constant)) at next target (getD (now (cells .entry)) (address (declaredIn (now (ends .entry))) (now (values .entry)) pointer index constant - bias) 0) (now (values .entry)) r (now (values .exit)) ⌝ }
+    requires { ⌜ Accessible (now ends) target pointer index constant (loadFailing (declaredIn (now ends)) (now values) pointer (address (declaredIn (now ends)) (now values) pointer index constant)) (now values) (now cells) ⌝ }
+    ensures { λ r. ⌜ Assigns (loadFailing (declaredIn (now (ends .entry))) (now (values .entry)) pointer (address (declaredIn (now (ends .entry))) (now (values .entry)) pointer index constant)) at next target (getD (now (cells .entry)) (address (declaredIn (now (ends .entry))) (now (values .entry)) pointer index constant - bias) 0) (now (values .entry)) r (now (values .exit)) ⌝ }
 {
     let address = address_of(ends, values, pointer, index, constant);
-    let said = check_access(ends, values, at, next, pointer, address);
+    let said = check_load(ends, values, at, next, pointer, address);
     let Step::Go(_) = said else {
         return said;
     };
@@ -112,7 +113,7 @@ fn load(
     said
 }
 
-// Kind 9: p[i + k] := x, unless check 2 or 3 fails.
+// Kind 9: p[i + k] := x, unless check 2, 3 or 6 fails.
 fn store(
     ends: &[u64],
     at: usize,
@@ -124,11 +125,12 @@ fn store(
     values: &[u32],
     cells: &mut [u32],
 ) -> Step
-    requires { ⌜ Accessible (now ends) source pointer index constant (now values) (now cells) ⌝ }
-    ensures { λ r. ⌜ Assigns (accessFailing (declaredIn (now (ends .entry))) (now (values .entry)) pointer (address (declaredIn (now (ends .entry))) (now (values .entry)) pointer index constant)) at next (address (declaredIn (now (ends .entry))) (now (values .entry)) pointer index constant - bias) (value (now (values .entry)) source) (now (cells .entry)) r (now (cells .exit)) ⌝ }
+    requires { ⌜ Accessible (now ends) source pointer index constant (storeFailing (declaredIn (now ends)) (now values) pointer (address (declaredIn (now ends)) (now values) pointer index constant) (value (now values) source)) (now values) (now cells) ⌝ }
+    ensures { λ r. ⌜ Assigns (storeFailing (declaredIn (now (ends .entry))) (now (values .entry)) pointer (address (declaredIn (now (ends .entry))) (now (values .entry)) pointer index constant) (value (now (values .entry)) source)) at next (address (declaredIn (now (ends .entry))) (now (values .entry)) pointer index constant - bias) (value (now (values .entry)) source) (now (cells .entry)) r (now (cells .exit)) ⌝ }
 {
     let address = address_of(ends, values, pointer, index, constant);
-    let said = check_access(ends, values, at, next, pointer, address);
+    let number = value_at(values, source);
+    let said = check_store(ends, values, at, next, pointer, address, number);
     let Step::Go(_) = said else {
         return said;
     };
@@ -139,7 +141,7 @@ fn store(
 
 // Kind 14: the six numbers of the row become those of the pointer.
 fn declare(ends: &mut [u64], next: usize, pointer: usize, row: usize) -> Step
-    requires { ⌜ (pointer < 16) × (row < 64) × (length (now ends) ≡ 496) ⌝ }
+    requires { ⌜ (pointer < 16) × (row < 64) × (length (now ends) ≡ 512) ⌝ }
     ensures { λ r. ⌜ (r ≡ Go next) × (now (ends .exit) ≡ copied 6 pointer row (now (ends .entry))) ⌝ }
 {
     let mut j = 0;

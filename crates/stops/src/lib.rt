@@ -1,4 +1,4 @@
-// How a run ends, and the five named checks, each with the statement at which it fails; the paper's number of each.
+// How a run ends, and the six named checks, each with the statement at which it fails; the paper's number of each.
 use refusals::Refusal;
 ghost use mathlib.Core.Path.{_≡_};
 ghost use Rattle.stops.specs.Checks.{checkNumber, checkStatement};
@@ -9,6 +9,7 @@ pub enum Check {
     OutOfBounds(usize),
     NullArithmetic(usize),
     AddressRange(usize),
+    Terminator(usize),
 }
 
 // A run's answer: refused, done, spent, or stopped, with the check that failed.
@@ -28,6 +29,7 @@ pub fn check_number(check: Check) -> u32
         Check::OutOfBounds(_) => 3,
         Check::NullArithmetic(_) => 4,
         Check::AddressRange(_) => 5,
+        Check::Terminator(_) => 6,
     }
 }
 
@@ -41,5 +43,6 @@ pub fn check_statement(check: Check) -> usize
         Check::OutOfBounds(a) => a,
         Check::NullArithmetic(a) => a,
         Check::AddressRange(a) => a,
+        Check::Terminator(a) => a,
     }
 }

@@ -13,7 +13,8 @@ use Rattle.touched.specs.declared.Seen.{Seen}
 
 -- What is seen, as an environment, and what is seen of one.
 abbrev pub seenAs : Seen → Environment
-seenAs s = record { pointers = s .pointers; sizes = []; declared = s .declared; lengths = []; rows = [] }
+seenAs s =
+    record { pointers = s .pointers; strings = []; sizes = []; declared = s .declared; lengths = []; terminated = []; spans = []; rows = [] }
 
 abbrev pub seenOf : Environment → Seen
 seenOf E = record { pointers = E .pointers; declared = E .declared }

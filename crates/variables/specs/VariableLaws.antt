@@ -4,12 +4,12 @@ use mathlib.Core.Path.{_≡_, refl, ap, _∙_}
 use mathlib.Core.Bool.{Bool, true, false, _&&_, cond}
 use mathlib.Core.List.{List}
 use lib.IntN.{ℤ}
-use lib.Dec.{eqb, ltb, leb}
+use lib.Dec.{ltb, leb, eqb}
 use native.Mathlib.Omega.{arith}
 use borrow.Author.Tests.{leb-true}
 use Rattle.sums.specs.Numbers.{bias}
 use Rattle.fields.specs.Fields.{isZero, isConstant, plain}
-use Rattle.sections.specs.Sections.{isVariable, variableStart, kindAt, integerAt, pointerAt, namesPointer, namesIndex, Limits, inLimits, rowStart}
+use Rattle.sections.specs.Sections.{isVariable, variableStart, kindAt, integerAt, pointerAt, namesPointer, namesIndex, Limits, inLimits, rowStart, kindOf, kindIs}
 use Rattle.sections.specs.SectionsLaws.{both, variable-limits}
 use Rattle.sections.specs.NameLaws.{constant-small, pointer-named, index-named}
 use Rattle.sections.specs.declared.Sections.{Sections}
@@ -45,18 +45,18 @@ module _ (table : List ℤ) (h : Sections) where
       let q = both (namesPointer table h (e .pointer)) (namesIndex table h (e .integer)) (p .0) in
       record { pointer = pointer-named table h (e .pointer) (q .0); integer = index-named table h (e .integer) (q .1); constant = constant-small (e .constant) (p .1) }
 
-  -- The kind word of a variable is the first word of its record.
-  kind-word : (v : ℕ) → isVariable h v ≡ true → kindAt table h v ≡ variableWordsAt table (variableStart h v) .kind
+  -- The kind of a variable is that of the first word of its record.
+  kind-word : (v : ℕ) → isVariable h v ≡ true → kindAt table h v ≡ kindOf (variableWordsAt table (variableStart h v) .kind)
   unfolding kindAt variableWordsAt
   kind-word v e = simp e
 
   integer-kind : (v : ℕ) → isVariable h v ≡ true → integerRecord (variableWordsAt table (variableStart h v)) ≡ true → integerAt table h v ≡ true
-  unfolding integerAt integerRecord
+  unfolding integerAt integerRecord kindOf kindIs
   integer-kind v e t =
       let w = variableWordsAt table (variableStart h v) in
       let p = both (isZero (w .kind) && isZero (w .size) && endZero (w .lower)) (endZero (w .upper)) t in
       let q = both (isZero (w .kind) && isZero (w .size)) (endZero (w .lower)) (p .0) in
-      ap (λ (k : ℕ). eqb k bias) (kind-word v e) ∙ both (isZero (w .kind)) (isZero (w .size)) (q .0) .0
+      rw (kind-word v e, both (isZero (w .kind)) (isZero (w .size)) (q .0) .0)
 
   pointer-kind : (v : ℕ) → isVariable h v ≡ true → pointerRecord table h (variableWordsAt table (variableStart h v)) ≡ true →
       PointerTyped table h v (sizeOf (variableWordsAt table (variableStart h v) .size)) (endOf (variableWordsAt table (variableStart h v) .lower))
@@ -64,11 +64,11 @@ module _ (table : List ℤ) (h : Sections) where
   unfolding pointerAt pointerRecord
   pointer-kind v e t =
       let w = variableWordsAt table (variableStart h v) in
-      let p = both (eqb (w .kind) (bias + 1) && isSize (w .size) && endRight table h (w .lower)) (endRight table h (w .upper)) t in
-      let q = both (eqb (w .kind) (bias + 1) && isSize (w .size)) (endRight table h (w .lower)) (p .0) in
+      let p = both (kindIs false true true (kindOf (w .kind)) && isSize (w .size) && endRight table h (w .lower)) (endRight table h (w .upper)) t in
+      let q = both (kindIs false true true (kindOf (w .kind)) && isSize (w .size)) (endRight table h (w .lower)) (p .0) in
       record {
-        kind = ap (λ (k : ℕ). eqb k (bias + 1)) (kind-word v e) ∙ both (eqb (w .kind) (bias + 1)) (isSize (w .size)) (q .0) .0;
-        few = size-small (w .size) (both (eqb (w .kind) (bias + 1)) (isSize (w .size)) (q .0) .1);
+        kind = rw (kind-word v e) (both (kindIs false true true (kindOf (w .kind))) (isSize (w .size)) (q .0) .0);
+        few = size-small (w .size) (both (kindIs false true true (kindOf (w .kind))) (isSize (w .size)) (q .0) .1);
         lower = end-typed (w .lower) (q .1);
         upper = end-typed (w .upper) (p .1);
       }

@@ -1,13 +1,13 @@
 -- What the record of a variable reads as, and the length of an object (document 01, "The routine table").
-use Prim.Native.Nat.{ℕ, _+_}
-use mathlib.Core.Bool.{Bool, _&&_, cond}
+use Prim.Native.Nat.{ℕ, _+_, _-_}
+use mathlib.Core.Bool.{Bool, _&&_, cond, false, true}
 use mathlib.Core.List.{List}
 use lib.IntN.{ℤ}
-use lib.Dec.{ltb, eqb, leb}
+use lib.Dec.{ltb, leb, eqb}
 use Rattle.sums.specs.Numbers.{bias}
 use Rattle.words.specs.Words.{word}
 use Rattle.fields.specs.Fields.{plain, indexOf, isZero, isConstant}
-use Rattle.sections.specs.Sections.{inLimits, isVariable, objectStart, variableStart, namesPointer, namesIndex, rowStart}
+use Rattle.sections.specs.Sections.{inLimits, isVariable, objectStart, variableStart, namesPointer, namesIndex, rowStart, kindOf, kindIs}
 use Rattle.sections.specs.declared.Sections.{Sections}
 use Rattle.variables.specs.declared.End.{End}
 use Rattle.variables.specs.declared.Variable.the-variants.{Integer, Pointer}
@@ -27,7 +27,7 @@ endWordsAt table i = record { pointer = word table i; integer = word table (i + 
 unfoldable pub variableWordsAt : List ℤ → ℕ → VariableWords
 variableWordsAt table i = record { kind = word table i; size = word table (i + 1); lower = endWordsAt table (i + 2); upper = endWordsAt table (i + 5) }
 
--- "an array_ptr variable, an integer variable or -1, a constant k"
+-- "an array_ptr variable, an integer variable or -1, a constant k"; point 7: "Ends may name both kinds of pointer."
 unfoldable pub endRight : List ℤ → Sections → EndWords → Bool
 endRight table h e = namesPointer table h (e .pointer) && namesIndex table h (e .integer) && isConstant (e .constant)
 
@@ -49,7 +49,7 @@ unfoldable pub sizeOf : ℕ → ℕ
 sizeOf w = cond (eqb w bias) 1 (plain w)
 
 unfoldable pub pointerRecord : List ℤ → Sections → VariableWords → Bool
-pointerRecord table h w = eqb (w .kind) (bias + 1) && isSize (w .size) && endRight table h (w .lower) && endRight table h (w .upper)
+pointerRecord table h w = kindIs false true true (kindOf (w .kind)) && isSize (w .size) && endRight table h (w .lower) && endRight table h (w .upper)
 
 unfoldable pub variableOf : List ℤ → Sections → VariableWords → VariableRead
 variableOf table h w =
@@ -70,6 +70,10 @@ rowOf table h w = cond (endRight table h (w .lower) && endRight table h (w .uppe
 unfoldable pub rowAt : List ℤ → Sections → ℕ → RowRead
 rowAt table h r = cond (inLimits h && ltb r (h .rows)) (rowOf table h (rowWordsAt table (rowStart h r))) row.Unread
 
--- "Objects: one word each, its length in cells": 0 for a negative word, and for a number that no object has.
+-- "Objects: one word each, its length in cells"; point 7: "An object word below 0 marks a terminated object of that many cells, sign removed".
+unfoldable pub objectCells : ℕ → ℕ
+objectCells w = cond (ltb w bias) (bias - w) (plain w)
+
+-- 0 for a number that no object has.
 unfoldable pub objectAt : List ℤ → Sections → ℕ → ℕ
-objectAt table h o = cond (inLimits h && ltb o (h .objects)) (plain (word table (objectStart h o))) 0
+objectAt table h o = cond (inLimits h && ltb o (h .objects)) (objectCells (word table (objectStart h o))) 0

@@ -5,13 +5,15 @@ use fields::is_zero;
 use fields::plain;
 use sections::Sections;
 use sections::in_limits;
+use sections::kind_is;
+use sections::kind_of;
 use sections::names_index;
 use sections::names_pointer;
 use sums::BIAS;
 use words::word;
 ghost use mathlib.Core.Path.{_≡_};
 ghost use Prim.Native.Nat.{_<_};
-ghost use Rattle.variables.specs.Variables.{endWordsAt, endRight, endZero, endOf, variableWordsAt, integerRecord, isSize, sizeOf, pointerRecord, variableOf, variableAt, rowWordsAt, rowOf, rowAt, objectAt};
+ghost use Rattle.variables.specs.Variables.{endWordsAt, endRight, endZero, endOf, variableWordsAt, integerRecord, isSize, sizeOf, pointerRecord, variableOf, variableAt, rowWordsAt, rowOf, rowAt, objectCells, objectAt};
 
 // An end of declared bounds: pointer + size times integer + constant. A missing integer is 16, the number that stands for zero. The constant is biased.
 pub struct End {
@@ -130,7 +132,7 @@ fn size_of(w: u64) -> u64
 fn pointer_record(table: &[i32], sections: Sections, w: VariableWords) -> bool
     ensures { λ r. ⌜ r ≡ pointerRecord (now (table .entry)) sections w ⌝ }
 {
-    (w.kind == BIAS + 1)
+    kind_is(false, true, true, kind_of(w.kind))
         & is_size(w.size)
         & end_right(table, sections, w.lower)
         & end_right(table, sections, w.upper)
@@ -203,12 +205,22 @@ pub fn read_variable(table: &[i32], sections: Sections, v: usize) -> VariableRea
     VariableRead::Unread
 }
 
-// The length of an object; 0 where its word is negative or there is no such object.
+// The length that the word of an object gives, its sign removed.
+fn object_cells(w: u64) -> u64
+    ensures { λ r. ⌜ r ≡ objectCells w ⌝ }
+{
+    if w < BIAS {
+        return BIAS - w;
+    }
+    plain(w) as u64
+}
+
+// The length of an object; 0 where there is no such object.
 pub fn read_object(table: &[i32], sections: Sections, o: usize) -> u64
     ensures { λ r. ⌜ r ≡ objectAt (now (table .entry)) sections o ⌝ }
 {
     if in_limits(sections) & (o < sections.objects) {
-        return plain(word(table, sections.start + o)) as u64;
+        return object_cells(word(table, sections.start + o));
     }
     0
 }

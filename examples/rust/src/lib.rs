@@ -7,7 +7,7 @@ use std::fmt;
 /// Why a routine, or a run of it, is refused.
 #[derive(Clone, Copy, Debug, PartialEq, Eq)]
 pub struct Refusal {
-    /// The paper's number, 1 to 13.
+    /// The paper's number, 1 to 13 or 16.
     pub number: u32,
     /// Object, variable (a bounds row counts on behind the variables), statement or pair, by the number; 0 where there is none.
     pub place: u32,
@@ -29,6 +29,8 @@ pub enum Check {
     OutOfBounds = 3,
     NullArithmetic = 4,
     AddressRange = 5,
+    /// Another number than 0 at the upper end of an nt_array_ptr.
+    Terminator = 6,
 }
 
 #[derive(Clone, Copy, Debug, PartialEq, Eq)]
@@ -61,7 +63,8 @@ fn check_of(number: u32) -> Check {
         3 => Check::OutOfBounds,
         4 => Check::NullArithmetic,
         5 => Check::AddressRange,
-        _ => unreachable!("the library's checks are 1 to 5"),
+        6 => Check::Terminator,
+        _ => unreachable!("the library's checks are 1 to 6"),
     }
 }
 

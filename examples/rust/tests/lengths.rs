@@ -114,6 +114,24 @@ fn rows_have_several_cells() {
     assert_eq!(check(&table), Verdict::Refused(refused(4, 0)));
 }
 
+/// p, an nt_array_ptr into a terminated object of three cells: two letters and their 0.
+#[test]
+fn names_keep_their_terminator() {
+    let mut table = ROUTINE;
+    (table[6], table[7]) = (-3, 2);
+    // p[n] := x in place of p[0] := x.
+    table[38..45].copy_from_slice(&[9, 0, 1, 0, 2, 0, 0]);
+    let lend = |n: u32, x: u32, cells: &mut [u32]| run(&table, &[1, 3], cells, &mut [1, n, x], &[1, 0, 0], 9);
+    let mut cells = [0, 65, 66, 0];
+    let stopped = Outcome::Stopped { steps: 2, statement: 1, check: Check::Terminator };
+    assert_eq!(lend(2, 67, &mut cells), stopped);
+    assert_eq!(lend(2, 0, &mut cells), Outcome::Done { steps: 2 });
+    assert_eq!(lend(3, 0, &mut cells), Outcome::Refused(refused(12, 0)));
+    assert_eq!(lend(2, 0, &mut [0, 65, 66, 67]), Outcome::Refused(refused(16, 0)));
+    assert_eq!(lend(1, 0, &mut cells), Outcome::Done { steps: 2 });
+    assert_eq!(cells, [0, 65, 0, 0]);
+}
+
 /// As the header says: no call begins in the middle, but a copy from before the run passes the same point.
 #[test]
 fn a_run_spent_in_a_bundle_goes_on_from_a_copy() {

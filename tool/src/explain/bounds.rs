@@ -179,9 +179,18 @@ impl Side {
         let known = self.known.map_or(String::new(), |known| place.end(known, known_size));
         let known = format!("known {which} end {known}");
         let (below, above) = if self.upper { (declared, known) } else { (known, declared) };
-        let by = by.map_or(String::new(), |s| format!(" ({})", place.line_and_text(s)));
+        let by = by.map_or(String::new(), |s| format!(" ({}{})", place.line_and_text(s), kept(place, s)));
         format!("not shown: {below} <= {above}: {gap}{by}")
     }
+}
+
+/// Of the address of a terminated object, the cell that its bounds leave out.
+fn kept(place: &Place, s: usize) -> String {
+    let [kind, _, o, ..] = place.printer.table.statements[s];
+    if kind != 5 || place.printer.objects()[o as usize] > 0 {
+        return String::new();
+    }
+    format!("; the last cell of `{}` is its terminator", place.printer.object_name(o))
 }
 
 /// `1 cell`, `3 cells`.

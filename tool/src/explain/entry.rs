@@ -1,4 +1,4 @@
-//! Why a run is refused at entry: causes 10 to 12, at the image's line.
+//! Why a run is refused at entry: causes 10 to 12 and 16, at the image's line.
 
 use super::values::end;
 use super::Explanation;

@@ -1,4 +1,4 @@
-//! Causes 1 to 6: what is wrong with a table's form, and which forms this library does not have yet.
+//! Causes 1 to 6: what is wrong with a table's form.
 
 use super::Explanation;
 use crate::diagnostics::Pos;
@@ -68,18 +68,8 @@ fn reason(form: &Form, refusal: &Refusal) -> (String, Vec<i32>) {
             (reason, record.map_or(Vec::new(), |record| record.to_vec()))
         }
     };
-    (reason.unwrap_or_else(|| not_yet(refusal)), record)
-}
-
-/// A form that reads, but belongs to a change request that this library does not have.
-fn not_yet(refusal: &Refusal) -> String {
-    let what = match refusal.number {
-        3 => "terminated objects",
-        4 => "nt_array_ptr",
-        5 => "calls",
-        _ => "such tables",
-    };
-    format!("this library has no {what}")
+    // Calls read, but belong to a change request that this library does not have.
+    (reason.unwrap_or_else(|| "this library has no calls".to_string()), record)
 }
 
 /// Where a refusal of the form stands in the text.

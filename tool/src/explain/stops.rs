@@ -26,6 +26,16 @@ pub fn sentence(printer: &Printer, statement: usize, check: Check, values: &[u32
             let address = i64::from(value(record[2])) + by;
             format!("{moved} is {address}, which is no address (1 to 4294967295)")
         }
+        Check::Terminator => {
+            let (p, i, k) = accessed(&record);
+            let address = end([p, i, k], printer.table.size(p), values).value;
+            let (name, stored) = (printer.name(p), record[4]);
+            format!(
+                "only 0 may be stored at the upper end of `{name}` (cell {address}); `{}` is {}",
+                printer.name(stored),
+                value(stored)
+            )
+        }
     }
 }
 
@@ -72,11 +82,13 @@ fn ends(printer: &Printer, p: i32, rows: &InForce, values: &[u32]) -> [i64; 2] {
     [[q, n, k], [r, m, j]].map(|words| end(words, size, values).value)
 }
 
-/// `cells 5 to 8`: what the bounds in force let an access reach.
+/// `cells 5 to 8`: what the bounds in force let an access reach; an nt_array_ptr the cell at the upper end too.
 pub fn cells_of(printer: &Printer, p: i32, rows: &InForce, values: &[u32]) -> String {
-    match ends(printer, p, rows, values) {
-        [low, high] if low + 1 == high => format!("cell {low}"),
-        [low, high] if low < high => format!("cells {low} to {}", high - 1),
+    let [low, high] = ends(printer, p, rows, values);
+    let last = if printer.table.is_terminated(p) { high } else { high - 1 };
+    match last - low {
+        0 => format!("cell {low}"),
+        1.. => format!("cells {low} to {last}"),
         _ => "no cell".to_string(),
     }
 }

@@ -17,11 +17,11 @@ use Rattle.rules.specs.Verdict.{environmentOf}
 use Rattle.force.specs.Force.{stateOf}
 
 abbrev Inv-loop : tie.InvT-loop
-Inv-loop table sections head count sizes lengths rows₀ seen₀ known₀ facts₀ at₀ left₀ rows seen known facts at left =
+Inv-loop table sections head count sizes spans rows₀ seen₀ known₀ facts₀ at₀ left₀ rows seen known facts at left =
     Held table sections (environmentOf table sections) head count (stateOf facts₀ (rows₀ .each)) (inForce (environmentOf table sections) (rows₀ .each) .declared) at left facts (rows .each) seen (known .each)
 
 abbrev μ-loop : tie.MeasureT-loop
-μ-loop table sections head count sizes lengths rows₀ seen₀ known₀ facts₀ at₀ left₀ rows seen known facts at left = left
+μ-loop table sections head count sizes spans rows₀ seen₀ known₀ facts₀ at₀ left₀ rows seen known facts at left = left
 
 pub walk-bundle-spec : {M : Type 1} → statement M
 walk-bundle-spec =

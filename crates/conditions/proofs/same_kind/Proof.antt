@@ -11,4 +11,6 @@ same-kind-spec =
     (λ c κs. tt)
     (λ c κs. tt)
     (λ c κs. tt)
-    (λ c. simp (c .names-pointer2 .ensures, c .before .names-pointer .ensures, c .before .before .names-integer2 .ensures, c .before .before .before .names-integer .ensures)))
+    (λ c κs. tt)
+    (λ c κs. tt)
+    (λ c. simp (c .names-string2 .ensures, c .before .names-string .ensures, c .before .before .names-array2 .ensures, c .before .before .before .names-array .ensures, c .before .before .before .before .names-integer2 .ensures, c .before .before .before .before .before .names-integer .ensures)))

@@ -8,10 +8,10 @@ use Rattle.lookups.proofs.in_force.Statement.{statement}
 use Rattle.lookups.proofs.in_force.Tie as tie
 
 abbrev Inv-loop : tie.InvT-loop
-Inv-loop environment rows pointers sizes lengths all declared₀ p₀ declared p = Filled declared declared₀ 16 (λ q. rowBound environment (getD (rows .each) q 0) q) p
+Inv-loop environment rows pointers strings sizes lengths terminated spans all declared₀ p₀ declared p = Filled declared declared₀ 16 (λ q. rowBound environment (getD (rows .each) q 0) q) p
 
 abbrev μ-loop : tie.MeasureT-loop
-μ-loop environment rows pointers sizes lengths all declared₀ p₀ declared p = 16 - p
+μ-loop environment rows pointers strings sizes lengths terminated spans all declared₀ p₀ declared p = 16 - p
 
 pub in-force-spec : {M : Type 1} → statement M
 in-force-spec =

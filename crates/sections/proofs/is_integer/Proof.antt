@@ -4,4 +4,9 @@ use Rattle.sections.proofs.is_integer.Tie as tie
 
 pub is-integer-spec : {M : Type 1} → statement M
 unfolding integerAt
-is-integer-spec = tie.close (tie.spec (λ c κs. tt) (λ c. simp (c .kind-at .ensures)))
+is-integer-spec =
+    tie.close
+    (tie.spec
+    (λ c κs. tt)
+    (λ c κs. tt)
+    (λ c. simp (c .kind-is .ensures, c .before .kind-at .ensures)))

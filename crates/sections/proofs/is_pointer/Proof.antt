@@ -1,8 +1,12 @@
-use borrow.Author.Needs.{needs}
 use Rattle.sections.specs.Sections.{pointerAt}
 use Rattle.sections.proofs.is_pointer.Statement.{statement}
 use Rattle.sections.proofs.is_pointer.Tie as tie
 
 pub is-pointer-spec : {M : Type 1} → statement M
 unfolding pointerAt
-is-pointer-spec = tie.close (tie.spec (λ c κs. tt) (λ c. search needs) (λ c. simp (c .kind-at .ensures)))
+is-pointer-spec =
+    tie.close
+    (tie.spec
+    (λ c κs. tt)
+    (λ c κs. tt)
+    (λ c. simp (c .kind-is .ensures, c .before .kind-at .ensures)))

@@ -1,4 +1,3 @@
-use borrow.Author.Needs.{needs}
 use native.Mathlib.Omega.{arith}
 use Prim.Native.Nat.{_<_}
 use mathlib.Core.Path.{_∙_, sym}
@@ -21,6 +20,6 @@ kind-at-spec =
     (λ c. let l = sized (c .before) in omega arith)
     (λ c. let l = sized (c .before) in omega arith)
     (λ c κs. tt)
-    (λ c. simp (c .word .ensures, sym (c .before .before .before .is-variable .ensures) ∙ c .before .before .if1 .taken))
-    (λ c. search needs)
+    (λ c κs. tt)
+    (λ c. simp (c .kind-of .ensures, c .before .word .ensures, sym (c .before .before .before .before .is-variable .ensures) ∙ c .before .before .before .if1 .taken))
     (λ c. simp (sym (c .before .is-variable .ensures) ∙ c .if1 .left)))

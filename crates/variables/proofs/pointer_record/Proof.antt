@@ -1,4 +1,3 @@
-use borrow.Author.Needs.{needs}
 use Rattle.variables.specs.Variables.{pointerRecord}
 use Rattle.variables.proofs.pointer_record.Statement.{statement}
 use Rattle.variables.proofs.pointer_record.Tie as tie
@@ -8,8 +7,9 @@ unfolding pointerRecord
 pointer-record-spec =
     tie.close
     (tie.spec
-    (λ c. search needs)
     (λ c κs. tt)
     (λ c κs. tt)
     (λ c κs. tt)
-    (λ c. simp (c .end-right2 .ensures, c .before .end-right .ensures, c .before .before .is-size .ensures)))
+    (λ c κs. tt)
+    (λ c κs. tt)
+    (λ c. simp (c .end-right2 .ensures, c .before .end-right .ensures, c .before .before .is-size .ensures, c .before .before .before .kind-is .ensures, c .before .before .before .before .kind-of .ensures)))

@@ -50,10 +50,10 @@ abbrev callees : ℕ → walk-lts.Claims
 callees t = (read-due-reads.Asked, read-due-reads.Learnt, declares-of-reads.Asked, declares-of-reads.Learnt, declare-row-reads.Asked, declare-row-reads.Learnt, ask-statement-reads.Asked, ask-statement-reads.Learnt, answer-reads.Asked, answer-reads.Learnt, plan-statement-reads.Asked, plan-statement-reads.Learnt, after-reads.Asked, after-reads.Learnt, touches-reads.Asked, touches-reads.Learnt, check-effect-reads.Asked, check-effect-reads.Learnt, ask-condition-reads.Asked, ask-condition-reads.Learnt, assume-reads.Asked, assume-reads.Learnt, walk-below t, walk.Post, negated-reads.Asked, negated-reads.Learnt, same-rows-reads.Asked, same-rows-reads.Learnt, join-reads.Asked, join-reads.Learnt, force-of-reads.Asked, force-of-reads.Learnt, lose-reads.Asked, lose-reads.Learnt, walk-bundle-reads.Asked, walk-bundle-reads.Learnt)
 
 abbrev Inv : walk-lts.InvT-loop
-Inv table sections frame first end allowed sizes lengths pointers at₀ left₀ facts₀ force₀ at left facts force = Kept table sections (environmentOf table sections) end allowed (parse allowed table sections first end) (stateOf facts₀ (force₀ .rows .each)) at left facts force
+Inv table sections frame first end allowed sizes spans pointers at₀ left₀ facts₀ force₀ at left facts force = Kept table sections (environmentOf table sections) end allowed (parse allowed table sections first end) (stateOf facts₀ (force₀ .rows .each)) at left facts force
 
 abbrev μ : walk-lts.MeasureT-loop
-μ table sections frame first end allowed sizes lengths pointers at₀ left₀ facts₀ force₀ at left facts force = left
+μ table sections frame first end allowed sizes spans pointers at₀ left₀ facts₀ force₀ at left facts force = left
 
 -- the turn, once its statement is read
 turn : (t : ℕ) (d : walk-lts.After-known-told (callees t) (walk-at t) walk.Post Inv μ)

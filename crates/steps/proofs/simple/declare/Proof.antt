@@ -9,7 +9,7 @@ use Rattle.steps.proofs.simple.declare.Statement.{statement}
 use Rattle.steps.proofs.simple.declare.Tie as tie
 
 abbrev Inv-loop : tie.InvT-loop
-Inv-loop ends₀ next pointer row j₀ ends j = (ends ≡ copied j pointer row ends₀) × (j ≤ 6) × (pointer < 16) × (row < 64) × (length ends ≡ 496) × (length ends₀ ≡ 496)
+Inv-loop ends₀ next pointer row j₀ ends j = (ends ≡ copied j pointer row ends₀) × (j ≤ 6) × (pointer < 16) × (row < 64) × (length ends ≡ 512) × (length ends₀ ≡ 512)
 
 abbrev μ-loop : tie.MeasureT-loop
 μ-loop ends₀ next pointer row j₀ ends j = 6 - j
