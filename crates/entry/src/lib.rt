@@ -1,11 +1,11 @@
-// What is looked at before a run begins: causes 10 to 12.
+// What is looked at before a run begins: causes 10 to 12 and 16.
 mod entry_bounds; // entry_bounds.rt: whether declared bounds are true at entry
-mod entry; // entry.rt: causes 10 to 12
+mod entry; // entry.rt: causes 10 to 12 and 16
 
 pub use entry::enter;
 use refusals::Refusal;
 
-// What causes 10 to 12 say of what is lent.
+// What causes 10 to 12 and 16 say of what is lent.
 pub enum EntryVerdict {
     Begun,
     Refused(Refusal),

@@ -19,7 +19,7 @@ ghost use Rattle.rules.specs.Stored.{faults};
 ghost use Rattle.interpreter.specs.Claim.{RunJudged};
 ghost use Rattle.interpreter.specs.ClaimLaws.{RunStored};
 
-// A run of an accepted table of these sections: causes 10 to 12, then the steps.
+// A run of an accepted table of these sections: causes 10 to 12 and 16, then the steps.
 fn run_sections(
     table: &[i32],
     sections: Sections,
