@@ -79,7 +79,7 @@ fn number(text: &str) -> Result<u64, String> {
 fn check_vectors(directory: &Path) -> Result<bool, String> {
     let mut counts = Vec::new();
     let mut differences = Vec::new();
-    for file in ["named.txt", "random.txt"] {
+    for file in ["named.txt", "near_misses.txt", "random.txt"] {
         let cases = vectors::read_file(&directory.join(file))?;
         let look = |n: u64| Some(all_differences(&cases[n as usize])).filter(|d| !d.is_empty());
         let before = differences.len();

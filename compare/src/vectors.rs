@@ -106,7 +106,7 @@ mod tests {
     #[test]
     fn both_forms_are_right_on_the_files_of_the_repository() {
         let folder = Path::new(env!("CARGO_MANIFEST_DIR")).join("../vectors");
-        for file in ["named.txt", "random.txt"] {
+        for file in ["named.txt", "near_misses.txt", "random.txt"] {
             for vector in read_file(&folder.join(file)).unwrap() {
                 assert_eq!(differences(&vector), [""; 0], "{file}");
             }

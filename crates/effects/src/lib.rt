@@ -184,12 +184,7 @@ fn index_effect(p: usize, q: usize) -> Effect
 }
 
 // A statement of kinds 1 to 10 and 14, with the answers to what it asks.
-pub fn plan_statement(
-    sizes: [u64; 16],
-    spans: [u64; 16],
-    simple: Simple,
-    answers: Answers,
-) -> Plan
+pub fn plan_statement(sizes: [u64; 16], spans: [u64; 16], simple: Simple, answers: Answers) -> Plan
     requires { ⌜ InRange simple ⌝ }
     ensures { λ r. ⌜ Plans sizes spans simple answers r ⌝ }
 {

@@ -11,8 +11,9 @@ use rules::upper_limit;
 use sums::BIAS;
 use variables::End;
 ghost use mathlib.Core.Path.{_≡_};
-ghost use Prim.Native.Nat.{_^_, _<_, _≤_};
+ghost use Prim.Native.Nat.{_+_, _^_, _<_, _≤_};
 ghost use lib.Dec.{leb};
+ghost use lib.ListN.{length, getD};
 ghost use Rattle.rules.specs.Ranges.{Sized};
 ghost use Rattle.machine.specs.Machine.{endValue, boundsTrue};
 
@@ -43,6 +44,15 @@ fn ends_by(values: &[u32], size: u64, e: End, high: u64) -> bool
     sum + e.constant <= high
 }
 
+// Where the object whose pair starts at `pair` ends.
+fn object_end(directory: &[u32], pair: usize) -> u64
+    requires { ⌜ pair + 1 < length (now directory) ⌝ }
+    ensures { λ r. ⌜ r ≡ getD (now (directory .entry)) pair 0 + getD (now (directory .entry)) (pair + 1) 0 ⌝ }
+    ensures small { λ r. ⌜ r < 2 ^ 33 ⌝ }
+{
+    value_at(directory, pair) + value_at(directory, pair + 1)
+}
+
 // The pointer is null, or its origin is an object of the directory, a terminated one for a pointer of kind 2, and its ends lie there, up to its upper limit.
 pub(crate) fn bounds_true(
     environment: Environment,
@@ -66,18 +76,19 @@ pub(crate) fn bounds_true(
         return false;
     }
     let low = value_at(directory, pair);
-    let end = low + value_at(directory, pair + 1);
+    let end = object_end(directory, pair);
     let strings = environment.strings;
     let terminated = environment.terminated;
     let declared = environment.declared;
     let sizes = environment.sizes;
     let ended = is_terminated(terminated, origin - 1);
+    let string = is_string(strings, p);
     let high = upper_limit(ended, end);
     let size = size_at(sizes, p);
     let bounds = bounds_at(declared, p);
     let lower = bounds.lower;
     let upper = bounds.upper;
-    (!is_string(strings, p) | ended)
+    (!string | ended)
         & starts_by(values, size, end_of(lower), low + BIAS)
         & ends_by(values, size, end_of(upper), high + BIAS)
 }
