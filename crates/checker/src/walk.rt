@@ -31,7 +31,8 @@ ghost use Rattle.force.specs.Force.{stateOf, Framed, Forced};
 ghost use Rattle.checker.specs.Walk.{Walks};
 
 // The block of `first` to `end` - 1 from the facts `given` and what is in force, `begun`. `allowed` is at least the number of its statements; it falls at each. The fact set is changed in
-// place by its own methods alone: a function in between would copy it in and out.
+// place by its own methods alone: a function in between would copy it in and out. Its frame stands on the stack once for each depth, and each local has a place
+// of its own there: `now` is the state of this block, `side` what a nested one is walked from and then what it leaves; nothing else is large.
 pub(crate) fn walk(
     table: &[i32],
     sections: Sections,
@@ -50,8 +51,14 @@ pub(crate) fn walk(
     let pointers = frame.pointers;
     let mut at = first;
     let mut left = allowed;
-    let mut facts = given;
     let mut force = begun;
+    let begun_rows = begun.rows;
+    let mut now = Walked {
+        verdict: Verdict::Accepted,
+        facts: given,
+        rows: begun_rows,
+    };
+    let mut side = now;
     while left > 0 {
         if at >= end {
             break;
@@ -60,6 +67,7 @@ pub(crate) fn walk(
         let rows = force.rows;
         let got = read_due(table, sections, at);
         let StatementRead::Read(statement) = got else {
+            let facts = now.facts;
             return Walked {
                 verdict: Verdict::Refused(Refusal::StatementRecord(at)),
                 facts,
@@ -72,9 +80,18 @@ pub(crate) fn walk(
                 let declares = declares_of(simple);
                 match declares {
                     Declares::Row { pointer, row } => {
-                        let declared = declare_row(table, sections, force, facts, pointer, row, at);
+                        let declared = declare_row(
+                            table,
+                            sections,
+                            force,
+                            now.facts,
+                            pointer,
+                            row,
+                            at,
+                        );
                         let verdict = declared.verdict;
                         let Verdict::Accepted = verdict else {
+                            let facts = now.facts;
                             return Walked {
                                 verdict,
                                 facts,
@@ -85,13 +102,14 @@ pub(crate) fn walk(
                         at = inner;
                     }
                     Declares::NoRow => {
-                        let answers = answer(facts, ask_statement(simple));
+                        let answers = answer(now.facts, ask_statement(simple));
                         let plan = plan_statement(sizes, spans, simple, answers);
                         let effect = plan.effect;
-                        facts = facts.after(plan.change);
+                        now.facts = now.facts.after(plan.change);
                         if touches(force.named, pointers, effect) {
-                            let verdict = check_effect(force.seen, facts, effect, at);
+                            let verdict = check_effect(force.seen, now.facts, effect, at);
                             let Verdict::Accepted = verdict else {
+                                let facts = now.facts;
                                 return Walked {
                                     verdict,
                                     facts,
@@ -110,8 +128,9 @@ pub(crate) fn walk(
             } => {
                 let middle = inner + then_count;
                 let rest = middle + else_count;
-                let answers = answer(facts, ask_condition(condition));
-                let then = walk(
+                let answers = answer(now.facts, ask_condition(condition));
+                side.facts = now.facts.after(assume(condition, answers));
+                side = walk(
                     table,
                     sections,
                     frame,
@@ -119,36 +138,28 @@ pub(crate) fn walk(
                     inner,
                     middle,
                     left,
-                    facts.after(assume(condition, answers)),
+                    side.facts,
                 );
-                let then_verdict = then.verdict;
+                let then_verdict = side.verdict;
                 let Verdict::Accepted = then_verdict else {
-                    return then;
+                    return side;
                 };
-                let other = walk(
-                    table,
-                    sections,
-                    frame,
-                    force,
-                    middle,
-                    rest,
-                    left,
-                    facts.after(assume(negated(condition), answers)),
-                );
-                let other_verdict = other.verdict;
+                now.facts = now.facts.after(assume(negated(condition), answers));
+                now = walk(table, sections, frame, force, middle, rest, left, now.facts);
+                let other_verdict = now.verdict;
                 let Verdict::Accepted = other_verdict else {
-                    return other;
+                    return now;
                 };
-                let then_rows = then.rows;
-                if !same_rows(then_rows, other.rows) {
+                let then_rows = side.rows;
+                if !same_rows(then_rows, now.rows) {
+                    let facts = now.facts;
                     return Walked {
                         verdict: Verdict::Refused(Refusal::RowsDiffer(at)),
                         facts,
                         rows,
                     };
                 }
-                let then_facts = then.facts;
-                facts = then_facts.join(other.facts, pointers);
+                now.facts = side.facts.join(now.facts, pointers);
                 if !same_rows(rows, then_rows) {
                     force = force_of(table, sections, then_rows);
                 }
@@ -156,41 +167,33 @@ pub(crate) fn walk(
             }
             Statement::While { condition, count } => {
                 let rest = inner + count;
-                let lost = lose(table, sections, inner, count, facts);
-                let answers = answer(lost, ask_condition(condition));
-                let body = walk(
-                    table,
-                    sections,
-                    frame,
-                    force,
-                    inner,
-                    rest,
-                    left,
-                    lost.after(assume(condition, answers)),
-                );
-                let body_verdict = body.verdict;
+                now.facts = lose(table, sections, inner, count, now.facts);
+                let head = answer(now.facts, ask_condition(condition));
+                side.facts = now.facts.after(assume(condition, head));
+                side = walk(table, sections, frame, force, inner, rest, left, side.facts);
+                let body_verdict = side.verdict;
                 let Verdict::Accepted = body_verdict else {
-                    return body;
+                    return side;
                 };
-                if !same_rows(rows, body.rows) {
+                if !same_rows(rows, side.rows) {
+                    let facts = now.facts;
                     return Walked {
                         verdict: Verdict::Refused(Refusal::RowsDiffer(at)),
                         facts,
                         rows,
                     };
                 }
-                facts = lost.after(assume(negated(condition), answers));
+                now.facts = now.facts.after(assume(negated(condition), head));
                 at = rest;
             }
             Statement::Bundle { count } => {
                 let rest = inner + count;
-                let held = walk_bundle(table, sections, frame, force, at, count, facts);
-                let held_verdict = held.verdict;
+                now = walk_bundle(table, sections, frame, force, at, count, now.facts);
+                let held_verdict = now.verdict;
                 let Verdict::Accepted = held_verdict else {
-                    return held;
+                    return now;
                 };
-                facts = held.facts;
-                let held_rows = held.rows;
+                let held_rows = now.rows;
                 if !same_rows(rows, held_rows) {
                     force = force_of(table, sections, held_rows);
                 }
@@ -198,6 +201,7 @@ pub(crate) fn walk(
             }
         }
     }
+    let facts = now.facts;
     let rows = force.rows;
     Walked {
         verdict: Verdict::Accepted,

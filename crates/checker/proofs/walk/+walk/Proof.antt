@@ -50,16 +50,16 @@ abbrev callees : ℕ → walk-lts.Claims
 callees t = (read-due-reads.Asked, read-due-reads.Learnt, declares-of-reads.Asked, declares-of-reads.Learnt, declare-row-reads.Asked, declare-row-reads.Learnt, ask-statement-reads.Asked, ask-statement-reads.Learnt, answer-reads.Asked, answer-reads.Learnt, plan-statement-reads.Asked, plan-statement-reads.Learnt, after-reads.Asked, after-reads.Learnt, touches-reads.Asked, touches-reads.Learnt, check-effect-reads.Asked, check-effect-reads.Learnt, ask-condition-reads.Asked, ask-condition-reads.Learnt, assume-reads.Asked, assume-reads.Learnt, walk-below t, walk.Post, negated-reads.Asked, negated-reads.Learnt, same-rows-reads.Asked, same-rows-reads.Learnt, join-reads.Asked, join-reads.Learnt, force-of-reads.Asked, force-of-reads.Learnt, lose-reads.Asked, lose-reads.Learnt, walk-bundle-reads.Asked, walk-bundle-reads.Learnt)
 
 abbrev Inv : walk-lts.InvT-loop
-Inv table sections frame first end allowed sizes spans pointers at₀ left₀ facts₀ force₀ at left facts force = Kept table sections (environmentOf table sections) end allowed (parse allowed table sections first end) (stateOf facts₀ (force₀ .rows .each)) at left facts force
+Inv table sections frame first end allowed sizes spans pointers at₀ left₀ force₀ now₀ side₀ at left force now side = Kept table sections (environmentOf table sections) end allowed (parse allowed table sections first end) (stateOf (now₀ .facts) (force₀ .rows .each)) at left (now .facts) force
 
 abbrev μ : walk-lts.MeasureT-loop
-μ table sections frame first end allowed sizes spans pointers at₀ left₀ facts₀ force₀ at left facts force = left
+μ table sections frame first end allowed sizes spans pointers at₀ left₀ force₀ now₀ side₀ at left force now side = left
 
 -- the turn, once its statement is read
 turn : (t : ℕ) (d : walk-lts.After-known-told (callees t) (walk-at t) walk.Post Inv μ)
-    → Turn (now (d .before .before .before .before .before .before .before .before .before .before .before .args .table)) (d .before .before .before .before .before .before .before .before .before .before .before .args .sections) (environmentOf (now (d .before .before .before .before .before .before .before .before .before .before .before .args .table)) (d .before .before .before .before .before .before .before .before .before .before .before .args .sections)) (d .before .before .before .before .before .before .before .before .before .before .before .args .end) (d .before .before .before .before .before .before .before .before .before .before .before .args .allowed)
-    (parse (d .before .before .before .before .before .before .before .before .before .before .before .args .allowed) (now (d .before .before .before .before .before .before .before .before .before .before .before .args .table)) (d .before .before .before .before .before .before .before .before .before .before .before .args .sections) (d .before .before .before .before .before .before .before .before .before .before .before .args .first) (d .before .before .before .before .before .before .before .before .before .before .before .args .end)) (stateOf (d .before .before .before .before .before .before .before .before .before .before .before .args .given) (d .before .before .before .before .before .before .before .before .before .before .before .args .begun .rows .each))
-    (d .before .before .before .before .before .before .before .loop .at) (d .before .before .before .before .before .before .before .loop .left) (d .before .before .before .before .before .before .before .loop .facts) (d .before .before .before .before .before .before .before .loop .force) (d .before .got .given .0 .0)
+    → let a = d .before .before .before .before .before .before .before .before .before .before .before .before .args in let l = d .before .before .before .before .before .before .before .loop in
+    Turn (now (a .table)) (a .sections) (environmentOf (now (a .table)) (a .sections)) (a .end) (a .allowed) (parse (a .allowed) (now (a .table)) (a .sections) (a .first) (a .end)) (stateOf (a .given) (a .begun .rows .each))
+    (l .at) (l .left) (l .now .facts) (l .force) (d .before .got .given .0 .0)
 turn t d = record {
   so-far = d .before .before .before .before .before .before .before .loop .inv;
   some = d .before .before .before .before .before .before .loop-test .taken;
@@ -69,28 +69,55 @@ turn t d = record {
 
 pub +walk-spec : {M : Type 1} → statement M
 +walk-spec = close μ-walk λ t. walk-lts.spec (callees t) (walk-at t) walk.Post Inv μ
-    (λ c. kept-none _ _ _ _ _ _ _ _ (c .before .before .before .pre .1 .2))
+    (λ c. kept-none _ _ _ _ _ _ _ _ (c .before .before .before .before .pre .1 .2))
     (λ c. search needs) (λ c κs. search needs) (λ c. search needs) (λ c. search needs)
-    (λ c. kept-unread (c .before .before .before .before .before .before .loop .inv) (c .before .before .before .before .before .loop-test .taken) (c .before .before .before .before .if1 .left) (sym (c .before .before .read-due .ensures) ∙ c .enum-told .given .1) refl)
+    (λ c. kept-unread (c .before .before .before .before .before .before .before .loop .inv) (c .before .before .before .before .before .before .loop-test .taken) (c .before .before .before .before .before .if1 .left) (sym (c .before .before .before .read-due .ensures) ∙
+    c .before .enum-told .given .1) refl)
     (λ c. omega (arith, placed (turn t c)))
     (λ c. search needs) (λ c κs. search needs) (λ c. search needs)
-    (λ c κs. let l = row-named-within (arm (turn t (c .before .before .before .before .before .before .before)) (c .before .before .before .before .before .statement .given .1)) (sym (c .before .before .before .declares-of .ensures) ∙ c .before .declares .given .1) in ((turn t (c .before .before .before .before .before .before .before)) .so-far .forced, l .0, l .1))
+    (λ c κs. let l = row-named-within (arm (turn t (c .before .before .before .before .before .before .before)) (c .before .before .before .before .before .statement .given .1)) (sym (c .before .before .before .declares-of .ensures) ∙ c .before .declares .given .1) in (
+      (turn t
+          (c .before .before .before .before .before .before .before)) .so-far .forced,
+      l .0,
+      l .1,
+    ))
     (λ c. search needs) (λ c. search needs)
-    (λ c. row-refused (arm (turn t (c .before .before .before .before .before .before .before .before .before .before)) (c .before .before .before .before .before .before .before .before .statement .given .1)) (sym (c .before .before .before .before .before .before .declares-of .ensures) ∙ c .before .before .before .before .declares .given .1) (c .before .before .declare-row .ensures) refl (c .enum-told3 .given .1))
+    (λ c. row-refused (arm (turn t (c .before .before .before .before .before .before .before .before .before .before .before)) (c .before .before .before .before .before .before .before .before .before .statement .given .1)) (sym
+    (c .before .before .before .before .before .before .before .declares-of .ensures) ∙ c .before .before .before .before .before .declares .given .1) (c .before .before .before .declare-row .ensures) refl (c .before .enum-told3 .given .1))
     (λ c. omega (arith, (turn t (c .before .before .before .before .before .before .before .before .before .before .before)) .some))
-    (λ c. turn-row (arm (turn t (c .before .before .before .before .before .before .before .before .before .before .before)) (c .before .before .before .before .before .before .before .before .before .statement .given .1)) (sym (c .before .before .before .before .before .before .before .declares-of .ensures) ∙ c .before .before .before .before .before .declares .given .1) (c .before .before .before .declare-row .ensures) (c .before .enum-told2 .given .1))
+    (λ c. turn-row (arm (turn t (c .before .before .before .before .before .before .before .before .before .before .before)) (c .before .before .before .before .before .before .before .before .before .statement .given .1)) (sym
+    (c .before .before .before .before .before .before .before .declares-of .ensures) ∙ c .before .before .before .before .before .declares .given .1) (c .before .before .before .declare-row .ensures) (c .before .enum-told2 .given .1))
     (λ c. search needs)
     (λ c κs. plain-ranged (arm (turn t (c .before .before .before .before .before .before)) (c .before .before .before .before .statement .given .1)))
     (λ c κs. search needs)
     (λ c κs. plain-ranged (arm (turn t (c .before .before .before .before .before .before .before .before)) (c .before .before .before .before .before .before .statement .given .1)))
     (λ c κs. search needs) (λ c κs. search needs)
-    (λ c κs. applied-short (environmentOf (now (c .before .before .before .before .before .before .before .before .before .before .before .before .before .before .before .before .before .before .before .before .before .before .before .args .table)) (c .before .before .before .before .before .before .before .before .before .before .before .before .before .before .before .before .before .before .before .before .before .before .before .args .sections)) _ _ (measured-by _ _ (c .before .before .before .before .before .before .before .before .before .before .before .before .before .before .before .before .before .before .before .before .before .before .before .pre .1 .1) (carried-out _ _ _ _ _ (c .before .before .before .before .before .ask-statement .ensures) (c .before .before .before .before .answer .ensures) (c .before .before .before .plan-statement .ensures) (c .before .before .after .ensures))) (c .before .before .before .before .before .before .before .before .before .before .before .before .before .before .before .before .before .before .before .before .before .before .before .pre .1 .0) (plain-ranged (arm (turn t (c .before .before .before .before .before .before .before .before .before .before .before .before)) (c .before .before .before .before .before .before .before .before .before .before .statement .given .1))))
+    (λ c κs. applied-short (environmentOf (now (c .before .before .before .before .before .before .before .before .before .before .before .before .before .before .before .before .before .before .before .before .before .before .before .before .args .table))
+    (c .before .before .before .before .before .before .before .before .before .before .before .before .before .before .before .before .before .before .before .before .before .before .before .before .args .sections)) _ _ (measured-by _ _
+    (c .before .before .before .before .before .before .before .before .before .before .before .before .before .before .before .before .before .before .before .before .before .before .before .before .pre .1 .1) (carried-out _ _ _ _ _
+    (c .before .before .before .before .before .ask-statement .ensures) (c .before .before .before .before .answer .ensures) (c .before .before .before .plan-statement .ensures) (c .before .before .after .ensures)))
+    (c .before .before .before .before .before .before .before .before .before .before .before .before .before .before .before .before .before .before .before .before .before .before .before .before .pre .1 .0) (plain-ranged (arm (turn t
+    (c .before .before .before .before .before .before .before .before .before .before .before .before)) (c .before .before .before .before .before .before .before .before .before .before .statement .given .1))))
     (λ c. search needs) (λ c. search needs)
-    (λ c. plain-refused (arm (turn t (c .before .before .before .before .before .before .before .before .before .before .before .before .before .before .before)) (c .before .before .before .before .before .before .before .before .before .before .before .before .before .statement .given .1)) (sym (c .before .before .before .before .before .before .before .before .before .before .before .declares-of .ensures) ∙ c .before .before .before .before .before .before .before .before .before .enum-told4 .given .1) (measured-by _ _ (c .before .before .before .before .before .before .before .before .before .before .before .before .before .before .before .before .before .before .before .before .before .before .before .before .before .before .pre .1 .1) (carried-out _ _ _ _ _ (c .before .before .before .before .before .before .before .before .ask-statement .ensures) (c .before .before .before .before .before .before .before .answer .ensures) (c .before .before .before .before .before .before .plan-statement .ensures) (c .before .before .before .before .before .after .ensures))) (c .before .before .check-effect .ensures) refl (c .enum-told6 .given .1))
+    (λ c. plain-refused (arm (turn t (c .before .before .before .before .before .before .before .before .before .before .before .before .before .before .before .before))
+    (c .before .before .before .before .before .before .before .before .before .before .before .before .before .before .statement .given .1)) (sym (c .before .before .before .before .before .before .before .before .before .before .before .before .declares-of .ensures) ∙
+    c .before .before .before .before .before .before .before .before .before .before .enum-told4 .given .1) (measured-by _ _
+    (c .before .before .before .before .before .before .before .before .before .before .before .before .before .before .before .before .before .before .before .before .before .before .before .before .before .before .before .before .pre .1 .1) (carried-out _ _ _ _ _
+    (c .before .before .before .before .before .before .before .before .before .ask-statement .ensures) (c .before .before .before .before .before .before .before .before .answer .ensures) (c .before .before .before .before .before .before .before .plan-statement .ensures)
+    (c .before .before .before .before .before .before .after .ensures))) (c .before .before .before .check-effect .ensures) refl (c .before .enum-told6 .given .1))
     (λ c. omega (arith, (turn t (c .before .before .before .before .before .before .before .before .before .before .before .before .before .before .before)) .some))
-    (λ c. turn-plain (arm (turn t (c .before .before .before .before .before .before .before .before .before .before .before .before .before .before .before)) (c .before .before .before .before .before .before .before .before .before .before .before .before .before .statement .given .1)) (sym (c .before .before .before .before .before .before .before .before .before .before .before .declares-of .ensures) ∙ c .before .before .before .before .before .before .before .before .before .enum-told4 .given .1) (measured-by _ _ (c .before .before .before .before .before .before .before .before .before .before .before .before .before .before .before .before .before .before .before .before .before .before .before .before .before .before .pre .1 .1) (carried-out _ _ _ _ _ (c .before .before .before .before .before .before .before .before .ask-statement .ensures) (c .before .before .before .before .before .before .before .answer .ensures) (c .before .before .before .before .before .before .plan-statement .ensures) (c .before .before .before .before .before .after .ensures))) (c .before .before .check-effect .ensures) (c .enum-told5 .given .1))
+    (λ c. turn-plain (arm (turn t (c .before .before .before .before .before .before .before .before .before .before .before .before .before .before .before))
+    (c .before .before .before .before .before .before .before .before .before .before .before .before .before .statement .given .1)) (sym (c .before .before .before .before .before .before .before .before .before .before .before .declares-of .ensures) ∙
+    c .before .before .before .before .before .before .before .before .before .enum-told4 .given .1) (measured-by _ _
+    (c .before .before .before .before .before .before .before .before .before .before .before .before .before .before .before .before .before .before .before .before .before .before .before .before .before .before .before .pre .1 .1) (carried-out _ _ _ _ _
+    (c .before .before .before .before .before .before .before .before .ask-statement .ensures) (c .before .before .before .before .before .before .before .answer .ensures) (c .before .before .before .before .before .before .plan-statement .ensures)
+    (c .before .before .before .before .before .after .ensures))) (c .before .before .check-effect .ensures) (c .enum-told5 .given .1))
     (λ c. omega (arith, (turn t (c .before .before .before .before .before .before .before .before .before .before .before .before)) .some))
-    (λ c. turn-untouched (arm (turn t (c .before .before .before .before .before .before .before .before .before .before .before .before)) (c .before .before .before .before .before .before .before .before .before .before .statement .given .1)) (sym (c .before .before .before .before .before .before .before .before .declares-of .ensures) ∙ c .before .before .before .before .before .before .enum-told4 .given .1) (measured-by _ _ (c .before .before .before .before .before .before .before .before .before .before .before .before .before .before .before .before .before .before .before .before .before .before .before .pre .1 .1) (carried-out _ _ _ _ _ (c .before .before .before .before .before .ask-statement .ensures) (c .before .before .before .before .answer .ensures) (c .before .before .before .plan-statement .ensures) (c .before .before .after .ensures))) (c .before .before .before .before .before .before .before .before .before .before .before .before .before .before .before .before .before .before .before .before .before .before .before .pre .1 .1 .pointers) (sym (c .before .touches .ensures) ∙ c .if2 .left))
+    (λ c. turn-untouched (arm (turn t (c .before .before .before .before .before .before .before .before .before .before .before .before)) (c .before .before .before .before .before .before .before .before .before .before .statement .given .1)) (sym
+    (c .before .before .before .before .before .before .before .before .declares-of .ensures) ∙ c .before .before .before .before .before .before .enum-told4 .given .1) (measured-by _ _
+    (c .before .before .before .before .before .before .before .before .before .before .before .before .before .before .before .before .before .before .before .before .before .before .before .before .pre .1 .1) (carried-out _ _ _ _ _
+    (c .before .before .before .before .before .ask-statement .ensures) (c .before .before .before .before .answer .ensures) (c .before .before .before .plan-statement .ensures) (c .before .before .after .ensures)))
+    (c .before .before .before .before .before .before .before .before .before .before .before .before .before .before .before .before .before .before .before .before .before .before .before .before .pre .1 .1 .pointers) (sym (c .before .touches .ensures) ∙ c .if2 .left))
     (λ c. search needs)
     (λ c. let u = (arm (turn t (c .before .before .before)) (c .before .statement2 .given .1)) in omega (arith, placed u, if-counts u))
     (λ c. let u = (arm (turn t (c .before .before .before)) (c .before .statement2 .given .1)) in omega (arith, placed u, if-counts u))
@@ -98,22 +125,81 @@ pub +walk-spec : {M : Type 1} → statement M
     (λ c κs. search needs)
     (λ c κs. if-offset (arm (turn t (c .before .before .before .before .before)) (c .before .before .before .statement2 .given .1)))
     (λ c κs. search needs)
-    (λ c κs. (left-falls (turn t (c .before .before .before .before .before .before .before)) (c .before .before .before .before .before .before .before .before .before .before .before .before .before .before .before .before .before .before .pre .0), (c .before .before .before .before .before .before .before .before .before .before .before .before .before .before .before .before .before .before .pre .1 .0, c .before .before .before .before .before .before .before .before .before .before .before .before .before .before .before .before .before .before .pre .1 .1, (turn t (c .before .before .before .before .before .before .before)) .so-far .forced)))
+    (λ c κs. (
+      left-falls (turn t (c .before .before .before .before .before .before .before)) (c .before .before .before .before .before .before .before .before .before .before .before .before .before .before .before .before .before .before .before .pre .0),
+      (
+        c .before .before .before .before .before .before .before .before .before .before .before .before .before .before .before .before .before .before .before .pre .1 .0,
+        c .before .before .before .before .before .before .before .before .before .before .before .before .before .before .before .before .before .before .before .pre .1 .1,
+        (turn t (c .before .before .before .before .before .before .before)) .so-far .forced,
+      ),
+    ))
     (λ c. search needs) (λ c. search needs)
-    (λ c. then-refused (arm (turn t (c .before .before .before .before .before .before .before .before .before .before)) (c .before .before .before .before .before .before .before .before .statement2 .given .1)) (assumed _ _ _ (c .before .before .before .before .before .before .ask-condition .ensures) (c .before .before .before .before .before .answer2 .ensures) (c .before .before .before .before .assume .ensures) (c .before .before .before .after2 .ensures)) (c .before .before .walk .ensures) (c .enum-told8 .given .1))
+    (λ c. then-refused (arm (turn t (c .before .before .before .before .before .before .before .before .before .before)) (c .before .before .before .before .before .before .before .before .statement2 .given .1)) (assumed _ _ _
+    (c .before .before .before .before .before .before .ask-condition .ensures) (c .before .before .before .before .before .answer2 .ensures) (c .before .before .before .before .assume .ensures) (c .before .before .before .after2 .ensures)) (c .before .before .walk .ensures)
+    (c .enum-told8 .given .1))
     (λ c κs. search needs)
     (λ c κs. negated-offset _ _ (c .negated .ensures) (if-offset (arm (turn t (c .before .before .before .before .before .before .before .before .before .before .before)) (c .before .before .before .before .before .before .before .before .before .statement2 .given .1))))
     (λ c κs. search needs)
-    (λ c κs. (left-falls (turn t (c .before .before .before .before .before .before .before .before .before .before .before .before .before)) (c .before .before .before .before .before .before .before .before .before .before .before .before .before .before .before .before .before .before .before .before .before .before .before .before .pre .0), (c .before .before .before .before .before .before .before .before .before .before .before .before .before .before .before .before .before .before .before .before .before .before .before .before .pre .1 .0, c .before .before .before .before .before .before .before .before .before .before .before .before .before .before .before .before .before .before .before .before .before .before .before .before .pre .1 .1, (turn t (c .before .before .before .before .before .before .before .before .before .before .before .before .before)) .so-far .forced)))
+    (λ c κs. (
+      left-falls (turn t (c .before .before .before .before .before .before .before .before .before .before .before .before .before))
+          (c .before .before .before .before .before .before .before .before .before .before .before .before .before .before .before .before .before .before .before .before .before .before .before .before .before .pre .0),
+      (
+        c .before .before .before .before .before .before .before .before .before .before .before .before .before .before .before .before .before .before .before .before .before .before .before .before .before .pre .1 .0,
+        c .before .before .before .before .before .before .before .before .before .before .before .before .before .before .before .before .before .before .before .before .before .before .before .before .before .pre .1 .1,
+        (turn t
+            (c .before .before .before .before .before .before .before .before .before .before .before .before .before)) .so-far .forced,
+      ),
+    ))
     (λ c. search needs) (λ c. search needs)
-    (λ c. else-refused (arm (turn t (c .before .before .before .before .before .before .before .before .before .before .before .before .before .before .before .before)) (c .before .before .before .before .before .before .before .before .before .before .before .before .before .before .statement2 .given .1)) (assumed _ _ _ (c .before .before .before .before .before .before .before .before .before .before .before .before .ask-condition .ensures) (c .before .before .before .before .before .before .before .before .before .before .before .answer2 .ensures) (c .before .before .before .before .before .before .before .before .before .before .assume .ensures) (c .before .before .before .before .before .before .before .before .before .after2 .ensures)) (c .before .before .before .before .before .before .before .before .walk .ensures) (c .before .before .before .before .before .before .enum-told7 .given .1) (c .before .before .before .before .before .negated .ensures) (assumed _ _ _ (negated-asked _ _ (c .before .before .before .before .before .negated .ensures) (c .before .before .before .before .before .before .before .before .before .before .before .before .ask-condition .ensures)) (c .before .before .before .before .before .before .before .before .before .before .before .answer2 .ensures) (c .before .before .before .before .assume2 .ensures) (c .before .before .before .after3 .ensures)) (c .before .before .walk2 .ensures) (c .enum-told10 .given .1))
+    (λ c. else-refused (arm (turn t (c .before .before .before .before .before .before .before .before .before .before .before .before .before .before .before .before))
+    (c .before .before .before .before .before .before .before .before .before .before .before .before .before .before .statement2 .given .1)) (assumed _ _ _
+    (c .before .before .before .before .before .before .before .before .before .before .before .before .ask-condition .ensures) (c .before .before .before .before .before .before .before .before .before .before .before .answer2 .ensures)
+    (c .before .before .before .before .before .before .before .before .before .before .assume .ensures) (c .before .before .before .before .before .before .before .before .before .after2 .ensures))
+    (c .before .before .before .before .before .before .before .before .walk .ensures) (c .before .before .before .before .before .before .enum-told7 .given .1) (c .before .before .before .before .before .negated .ensures) (assumed _ _ _ (negated-asked _ _
+    (c .before .before .before .before .before .negated .ensures) (c .before .before .before .before .before .before .before .before .before .before .before .before .ask-condition .ensures))
+    (c .before .before .before .before .before .before .before .before .before .before .before .answer2 .ensures) (c .before .before .before .before .assume2 .ensures) (c .before .before .before .after3 .ensures)) (c .before .before .walk2 .ensures) (c .enum-told10 .given .1))
     (λ c κs. search needs)
-    (λ c. sides-differ (arm (turn t (c .before .before .before .before .before .before .before .before .before .before .before .before .before .before .before .before .before .before .before)) (c .before .before .before .before .before .before .before .before .before .before .before .before .before .before .before .before .before .statement2 .given .1)) (assumed _ _ _ (c .before .before .before .before .before .before .before .before .before .before .before .before .before .before .before .ask-condition .ensures) (c .before .before .before .before .before .before .before .before .before .before .before .before .before .before .answer2 .ensures) (c .before .before .before .before .before .before .before .before .before .before .before .before .before .assume .ensures) (c .before .before .before .before .before .before .before .before .before .before .before .before .after2 .ensures)) (c .before .before .before .before .before .before .before .before .before .before .before .walk .ensures) (c .before .before .before .before .before .before .before .before .before .enum-told7 .given .1) (c .before .before .before .before .before .before .before .before .negated .ensures) (assumed _ _ _ (negated-asked _ _ (c .before .before .before .before .before .before .before .before .negated .ensures) (c .before .before .before .before .before .before .before .before .before .before .before .before .before .before .before .ask-condition .ensures)) (c .before .before .before .before .before .before .before .before .before .before .before .before .before .before .answer2 .ensures) (c .before .before .before .before .before .before .before .assume2 .ensures) (c .before .before .before .before .before .before .after3 .ensures)) (c .before .before .before .before .before .walk2 .ensures) (c .before .before .before .enum-told9 .given .1) (c .before .same-rows .ensures) (not-true _ (c .if3 .taken)) refl)
+    (λ c. sides-differ (arm (turn t (c .before .before .before .before .before .before .before .before .before .before .before .before .before .before .before .before .before .before .before .before))
+    (c .before .before .before .before .before .before .before .before .before .before .before .before .before .before .before .before .before .before .statement2 .given .1)) (assumed _ _ _
+    (c .before .before .before .before .before .before .before .before .before .before .before .before .before .before .before .before .ask-condition .ensures)
+    (c .before .before .before .before .before .before .before .before .before .before .before .before .before .before .before .answer2 .ensures)
+    (c .before .before .before .before .before .before .before .before .before .before .before .before .before .before .assume .ensures) (c .before .before .before .before .before .before .before .before .before .before .before .before .before .after2 .ensures))
+    (c .before .before .before .before .before .before .before .before .before .before .before .before .walk .ensures) (c .before .before .before .before .before .before .before .before .before .before .enum-told7 .given .1)
+    (c .before .before .before .before .before .before .before .before .before .negated .ensures) (assumed _ _ _ (negated-asked _ _ (c .before .before .before .before .before .before .before .before .before .negated .ensures)
+    (c .before .before .before .before .before .before .before .before .before .before .before .before .before .before .before .before .ask-condition .ensures))
+    (c .before .before .before .before .before .before .before .before .before .before .before .before .before .before .before .answer2 .ensures) (c .before .before .before .before .before .before .before .before .assume2 .ensures)
+    (c .before .before .before .before .before .before .before .after3 .ensures)) (c .before .before .before .before .before .before .walk2 .ensures) (c .before .before .before .before .enum-told9 .given .1) (c .before .before .same-rows .ensures) (not-true _
+    (c .before .if3 .taken)) refl)
     (λ c κs. search needs) (λ c κs. search needs) (λ c κs. search needs)
-    (λ c. omega (arith, (turn t (c .before .before .before .before .before .before .before .before .before .before .before .before .before .before .before .before .before .before .before .before .before .before .before .before)) .some))
-    (λ c. turn-if (arm (turn t (c .before .before .before .before .before .before .before .before .before .before .before .before .before .before .before .before .before .before .before .before .before .before .before .before)) (c .before .before .before .before .before .before .before .before .before .before .before .before .before .before .before .before .before .before .before .before .before .before .statement2 .given .1)) (assumed _ _ _ (c .before .before .before .before .before .before .before .before .before .before .before .before .before .before .before .before .before .before .before .before .ask-condition .ensures) (c .before .before .before .before .before .before .before .before .before .before .before .before .before .before .before .before .before .before .before .answer2 .ensures) (c .before .before .before .before .before .before .before .before .before .before .before .before .before .before .before .before .before .before .assume .ensures) (c .before .before .before .before .before .before .before .before .before .before .before .before .before .before .before .before .before .after2 .ensures)) (c .before .before .before .before .before .before .before .before .before .before .before .before .before .before .before .before .walk .ensures) (c .before .before .before .before .before .before .before .before .before .before .before .before .before .before .enum-told7 .given .1) (c .before .before .before .before .before .before .before .before .before .before .before .before .before .negated .ensures) (assumed _ _ _ (negated-asked _ _ (c .before .before .before .before .before .before .before .before .before .before .before .before .before .negated .ensures) (c .before .before .before .before .before .before .before .before .before .before .before .before .before .before .before .before .before .before .before .before .ask-condition .ensures)) (c .before .before .before .before .before .before .before .before .before .before .before .before .before .before .before .before .before .before .before .answer2 .ensures) (c .before .before .before .before .before .before .before .before .before .before .before .before .assume2 .ensures) (c .before .before .before .before .before .before .before .before .before .before .before .after3 .ensures)) (c .before .before .before .before .before .before .before .before .before .before .walk2 .ensures) (c .before .before .before .before .before .before .before .before .enum-told9 .given .1) (c .before .before .before .before .before .before .same-rows .ensures) (not-false _ (c .before .before .before .before .before .if3 .left)) (c .before .before .before .before .before .before .before .before .before .before .before .before .before .before .before .before .before .before .before .before .before .before .before .before .before .before .before .before .before .before .before .before .before .before .before .pre .1 .1 .pointers) (c .before .before .before .join .ensures) (c .force-of .ensures))
     (λ c. omega (arith, (turn t (c .before .before .before .before .before .before .before .before .before .before .before .before .before .before .before .before .before .before .before .before .before .before .before)) .some))
-    (λ c. turn-if (arm (turn t (c .before .before .before .before .before .before .before .before .before .before .before .before .before .before .before .before .before .before .before .before .before .before .before)) (c .before .before .before .before .before .before .before .before .before .before .before .before .before .before .before .before .before .before .before .before .before .statement2 .given .1)) (assumed _ _ _ (c .before .before .before .before .before .before .before .before .before .before .before .before .before .before .before .before .before .before .before .ask-condition .ensures) (c .before .before .before .before .before .before .before .before .before .before .before .before .before .before .before .before .before .before .answer2 .ensures) (c .before .before .before .before .before .before .before .before .before .before .before .before .before .before .before .before .before .assume .ensures) (c .before .before .before .before .before .before .before .before .before .before .before .before .before .before .before .before .after2 .ensures)) (c .before .before .before .before .before .before .before .before .before .before .before .before .before .before .before .walk .ensures) (c .before .before .before .before .before .before .before .before .before .before .before .before .before .enum-told7 .given .1) (c .before .before .before .before .before .before .before .before .before .before .before .before .negated .ensures) (assumed _ _ _ (negated-asked _ _ (c .before .before .before .before .before .before .before .before .before .before .before .before .negated .ensures) (c .before .before .before .before .before .before .before .before .before .before .before .before .before .before .before .before .before .before .before .ask-condition .ensures)) (c .before .before .before .before .before .before .before .before .before .before .before .before .before .before .before .before .before .before .answer2 .ensures) (c .before .before .before .before .before .before .before .before .before .before .before .assume2 .ensures) (c .before .before .before .before .before .before .before .before .before .before .after3 .ensures)) (c .before .before .before .before .before .before .before .before .before .walk2 .ensures) (c .before .before .before .before .before .before .before .enum-told9 .given .1) (c .before .before .before .before .before .same-rows .ensures) (not-false _ (c .before .before .before .before .if3 .left)) (c .before .before .before .before .before .before .before .before .before .before .before .before .before .before .before .before .before .before .before .before .before .before .before .before .before .before .before .before .before .before .before .before .before .before .pre .1 .1 .pointers) (c .before .before .join .ensures) (same-force ((turn t (c .before .before .before .before .before .before .before .before .before .before .before .before .before .before .before .before .before .before .before .before .before .before .before)) .so-far .forced) (c .before .same-rows2 .ensures) (not-false _ (c .if4 .left))))
+    (λ c. turn-if (arm (turn t (c .before .before .before .before .before .before .before .before .before .before .before .before .before .before .before .before .before .before .before .before .before .before .before))
+    (c .before .before .before .before .before .before .before .before .before .before .before .before .before .before .before .before .before .before .before .before .before .statement2 .given .1)) (assumed _ _ _
+    (c .before .before .before .before .before .before .before .before .before .before .before .before .before .before .before .before .before .before .before .ask-condition .ensures)
+    (c .before .before .before .before .before .before .before .before .before .before .before .before .before .before .before .before .before .before .answer2 .ensures)
+    (c .before .before .before .before .before .before .before .before .before .before .before .before .before .before .before .before .before .assume .ensures)
+    (c .before .before .before .before .before .before .before .before .before .before .before .before .before .before .before .before .after2 .ensures))
+    (c .before .before .before .before .before .before .before .before .before .before .before .before .before .before .before .walk .ensures) (c .before .before .before .before .before .before .before .before .before .before .before .before .before .enum-told7 .given .1)
+    (c .before .before .before .before .before .before .before .before .before .before .before .before .negated .ensures) (assumed _ _ _ (negated-asked _ _ (c .before .before .before .before .before .before .before .before .before .before .before .before .negated .ensures)
+    (c .before .before .before .before .before .before .before .before .before .before .before .before .before .before .before .before .before .before .before .ask-condition .ensures))
+    (c .before .before .before .before .before .before .before .before .before .before .before .before .before .before .before .before .before .before .answer2 .ensures)
+    (c .before .before .before .before .before .before .before .before .before .before .before .assume2 .ensures) (c .before .before .before .before .before .before .before .before .before .before .after3 .ensures))
+    (c .before .before .before .before .before .before .before .before .before .walk2 .ensures) (c .before .before .before .before .before .before .before .enum-told9 .given .1) (c .before .before .before .before .before .same-rows .ensures) (not-false _
+    (c .before .before .before .before .if3 .left))
+    (c .before .before .before .before .before .before .before .before .before .before .before .before .before .before .before .before .before .before .before .before .before .before .before .before .before .before .before .before .before .before .before .before .before .before .before .pre .1 .1 .pointers) (c .before .before .before .join .ensures) (c .force-of .ensures))
+    (λ c. omega (arith, (turn t (c .before .before .before .before .before .before .before .before .before .before .before .before .before .before .before .before .before .before .before .before .before .before)) .some))
+    (λ c. turn-if (arm (turn t (c .before .before .before .before .before .before .before .before .before .before .before .before .before .before .before .before .before .before .before .before .before .before))
+    (c .before .before .before .before .before .before .before .before .before .before .before .before .before .before .before .before .before .before .before .before .statement2 .given .1)) (assumed _ _ _
+    (c .before .before .before .before .before .before .before .before .before .before .before .before .before .before .before .before .before .before .ask-condition .ensures)
+    (c .before .before .before .before .before .before .before .before .before .before .before .before .before .before .before .before .before .answer2 .ensures)
+    (c .before .before .before .before .before .before .before .before .before .before .before .before .before .before .before .before .assume .ensures)
+    (c .before .before .before .before .before .before .before .before .before .before .before .before .before .before .before .after2 .ensures)) (c .before .before .before .before .before .before .before .before .before .before .before .before .before .before .walk .ensures)
+    (c .before .before .before .before .before .before .before .before .before .before .before .before .enum-told7 .given .1) (c .before .before .before .before .before .before .before .before .before .before .before .negated .ensures) (assumed _ _ _ (negated-asked _ _
+    (c .before .before .before .before .before .before .before .before .before .before .before .negated .ensures)
+    (c .before .before .before .before .before .before .before .before .before .before .before .before .before .before .before .before .before .before .ask-condition .ensures))
+    (c .before .before .before .before .before .before .before .before .before .before .before .before .before .before .before .before .before .answer2 .ensures) (c .before .before .before .before .before .before .before .before .before .before .assume2 .ensures)
+    (c .before .before .before .before .before .before .before .before .before .after3 .ensures)) (c .before .before .before .before .before .before .before .before .walk2 .ensures) (c .before .before .before .before .before .before .enum-told9 .given .1)
+    (c .before .before .before .before .same-rows .ensures) (not-false _ (c .before .before .before .if3 .left))
+    (c .before .before .before .before .before .before .before .before .before .before .before .before .before .before .before .before .before .before .before .before .before .before .before .before .before .before .before .before .before .before .before .before .before .before .pre .1 .1 .pointers) (c .before .before .join .ensures) (same-force ((turn t (c .before .before .before .before .before .before .before .before .before .before .before .before .before .before .before .before .before .before .before .before .before .before)) .so-far .forced) (c .before .same-rows2 .ensures) (not-false _ (c .if4 .left))))
     (λ c. search needs)
     (λ c. let u = (arm (turn t (c .before .before .before)) (c .before .statement3 .given .1)) in omega (arith, placed u, while-count u))
     (λ c κs. let u = (arm (turn t (c .before .before .before)) (c .before .statement3 .given .1)) in omega (arith, placed u, while-count u))
@@ -121,24 +207,50 @@ pub +walk-spec : {M : Type 1} → statement M
     (λ c κs. search needs)
     (λ c κs. while-offset (arm (turn t (c .before .before .before .before .before .before)) (c .before .before .before .before .statement3 .given .1)))
     (λ c κs. search needs)
-    (λ c κs. (left-falls (turn t (c .before .before .before .before .before .before .before .before)) (c .before .before .before .before .before .before .before .before .before .before .before .before .before .before .before .before .before .before .before .pre .0), (c .before .before .before .before .before .before .before .before .before .before .before .before .before .before .before .before .before .before .before .pre .1 .0, c .before .before .before .before .before .before .before .before .before .before .before .before .before .before .before .before .before .before .before .pre .1 .1, (turn t (c .before .before .before .before .before .before .before .before)) .so-far .forced)))
+    (λ c κs. (
+      left-falls (turn t (c .before .before .before .before .before .before .before .before)) (c .before .before .before .before .before .before .before .before .before .before .before .before .before .before .before .before .before .before .before .before .pre .0),
+      (
+        c .before .before .before .before .before .before .before .before .before .before .before .before .before .before .before .before .before .before .before .before .pre .1 .0,
+        c .before .before .before .before .before .before .before .before .before .before .before .before .before .before .before .before .before .before .before .before .pre .1 .1,
+        (turn t (c .before .before .before .before .before .before .before .before)) .so-far .forced,
+      ),
+    ))
     (λ c. search needs) (λ c. search needs)
-    (λ c. body-refused (arm (turn t (c .before .before .before .before .before .before .before .before .before .before .before)) (c .before .before .before .before .before .before .before .before .before .statement3 .given .1)) (c .before .before .before .before .before .before .before .lose .ensures) (assumed _ _ _ (c .before .before .before .before .before .before .ask-condition2 .ensures) (c .before .before .before .before .before .answer3 .ensures) (c .before .before .before .before .assume3 .ensures) (c .before .before .before .after4 .ensures)) (c .before .before .walk3 .ensures) (c .enum-told12 .given .1))
+    (λ c. body-refused (arm (turn t (c .before .before .before .before .before .before .before .before .before .before .before)) (c .before .before .before .before .before .before .before .before .before .statement3 .given .1))
+    (c .before .before .before .before .before .before .before .lose .ensures) (assumed _ _ _ (c .before .before .before .before .before .before .ask-condition2 .ensures) (c .before .before .before .before .before .answer3 .ensures)
+    (c .before .before .before .before .assume3 .ensures) (c .before .before .before .after4 .ensures)) (c .before .before .walk3 .ensures) (c .enum-told12 .given .1))
     (λ c κs. search needs)
-    (λ c. ends-differ (arm (turn t (c .before .before .before .before .before .before .before .before .before .before .before .before .before)) (c .before .before .before .before .before .before .before .before .before .before .before .statement3 .given .1)) (c .before .before .before .before .before .before .before .before .before .lose .ensures) (assumed _ _ _ (c .before .before .before .before .before .before .before .before .ask-condition2 .ensures) (c .before .before .before .before .before .before .before .answer3 .ensures) (c .before .before .before .before .before .before .assume3 .ensures) (c .before .before .before .before .before .after4 .ensures)) (c .before .before .before .before .walk3 .ensures) (c .before .before .enum-told11 .given .1) (c .before .same-rows3 .ensures) (not-true _ (c .if5 .taken)) refl)
+    (λ c. ends-differ (arm (turn t (c .before .before .before .before .before .before .before .before .before .before .before .before .before .before)) (c .before .before .before .before .before .before .before .before .before .before .before .before .statement3 .given .1))
+    (c .before .before .before .before .before .before .before .before .before .before .lose .ensures) (assumed _ _ _ (c .before .before .before .before .before .before .before .before .before .ask-condition2 .ensures)
+    (c .before .before .before .before .before .before .before .before .answer3 .ensures) (c .before .before .before .before .before .before .before .assume3 .ensures) (c .before .before .before .before .before .before .after4 .ensures))
+    (c .before .before .before .before .before .walk3 .ensures) (c .before .before .before .enum-told11 .given .1) (c .before .before .same-rows3 .ensures) (not-true _ (c .before .if5 .taken)) refl)
     (λ c κs. search needs)
-    (λ c κs. negated-offset _ _ (c .negated2 .ensures) (while-offset (arm (turn t (c .before .before .before .before .before .before .before .before .before .before .before .before .before .before)) (c .before .before .before .before .before .before .before .before .before .before .before .before .statement3 .given .1))))
+    (λ c κs. negated-offset _ _ (c .negated2 .ensures) (while-offset (arm (turn t (c .before .before .before .before .before .before .before .before .before .before .before .before .before .before))
+    (c .before .before .before .before .before .before .before .before .before .before .before .before .statement3 .given .1))))
     (λ c κs. search needs)
     (λ c. omega (arith, (turn t (c .before .before .before .before .before .before .before .before .before .before .before .before .before .before .before .before)) .some))
-    (λ c. turn-while (arm (turn t (c .before .before .before .before .before .before .before .before .before .before .before .before .before .before .before .before)) (c .before .before .before .before .before .before .before .before .before .before .before .before .before .before .statement3 .given .1)) (c .before .before .before .before .before .before .before .before .before .before .before .before .lose .ensures) (assumed _ _ _ (c .before .before .before .before .before .before .before .before .before .before .before .ask-condition2 .ensures) (c .before .before .before .before .before .before .before .before .before .before .answer3 .ensures) (c .before .before .before .before .before .before .before .before .before .assume3 .ensures) (c .before .before .before .before .before .before .before .before .after4 .ensures)) (c .before .before .before .before .before .before .before .walk3 .ensures) (c .before .before .before .before .before .enum-told11 .given .1) (c .before .before .before .before .same-rows3 .ensures) (not-false _ (c .before .before .before .if5 .left)) (c .before .before .negated2 .ensures) (assumed _ _ _ (negated-asked _ _ (c .before .before .negated2 .ensures) (c .before .before .before .before .before .before .before .before .before .before .before .ask-condition2 .ensures)) (c .before .before .before .before .before .before .before .before .before .before .answer3 .ensures) (c .before .assume4 .ensures) (c .after5 .ensures)))
+    (λ c. turn-while (arm (turn t (c .before .before .before .before .before .before .before .before .before .before .before .before .before .before .before .before))
+    (c .before .before .before .before .before .before .before .before .before .before .before .before .before .before .statement3 .given .1)) (c .before .before .before .before .before .before .before .before .before .before .before .before .lose .ensures) (assumed _ _ _
+    (c .before .before .before .before .before .before .before .before .before .before .before .ask-condition2 .ensures) (c .before .before .before .before .before .before .before .before .before .before .answer3 .ensures)
+    (c .before .before .before .before .before .before .before .before .before .assume3 .ensures) (c .before .before .before .before .before .before .before .before .after4 .ensures)) (c .before .before .before .before .before .before .before .walk3 .ensures)
+    (c .before .before .before .before .before .enum-told11 .given .1) (c .before .before .before .before .same-rows3 .ensures) (not-false _ (c .before .before .before .if5 .left)) (c .before .before .negated2 .ensures) (assumed _ _ _ (negated-asked _ _
+    (c .before .before .negated2 .ensures) (c .before .before .before .before .before .before .before .before .before .before .before .ask-condition2 .ensures)) (c .before .before .before .before .before .before .before .before .before .before .answer3 .ensures)
+    (c .before .assume4 .ensures) (c .after5 .ensures)))
     (λ c. search needs)
     (λ c. let u = (arm (turn t (c .before .before .before)) (c .before .statement4 .given .1)) in omega (arith, placed u, bundle-count u))
-    (λ c κs. (c .before .before .before .before .before .before .before .before .before .before .before .before .before .before .pre .1 .0, omega (arith, placed (turn t (c .before .before .before))), c .before .before .before .before .before .before .before .before .before .before .before .before .before .before .pre .1 .1, (turn t (c .before .before .before)) .so-far .forced))
+    (λ c κs. (
+      c .before .before .before .before .before .before .before .before .before .before .before .before .before .before .before .pre .1 .0,
+      omega (arith, placed (turn t (c .before .before .before))),
+      c .before .before .before .before .before .before .before .before .before .before .before .before .before .before .before .pre .1 .1,
+      (turn t (c .before .before .before)) .so-far .forced,
+    ))
     (λ c. search needs) (λ c. search needs)
     (λ c. bundle-refused (arm (turn t (c .before .before .before .before .before .before)) (c .before .before .before .before .statement4 .given .1)) (c .before .before .walk-bundle .ensures) (c .enum-told14 .given .1))
     (λ c κs. search needs) (λ c κs. search needs)
-    (λ c. omega (arith, (turn t (c .before .before .before .before .before .before .before .before .before .before .before)) .some))
-    (λ c. turn-bundle (arm (turn t (c .before .before .before .before .before .before .before .before .before .before .before)) (c .before .before .before .before .before .before .before .before .before .statement4 .given .1)) (c .before .before .before .before .before .before .before .walk-bundle .ensures) (c .before .before .before .before .before .enum-told13 .given .1) (c .force-of2 .ensures))
     (λ c. omega (arith, (turn t (c .before .before .before .before .before .before .before .before .before .before)) .some))
-    (λ c. turn-bundle (arm (turn t (c .before .before .before .before .before .before .before .before .before .before)) (c .before .before .before .before .before .before .before .before .statement4 .given .1)) (c .before .before .before .before .before .before .walk-bundle .ensures) (c .before .before .before .before .enum-told13 .given .1) (same-force ((turn t (c .before .before .before .before .before .before .before .before .before .before)) .so-far .forced) (c .before .same-rows4 .ensures) (not-false _ (c .if6 .left))))
-    (λ c. ⊎-elim (λ w. kept-done (c .before .before .loop .inv) (w .left) refl refl refl) (λ w. kept-end (c .before .before .loop .inv) (w .1 .taken) refl refl refl) (c .before .loop-test .came))
+    (λ c. turn-bundle (arm (turn t (c .before .before .before .before .before .before .before .before .before .before)) (c .before .before .before .before .before .before .before .before .statement4 .given .1))
+    (c .before .before .before .before .before .before .walk-bundle .ensures) (c .before .before .before .before .enum-told13 .given .1) (c .force-of2 .ensures))
+    (λ c. omega (arith, (turn t (c .before .before .before .before .before .before .before .before .before)) .some))
+    (λ c. turn-bundle (arm (turn t (c .before .before .before .before .before .before .before .before .before)) (c .before .before .before .before .before .before .before .statement4 .given .1)) (c .before .before .before .before .before .walk-bundle .ensures)
+    (c .before .before .before .enum-told13 .given .1) (same-force ((turn t (c .before .before .before .before .before .before .before .before .before)) .so-far .forced) (c .before .same-rows4 .ensures) (not-false _ (c .if6 .left))))
+    (λ c. ⊎-elim (λ w. kept-done (c .before .before .before .loop .inv) (w .left) refl refl refl) (λ w. kept-end (c .before .before .before .loop .inv) (w .1 .taken) refl refl refl) (c .before .before .loop-test .came))
