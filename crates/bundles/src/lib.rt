@@ -18,7 +18,6 @@ use reader::read_due;
 use refusals::Refusal;
 use rules::Effect;
 use rules::Verdict;
-use rules::read_environment;
 use sections::Sections;
 use shown::answer;
 use statements::Statement;
@@ -88,8 +87,7 @@ pub fn walk_bundle(
         let declares = declares_of(simple);
         match declares {
             Declares::Row { pointer, row } => {
-                let environment = read_environment(table, sections);
-                let verdict = check_row(environment, facts, known, pointer, row, at);
+                let verdict = check_row(table, sections, facts, known, pointer, row, at);
                 let Verdict::Accepted = verdict else {
                     return Walked {
                         verdict,
@@ -98,7 +96,7 @@ pub fn walk_bundle(
                     };
                 };
                 rows = with_row(rows, pointer, row);
-                seen = seen_in(environment, rows);
+                seen = seen_in(table, sections, rows);
                 let each = known.each;
                 known = bounds_after(Effect::Keep, KnownBounds { each });
                 at = next;

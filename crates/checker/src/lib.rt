@@ -7,7 +7,6 @@ use facts::FactSet;
 use force::frame_of;
 use force::own_force;
 use rules::Verdict;
-use rules::read_environment;
 use sections::Sections;
 use table::Form;
 use table::read_form;
@@ -27,12 +26,11 @@ fn check_sections(table: &[i32], sections: Sections) -> Verdict
         Layout::Refused(refusal) => Verdict::Refused(refusal),
         Layout::LaidOut => {
             let statements = sections.statements;
-            let environment = read_environment(table, sections);
             let walked = walk::walk(
                 table,
                 sections,
-                frame_of(environment),
-                own_force(environment),
+                frame_of(table, sections),
+                own_force(table, sections),
                 0,
                 statements,
                 statements,

@@ -6,11 +6,11 @@ use ends::bounds_shown;
 use ends::same_bounds;
 use facts::FactSet;
 use lookups::bounds_at;
-use lookups::row_bound;
 use refusals::Refusal;
 use rules::Effect;
-use rules::Environment;
 use rules::Verdict;
+use rules::read_bound;
+use sections::Sections;
 use statements::Simple;
 use touched::Seen;
 use transfer::effect_on;
@@ -22,7 +22,7 @@ ghost use Rattle.rules.specs.Stored.{unshown, rowUnshown, accessShown, boundsAf
 ghost use Rattle.refusals.specs.declared.Refusal.the-variants.{BoundsNotShown};
 ghost use Rattle.rules.specs.declared.Verdict.the-variants.{Refused};
 ghost use Rattle.rules.specs.Rules.{boundsAt};
-ghost use Rattle.rules.specs.Verdict.{verdictOf};
+ghost use Rattle.rules.specs.Verdict.{environmentOf, verdictOf};
 ghost use Rattle.rules.specs.Ranges.{Short};
 ghost use Rattle.touched.specs.Touched.{seenAs};
 ghost use Rattle.declared.specs.Shown.{accessOf, declaresOf};
@@ -129,7 +129,8 @@ pub fn declares_of(simple: Simple) -> Declares
 
 // The row of a kind 14 must be shown by what is known before it.
 pub fn check_row(
-    environment: Environment,
+    table: &[i32],
+    sections: Sections,
     facts: FactSet,
     known: KnownBounds,
     pointer: usize,
@@ -137,11 +138,11 @@ pub fn check_row(
     at: usize,
 ) -> Verdict
     requires { ⌜ row < 2 ^ 40 ⌝ }
-    ensures { λ r. ⌜ r ≡ verdictOf (boundsAt at (rowUnshown environment facts (known .each) (Declare pointer row))) ⌝ }
+    ensures { λ r. ⌜ r ≡ verdictOf (boundsAt at (rowUnshown (environmentOf (now (table .entry)) sections) facts (known .each) (Declare pointer row))) ⌝ }
 {
     let each = known.each;
     let own = bounds_at(each, pointer);
-    let bound = row_bound(environment, row + 1, pointer);
+    let bound = read_bound(table, sections, row + 1, pointer);
     if bounds_shown(facts, pointer, own, bound) {
         return Verdict::Accepted;
     }

@@ -5,11 +5,14 @@ use declared::check_known;
 use declared::check_row;
 use facts::FactSet;
 use lookups::Rows;
-use lookups::in_force;
+use rules::Bounds;
 use rules::Effect;
-use rules::Environment;
+use rules::KnownEnd;
 use rules::Verdict;
-use rules::read_environment;
+use rules::read_bound;
+use rules::read_pointers;
+use rules::read_sizes;
+use rules::read_spans;
 use sections::Sections;
 use touched::Named;
 use touched::Seen;
@@ -52,34 +55,40 @@ pub fn same_rows(a: Rows, b: Rows) -> bool
     true
 }
 
-pub fn frame_of(environment: Environment) -> Frame
-    ensures { λ r. ⌜ Framed environment r ⌝ }
+pub fn frame_of(table: &[i32], sections: Sections) -> Frame
+    ensures { λ r. ⌜ Framed (environmentOf (now (table .entry)) sections) r ⌝ }
 {
-    let pointers = environment.pointers;
-    let sizes = environment.sizes;
-    let spans = environment.spans;
     Frame {
-        pointers,
-        sizes,
-        spans,
+        pointers: read_pointers(table, sections),
+        sizes: read_sizes(table, sections),
+        spans: read_spans(table, sections),
     }
 }
 
-// What is seen where the rows are in force.
-pub fn seen_in(environment: Environment, rows: Rows) -> Seen
-    ensures { λ r. ⌜ r ≡ seenOf (inForce environment (rows .each)) ⌝ }
+// What is seen where the rows are in force. What the table declares is read anew: rows change rarely, and all 64 rows are large to pass.
+pub fn seen_in(table: &[i32], sections: Sections, rows: Rows) -> Seen
+    ensures { λ r. ⌜ r ≡ seenOf (inForce (environmentOf (now (table .entry)) sections) (rows .each)) ⌝ }
 {
-    let inside = in_force(environment, rows);
-    let pointers = inside.pointers;
-    let declared = inside.declared;
-    Seen { pointers, declared }
+    let unknown = Bounds {
+        size: 1,
+        lower: KnownEnd::Unknown,
+        upper: KnownEnd::Unknown,
+    };
+    let mut declared = [unknown; 16];
+    for p in 0..16 {
+        declared[p] = read_bound(table, sections, rows.each[p], p);
+    }
+    Seen {
+        pointers: read_pointers(table, sections),
+        declared,
+    }
 }
 
 // What the rows put in force.
-fn force_in(environment: Environment, rows: Rows) -> Force
-    ensures { λ r. ⌜ Forced environment (rows .each) r ⌝ }
+pub fn force_of(table: &[i32], sections: Sections, rows: Rows) -> Force
+    ensures { λ r. ⌜ Forced (environmentOf (now (table .entry)) sections) (rows .each) r ⌝ }
 {
-    let seen = seen_in(environment, rows);
+    let seen = seen_in(table, sections, rows);
     Force {
         rows,
         seen,
@@ -88,24 +97,10 @@ fn force_in(environment: Environment, rows: Rows) -> Force
 }
 
 // At entry each pointer's own bound is in force, as the table declares it.
-pub fn own_force(environment: Environment) -> Force
-    ensures { λ r. ⌜ Forced environment ownRows r ⌝ }
+pub fn own_force(table: &[i32], sections: Sections) -> Force
+    ensures { λ r. ⌜ Forced (environmentOf (now (table .entry)) sections) ownRows r ⌝ }
 {
-    let pointers = environment.pointers;
-    let declared = environment.declared;
-    let seen = Seen { pointers, declared };
-    Force {
-        rows: Rows { each: [0; 16] },
-        seen,
-        named: named_in(seen),
-    }
-}
-
-// What other rows put in force. What the table declares is read anew: rows change rarely, and 64 rows are large to pass.
-pub fn force_of(table: &[i32], sections: Sections, rows: Rows) -> Force
-    ensures { λ r. ⌜ Forced (environmentOf (now (table .entry)) sections) (rows .each) r ⌝ }
-{
-    force_in(read_environment(table, sections), rows)
+    force_of(table, sections, Rows { each: [0; 16] })
 }
 
 // The row of a kind 14 comes into force.
@@ -139,8 +134,7 @@ pub fn declare_row(
     let seen = force.seen;
     let declared = seen.declared;
     let known = KnownBounds { each: declared };
-    let environment = read_environment(table, sections);
-    let own = check_row(environment, facts, known, pointer, row, at);
+    let own = check_row(table, sections, facts, known, pointer, row, at);
     let Verdict::Accepted = own else {
         return Declared {
             verdict: own,
@@ -148,7 +142,7 @@ pub fn declare_row(
         };
     };
     let rows = with_row(force.rows, pointer, row);
-    let after = force_in(environment, rows);
+    let after = force_of(table, sections, rows);
     let verdict = check_known(after.seen, facts, bounds_after(Effect::Keep, known), at);
     Declared {
         verdict,

@@ -7,6 +7,7 @@ pub mod FactSets
 pub mod States
 pub mod Stored
 pub mod FactRules
+pub mod BoundLaws
 pub mod BoundsRules
 pub mod Rules
 pub mod Verdict

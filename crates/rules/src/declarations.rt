@@ -15,7 +15,7 @@ ghost use Rattle.rules.specs.BoundsRules.{upperLimit};
 ghost use Rattle.rules.specs.Verdict.{boundsOf, variableSize, rowBounds, environmentOf};
 
 // The declared bounds of a variable; an integer has none.
-fn bounds_of(read: VariableRead) -> Bounds
+pub(crate) fn bounds_of(read: VariableRead) -> Bounds
     ensures { λ r. ⌜ r ≡ boundsOf read ⌝ }
 {
     let unknown = Bounds {
@@ -37,7 +37,7 @@ fn bounds_of(read: VariableRead) -> Bounds
 }
 
 // The bounds of a row.
-fn row_bounds(read: RowRead) -> Bounds
+pub(crate) fn row_bounds(read: RowRead) -> Bounds
     ensures { λ r. ⌜ r ≡ rowBounds read ⌝ }
 {
     let RowRead::Read { lower, upper } = read else {
@@ -55,7 +55,7 @@ fn row_bounds(read: RowRead) -> Bounds
 }
 
 // The element size of a variable; 1 for an integer.
-fn variable_size(read: VariableRead) -> u64
+pub(crate) fn variable_size(read: VariableRead) -> u64
     ensures { λ r. ⌜ r ≡ variableSize read ⌝ }
 {
     let VariableRead::Read(variable) = read else {
@@ -71,7 +71,7 @@ fn variable_size(read: VariableRead) -> u64
     }
 }
 
-fn read_sizes(table: &[i32], sections: Sections) -> [u64; 16]
+pub fn read_sizes(table: &[i32], sections: Sections) -> [u64; 16]
     ensures { λ r. ⌜ r ≡ tabulate 16 (λ v. variableSize (variableAt (now (table .entry)) sections v)) ⌝ }
 {
     let mut sizes = [1; 16];
@@ -81,7 +81,7 @@ fn read_sizes(table: &[i32], sections: Sections) -> [u64; 16]
     sizes
 }
 
-fn read_pointers(table: &[i32], sections: Sections) -> [bool; 17]
+pub fn read_pointers(table: &[i32], sections: Sections) -> [bool; 17]
     ensures { λ r. ⌜ r ≡ tabulate 17 (pointerAt (now (table .entry)) sections) ⌝ }
 {
     let mut pointers = [false; 17];
@@ -146,7 +146,7 @@ pub fn upper_limit(terminated: bool, high: u64) -> u64
     high
 }
 
-fn read_spans(table: &[i32], sections: Sections) -> [u64; 16]
+pub fn read_spans(table: &[i32], sections: Sections) -> [u64; 16]
     ensures { λ r. ⌜ r ≡ tabulate 16 (λ o. upperLimit (objectTerminated (now (table .entry)) sections o) (objectAt (now (table .entry)) sections o)) ⌝ }
 {
     let mut spans = [0; 16];

@@ -1,7 +1,12 @@
 // The rules: the bounds in force, what a statement does to them and to the facts, and the verdict (specs); and what a table declares.
+mod bound; // bound.rt: one bound that is in force
 mod declarations; // declarations.rt: what a table declares
 
+pub use bound::read_bound;
 pub use declarations::read_environment;
+pub use declarations::read_pointers;
+pub use declarations::read_sizes;
+pub use declarations::read_spans;
 pub use declarations::upper_limit;
 use variables::End;
 

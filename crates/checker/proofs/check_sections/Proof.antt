@@ -9,7 +9,7 @@ pub check-sections-spec : {M : Type 1} → statement M
 check-sections-spec =
     tie.close
     (tie.spec
-    (λ c κs. search needs) (λ c. search needs) (λ c. search needs) (λ c κs. search needs) (λ c κs. search needs) (λ c κs. search needs) (λ c κs. search needs)
-    (λ c κs. (measured _ _ (c .before .before .before .before .before .before .before .pre), rw (c .before .before .before .read-environment .ensures) at (c .before .before .frame-of .ensures), forced-own (rw (c .before .before .before .read-environment .ensures) at (c .before .own-force .ensures))))
+    (λ c κs. search needs) (λ c. search needs) (λ c. search needs) (λ c κs. search needs) (λ c κs. search needs) (λ c κs. search needs)
+    (λ c κs. (measured _ _ (c .before .before .before .before .before .before .pre), c .before .before .frame-of .ensures, forced-own (c .before .own-force .ensures)))
     (λ c. section-refused _ _ (c .before .before .before .read-layout .ensures) (c .before .layout .given .1))
-    (λ c. section-walked _ _ (c .before .before .before .before .before .before .before .read-layout .ensures) (c .before .before .before .before .before .enum-told .given .1) (rw (c .before .before .before .before .read-environment .ensures) at (c .before .before .own-force .ensures)) (c .before .new .ensures) (c .walk .ensures)))
+    (λ c. section-walked _ _ (c .before .before .before .before .before .before .read-layout .ensures) (c .before .before .before .before .enum-told .given .1) (c .before .before .own-force .ensures) (c .before .new .ensures) (c .walk .ensures)))
