@@ -17,7 +17,8 @@
    - mizzengrape_try_check and mizzengrape_try_run, below, ask for less: they look at null, alignment and overlap first, and answer what is wrong
      without calling. What no program can see is left to the caller: that a pointer has that many elements behind it, and that no other thread writes them.
 
-   Stack. A call takes at most 240 KiB of the calling thread's stack, at the deepest nesting (`compare stack` measures it).
+   Stack. A thread with a stack of MIZZENGRAPE_STACK_BYTES, 128 KiB, has room for either call at the deepest nesting, with 8 KiB left for its caller
+   (examples/c/stack.c runs both on exactly that stack; `compare stack` measures the least).
 
    Memory. What a run is lent:
    - cells: the memory, at most 16,777,216 cells of 32 bits. Address a is cells[a]. Cell 0 is in no object, so address 0 is null.
@@ -53,6 +54,9 @@
 #define MIZZENGRAPE_VERSION_MINOR 1
 #define MIZZENGRAPE_VERSION_PATCH 0
 #define MIZZENGRAPE_VERSION "0.1.0"
+
+/* The stack of a thread that is enough for either call. */
+#define MIZZENGRAPE_STACK_BYTES 131072
 
 #ifdef __cplusplus
 extern "C" {

@@ -20,6 +20,9 @@ for prefix in "$folder/mizzengrape-$version" "$folder/installed"; do
     # shellcheck disable=SC2046
     cc -std=c11 -Wall -Wextra -Werror -pedantic "$documents/examples/main.c" $(pkg-config --cflags --libs mizzengrape) -o "$folder/example"
     "$folder/example" | diff "$repository/examples/c/expected.txt" -
+    # shellcheck disable=SC2046
+    cc -std=c11 -Wall -Wextra -Werror -pedantic -pthread "$documents/examples/stack.c" $(pkg-config --cflags --libs mizzengrape) -o "$folder/stack"
+    "$folder/stack" > /dev/null
     cd "$documents/routines"
     test "$("$prefix/bin/mizzengrape" check --short first_club.c)" = accepted
     status=0

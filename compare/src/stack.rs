@@ -79,7 +79,17 @@ pub fn least() -> Option<usize> {
 #[cfg(test)]
 mod tests {
     use super::*;
+    use mizzengrape::STACK_BYTES;
     use oracle::machine;
+
+    /// Exactly the stack that the header and the wrapper state. (Where it is too small, the process ends.)
+    #[test]
+    fn the_stated_stack_is_enough() {
+        let header = include_str!("../../include/mizzengrape.h");
+        assert!(header.contains(&format!("#define MIZZENGRAPE_STACK_BYTES {STACK_BYTES}\n")));
+        assert_eq!(STACK_BYTES % KIB, 0);
+        probe(STACK_BYTES / KIB);
+    }
 
     #[test]
     fn the_deepest_tables_run_to_their_end() {

@@ -4,6 +4,9 @@ mod extern_c;
 
 use std::fmt;
 
+/// The stack of a thread that is enough for either call, at the deepest nesting.
+pub const STACK_BYTES: usize = 131_072;
+
 /// Why a routine, or a run of it, is refused.
 #[derive(Clone, Copy, Debug, PartialEq, Eq)]
 pub struct Refusal {

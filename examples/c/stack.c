@@ -1,0 +1,85 @@
+/* Both calls, for the deepest tables, on a thread whose stack has exactly MIZZENGRAPE_STACK_BYTES and a page below it that ends the program. */
+#define _DEFAULT_SOURCE
+#include <pthread.h>
+#include <stdio.h>
+#include <string.h>
+#include <sys/mman.h>
+#include <unistd.h>
+
+#include "mizzengrape.h"
+
+enum { DEPTH = 6, WORDS = 256 };
+
+static int32_t table[WORDS];
+static size_t table_len;
+
+static void put(const int32_t *words, size_t count)
+{
+    memcpy(table + table_len, words, count * sizeof *words);
+    table_len += count;
+}
+
+static void statement(int32_t kind, int32_t a, int32_t b, int32_t c, int32_t d, int32_t e, int32_t f)
+{
+    const int32_t words[] = {kind, a, b, c, d, e, f};
+    put(words, 7);
+}
+
+/* row (count(rows)) and rows; ifs within ifs to the greatest depth, and there a bundle that steps both: without bounds rows, and with one that the bundle
+   puts in force on both sides of each if. */
+static void deepest(int with_row)
+{
+    const int32_t inner = with_row ? 5 : 4, other = with_row ? 2 : 0, statements = DEPTH * (1 + other) + inner;
+    const int32_t first = with_row ? 8 : 6;
+    const int32_t pairs[] = {first, 1, first + 1, 16, first + 17, 7 * statements, first + 17 + 7 * statements, 6};
+    const int32_t declared[] = {3, 1, 0, 0, -1, 0, 0, 1, 0, 0, 0, 0, 0, 0, 0, 0, 0};
+    const int32_t row[] = {0, -1, 0, 0, 1, 0};
+    table_len = 0;
+    put(pairs, (size_t)first);
+    put(declared, 17);
+    for (int32_t depth = DEPTH - 1; depth >= 0; depth--)
+        statement(11, 1, 2, 1, 0, inner + depth * (1 + other), other); /* if (rows > 0) */
+    statement(10, 1, 2, 1, 0, 0, 0);                                   /* dynamic_check(rows > 0) */
+    statement(13, with_row ? 3 : 2, 0, 0, 0, 0, 0);                    /* bundled */
+    statement(6, 0, 0, 1, 0, 0, 0);                                    /*   row = row + 1 */
+    statement(2, 1, 1, -1, 0, 0, 0);                                   /*   rows = rows - 1 */
+    if (with_row) {
+        statement(14, 0, 0, 0, 0, 0, 0); /*   where row : count(rows) */
+        for (int32_t depth = 0; depth < DEPTH; depth++) {
+            statement(13, 1, 0, 0, 0, 0, 0); /* else bundled */
+            statement(14, 0, 0, 0, 0, 0, 0);
+        }
+        put(row, 6);
+    }
+}
+
+static void *calls(void *wrong)
+{
+    static const uint32_t directory[] = {1, 3}, origins[] = {1, 0};
+    for (int with_row = 0; with_row < 2; with_row++) {
+        uint32_t cells[4] = {0}, values[] = {1, 3}, checked[3], ran[4];
+        deepest(with_row);
+        if (mizzengrape_try_check(table, table_len, checked, 3) != MIZZENGRAPE_ANSWERED || checked[0] != 0)
+            *(int *)wrong = 1;
+        if (mizzengrape_try_run(table, table_len, directory, 2, cells, 4, values, 2, origins, 2, 100, ran, 4) != MIZZENGRAPE_ANSWERED || ran[0] != 0)
+            *(int *)wrong = 1;
+    }
+    return NULL;
+}
+
+int main(void)
+{
+    const size_t page = (size_t)sysconf(_SC_PAGESIZE);
+    char *memory = mmap(NULL, page + MIZZENGRAPE_STACK_BYTES, PROT_READ | PROT_WRITE, MAP_PRIVATE | MAP_ANONYMOUS, -1, 0);
+    pthread_attr_t attributes;
+    pthread_t thread;
+    int wrong = 0;
+    if (memory == MAP_FAILED || mprotect(memory, page, PROT_NONE) != 0 || pthread_attr_init(&attributes) != 0
+        || pthread_attr_setstack(&attributes, memory + page, MIZZENGRAPE_STACK_BYTES) != 0
+        || pthread_create(&thread, &attributes, calls, &wrong) != 0 || pthread_join(thread, NULL) != 0) {
+        fprintf(stderr, "no thread with a stack of %d bytes\n", MIZZENGRAPE_STACK_BYTES);
+        return 2;
+    }
+    printf("the deepest tables on a stack of %d bytes: %s\n", MIZZENGRAPE_STACK_BYTES, wrong ? "wrong answers" : "accepted and done");
+    return wrong;
+}
