@@ -72,7 +72,8 @@ module _ {A : Type 0} where
       sym (take-all i l (omega (arith, p .long))) ∙ p .front ∙ ap (λ (m : ℕ). tabulate m f) q
 
 -- The last element alone, after a loop that stopped before it.
-pub filled-last : {A : Type 0} {l old : List A} {n i : ℕ} {f : ℕ → A} {a : A} (m : ℕ) → Filled l old n f i → i ≡ m → m + 1 ≡ n → a ≡ f m → set l m a ≡ tabulate n f
+pub filled-last : {A : Type 0} {l old : List A} {n i : ℕ} {f : ℕ → A} {a : A} (m : ℕ) → Filled l old n f i → i ≡ m → m + 1 ≡ n → a ≡ f m
+    → set l m a ≡ tabulate n f
 filled-last {l} {old} {n} {i} {f} {a} m p e d q =
     let r : Filled l old n f m = rw e at p in
     filled-whole (filled-more r (omega arith) q) (omega arith)

@@ -32,7 +32,8 @@ unfoldable pub when : Bool → Refusal → List Refusal
 when true r = r ∷ []
 when false r = []
 
--- "A bundle holds kinds 1 to 10 only", and 14 (point 2): another kind among its n statements from x on is refused at its head a. A record that does not read is cause 5.
+-- "A bundle holds kinds 1 to 10 only", and 14 (point 2): another kind among its n statements from x on is refused at its head a. A record that does not read is
+-- cause 5.
 abbrev pub contentsFrom : StatementRead → ℕ → ℕ → List Refusal → List Refusal
 contentsFrom Unread a x rest = StatementRecord x ∷ []
 contentsFrom (Read (Plain s)) a x rest = rest

@@ -39,7 +39,8 @@ module _ (T : List ℤ) (h : Sections) (d a b : ℕ) (within : a < b) where
     part-deep p = record { leads = λ l some. refuse _ _ _ (lt-ltb _ _ p) ∙ ap verdict (sym (block-some l T h d a b _ some within e)) }
 
   module _ (shallow : d ≤ maxDepth) where
-    kind : (s : Statement) (l : ℕ) → 0 < l → statementAt T h a ≡ Read s → blockLayout l T h d a b ≡ kindLayout s (λ e x y. blockLayout (l - 1) T h e x y) T h d a b
+    kind : (s : Statement) (l : ℕ) → 0 < l → statementAt T h a ≡ Read s
+        → blockLayout l T h d a b ≡ kindLayout s (λ e x y. blockLayout (l - 1) T h e x y) T h d a b
     kind s l some e = block-some l T h d a b _ some within e ∙ skip _ _ _ (le-ltb _ _ shallow)
 
     pub part-plain : {p : Simple} → statementAt T h a ≡ Read (Plain p) → Parted T h d a b (Next (a + 1))
@@ -56,8 +57,11 @@ module _ (T : List ℤ) (h : Sections) (d a b : ℕ) (within : a < b) where
     while-leads : {c : Condition} {n : ℕ} (t : Bool) → ltb b (a + 1 + n) ≡ t → statementAt T h a ≡ Read (While c n) → (l : ℕ) → 0 < l
         → Leads (cond t (Refused (BlockLayout a)) (Blocks (a + 1 + n) (a + 1 + n))) T h d a b l
     while-leads true z e l some = refuse _ _ _ z ∙ ap verdict (sym (kind _ l some e))
-    while-leads {c} {n} false z e l some =
-        (shallow, (kind _ l some e ∙ skip _ _ _ z) ∙ rw (pass _ (blockLayout (l - 1) T h d (a + 1 + n) b) (block-end (l - 1) T h (d + 1) (a + 1 + n) (a + 1 + n) (omega arith))))
+    while-leads {c} {n} false z e l some = (
+      shallow,
+      (kind _ l some e ∙ skip _ _ _ z)
+          ∙ rw (pass _ (blockLayout (l - 1) T h d (a + 1 + n) b) (block-end (l - 1) T h (d + 1) (a + 1 + n) (a + 1 + n) (omega arith))),
+    )
 
     pub part-while : {c : Condition} {n : ℕ} → statementAt T h a ≡ Read (While c n) → Parted T h d a b (blocksOf a n 0 b)
     part-while {c} {n} e = let z : a + 1 + n + 0 ≡ a + 1 + n = omega arith in rw z (record { leads = while-leads _ refl e })

@@ -15,7 +15,8 @@ use Rattle.arrays.specs.TabulateLaws.{length-tabulate, getD-tabulate, Filled, f
 use Rattle.facts.specs.declared.FactSet.{FactSet}
 use Rattle.sections.specs.SectionsLaws.{both}
 use Rattle.statements.specs.declared.Simple.{Simple}
-use Rattle.statements.specs.declared.Simple.the-variants.{Literal, AddConstant, Arithmetic, Null, Address, PointerOffset, PointerIndex, Load, Store, Check, Declare}
+use Rattle.statements.specs.declared.Simple.the-variants.{Literal, AddConstant, Arithmetic, Null, Address}
+use Rattle.statements.specs.declared.Simple.the-variants.{PointerOffset, PointerIndex, Load, Store, Check, Declare}
 use Rattle.rules.specs.BoundsRules.{nothingKnown, known, names, forgetEnd, forgetBounds, objectBounds, weight}
 use Rattle.rules.specs.Stored.{effect, shiftConstant, shiftEnd, shiftBounds, effectOn, boundsAfter}
 use Rattle.rules.specs.Ranges.{InRange, Measured, Short}
@@ -38,7 +39,8 @@ use Rattle.rules.specs.BoundsRules as boundsRules
 pub all-kept : (e : Effect) (K : List Bounds) {b : Bool} → length K ≡ 16 → b ≡ keepsAll e → b ≡ true → K ≡ boundsAfter e K
 unfolding boundsRules.boundsAfter boundsRules.effectOn
 all-kept Keep K l s t =
-    ext-getD nothingKnown K (tabulate 16 (known K)) (l ∙ sym (length-tabulate 16 (known K))) (λ i h. sym (getD-tabulate 16 (known K) i nothingKnown (omega arith)))
+    ext-getD nothingKnown K (tabulate 16 (known K)) (l ∙ sym (length-tabulate 16 (known K)))
+    (λ i h. sym (getD-tabulate 16 (known K) i nothingKnown (omega arith)))
 all-kept (Forget v) K l s t = absurd (false≢true (sym s ∙ t))
 all-kept (Shift v k) K l s t = absurd (false≢true (sym s ∙ t))
 all-kept (Copy v q) K l s t = absurd (false≢true (sym s ∙ t))
@@ -116,5 +118,6 @@ module _ {l K : List Bounds} (e : Effect) {p : ℕ} (q : Filled l K 16 (effectOn
       let s : stays e p (known K p) ≡ true = rw (sym (stored-known K p (omega arith))) t in
       filled-kept nothingKnown q h (filled-next nothingKnown q ∙ sym (stays-known e K p s))
 
-  pub filled-anew : {b : Bounds} (s : ℕ) → Short e → s ≡ sourceOf e → b ≡ effectOnOne e p (stored K p) (stored K s) → Filled (set l p b) K 16 (effectOn e K) (p + 1)
+  pub filled-anew : {b : Bounds} (s : ℕ) → Short e → s ≡ sourceOf e → b ≡ effectOnOne e p (stored K p) (stored K s)
+      → Filled (set l p b) K 16 (effectOn e K) (p + 1)
   filled-anew s u z t = filled-more q h (effect-on-read e K p s (omega arith) (source-within K e z u long) z t)

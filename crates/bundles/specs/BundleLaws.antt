@@ -21,7 +21,8 @@ use Rattle.blocks.specs.Tree.{simples, simplesFrom}
 use Rattle.blocks.specs.Layout.{also}
 use Rattle.flow.specs.FlowLaws.{simples-some}
 use Rattle.rules.specs.States.{State}
-use Rattle.rules.specs.Stored.{factsAfter, effect, unshown, accessShown, bundleBounds, bundleFaults, boundsAfter, stateAfter, unshownIn, rowUnshown, accessIn, bundleAfter}
+use Rattle.rules.specs.Stored.{factsAfter, effect, unshown, accessShown, bundleBounds, bundleFaults}
+use Rattle.rules.specs.Stored.{boundsAfter, stateAfter, unshownIn, rowUnshown, accessIn, bundleAfter}
 use Rattle.rules.specs.BoundsRules.{inForce, rowsAfter}
 use Rattle.rules.specs.Rules.{accessAt, boundsAt}
 use Rattle.rules.specs.Verdict.{verdictOf}
@@ -51,7 +52,8 @@ use Rattle.rules.specs.BoundsRules as boundsRules
 
 -- ---- faults in order
 
-pub stops : {zs : List Refusal} (xs ys : List Refusal) {g : State FactSet} {w : Walked} {r : Refusal} → zs ≡ also xs ys → w .verdict ≡ verdictOf xs → w .verdict ≡ Refused r → Passes zs g w
+pub stops : {zs : List Refusal} (xs ys : List Refusal) {g : State FactSet} {w : Walked} {r : Refusal} → zs ≡ also xs ys → w .verdict ≡ verdictOf xs
+    → w .verdict ≡ Refused r → Passes zs g w
 stops xs ys z e p =
     let h = refuse-part xs ys e p in
     record { said = h .0 ∙ ap verdictOf (sym z); kept = λ q. absurd (h .1 (sym z ∙ q)) }
@@ -88,7 +90,8 @@ pub measured-by : (f : FactSet) (s : Simple) {E : Environment} {r : Frame} {d : 
 measured-by f s m e = e ∙ ap₂ (λ (x y : List ℕ). applied x y f s) (m .sizes) (m .spans)
 
 -- A kind 14 names a pointer and a row of the table.
-pub row-limits : (T : List ℤ) (h : Sections) (a : ℕ) {s : Statement} {p : Simple} {y r : ℕ} → statementAt T h a ≡ Read s → s ≡ Plain p → declaresOf p ≡ Row y r → (y < 16) × (r < 64)
+pub row-limits : (T : List ℤ) (h : Sections) (a : ℕ) {s : Statement} {p : Simple} {y r : ℕ} → statementAt T h a ≡ Read s → s ≡ Plain p → declaresOf p ≡ Row y r
+    → (y < 16) × (r < 64)
 row-limits T h a {s} {p} {y} {r} e d n =
     let q : statementAt T h a ≡ Read (Plain (Declare y r)) = e ∙ ap Read (d ∙ ap Plain (row-named p y r n)) in
     let t = read-typed T h a (Plain (Declare y r)) q in
@@ -106,13 +109,15 @@ simples-none (suc n) T h a p = absurd (omega arith)
 abbrev pub lineFaults : Environment → ℕ → ℕ → List Simple → State FactSet → List Bounds → List Refusal
 lineFaults E head a ss w K = also (bundleFaults E a ss w K) (boundsAt head (unshownIn E (bundleAfter ss w) (bundleBounds E ss w K)))
 
-pub record Held (T : List ℤ) (h : Sections) (E : Environment) (head count : ℕ) (w₀ : State FactSet) (K₀ : List Bounds) (at left : ℕ) (f : FactSet) (R : List ℕ) (I : Seen) (K : List Bounds) : Type 0 where
+pub record Held (T : List ℤ) (h : Sections) (E : Environment) (head count : ℕ) (w₀ : State FactSet) (K₀ : List Bounds) (at left : ℕ) (f : FactSet) (R : List ℕ)
+    (I : Seen) (K : List Bounds) : Type 0 where
   pub blamed : lineFaults E head (head + 1) (simples count T h (head + 1)) w₀ K₀ ≡ lineFaults E head at (simples left T h at) (stateOf f R) K
   pub left-state : bundleAfter (simples count T h (head + 1)) w₀ ≡ bundleAfter (simples left T h at) (stateOf f R)
   -- I is what is seen of the environment in force.
   pub inside : I ≡ seenOf (inForce E R)
 
-pub held-none : (T : List ℤ) (h : Sections) (E : Environment) (head count : ℕ) (f : FactSet) (R : List ℕ) {I : Seen} {K : List Bounds} → I ≡ seenOf (inForce E R) → K ≡ I .declared
+pub held-none : (T : List ℤ) (h : Sections) (E : Environment) (head count : ℕ) (f : FactSet) (R : List ℕ) {I : Seen} {K : List Bounds}
+    → I ≡ seenOf (inForce E R) → K ≡ I .declared
     → Held T h E head count (stateOf f R) (inForce E R .declared) (head + 1) count f R I K
 held-none T h E head count f R i k =
     let e = k ∙ ap (λ (x : Seen). x .declared) i in
@@ -143,7 +148,8 @@ also-assoc [] ys zs = refl
 also-assoc (x ∷ xs) ys zs = ap (λ (l : List Refusal). x ∷ l) (also-assoc xs ys zs)
 
 line-some : (E : Environment) (head a : ℕ) (s : Simple) (ss : List Simple) (w : State FactSet) (K : List Bounds)
-    → lineFaults E head a (s ∷ ss) w K ≡ also (accessAt (accessIn E w K s) a) (also (boundsAt a (rowUnshown E (w .facts) K s)) (lineFaults E head (a + 1) ss (stateAfter s w) (boundsAfter (effect E (w .facts) s) K)))
+    → lineFaults E head a (s ∷ ss) w K ≡ also (accessAt (accessIn E w K s) a)
+    (also (boundsAt a (rowUnshown E (w .facts) K s)) (lineFaults E head (a + 1) ss (stateAfter s w) (boundsAfter (effect E (w .facts) s) K)))
 unfolding walkRules.bundleFaults walkRules.bundleAfter walkRules.bundleBounds
 line-some E head a s ss w K = also-assoc _ _ _ ∙ ap (also (accessAt (accessIn E w K s) a)) (also-assoc _ _ _)
 
@@ -165,19 +171,24 @@ declare-accesses : (E : Environment) (w : State FactSet) (K : List Bounds) (p r 
 unfolding boundsRules.accessShown accessAt
 declare-accesses E w K p r a = refl
 
-module _ {T : List ℤ} {h : Sections} {E : Environment} {head count : ℕ} {w₀ : State FactSet} {K₀ : List Bounds} {at left : ℕ} {f : FactSet} {R : List ℕ} {I : Seen} {K : List Bounds}
+module _ {T : List ℤ} {h : Sections} {E : Environment} {head count : ℕ} {w₀ : State FactSet} {K₀ : List Bounds} {at left : ℕ} {f : FactSet} {R : List ℕ}
+    {I : Seen} {K : List Bounds}
     (k : Held T h E head count w₀ K₀ at left f R I K) where
   -- The bundle ends, or is cut short.
-  held-end : {w : Walked} → simples left T h at ≡ [] → Passes (boundsAt head (unshown (seenAs I) f K)) (stateOf f R) w → WalksBundle E head (simples count T h (head + 1)) w₀ K₀ w
+  held-end : {w : Walked} → simples left T h at ≡ [] → Passes (boundsAt head (unshown (seenAs I) f K)) (stateOf f R) w
+      → WalksBundle E head (simples count T h (head + 1)) w₀ K₀ w
   held-end e p =
       carry (k .blamed ∙ (ap (λ (ss : List Simple). lineFaults E head at ss (stateOf f R) K) e ∙ line-none E head at (stateOf f R) K))
-      (k .left-state ∙ (ap (λ (ss : List Simple). bundleAfter ss (stateOf f R)) e ∙ after-none (stateOf f R))) (carry (ap (boundsAt head) (sym (seen-unshown (inForce E R) f K) ∙ ap (λ (x : Seen). unshown (seenAs x) f K) (sym (k .inside)))) refl p)
+      (k .left-state ∙ (ap (λ (ss : List Simple). bundleAfter ss (stateOf f R)) e ∙ after-none (stateOf f R)))
+      (carry (ap (boundsAt head) (sym (seen-unshown (inForce E R) f K) ∙ ap (λ (x : Seen). unshown (seenAs x) f K) (sym (k .inside)))) refl p)
 
-  pub held-done : {w : Walked} → left ≤ 0 → Passes (boundsAt head (unshown (seenAs I) f K)) (stateOf f R) w → WalksBundle E head (simples count T h (head + 1)) w₀ K₀ w
+  pub held-done : {w : Walked} → left ≤ 0 → Passes (boundsAt head (unshown (seenAs I) f K)) (stateOf f R) w
+      → WalksBundle E head (simples count T h (head + 1)) w₀ K₀ w
   held-done z p = held-end (simples-none left T h at z) p
 
   module _ (some : 0 < left) where
-    pub held-unread : {w : Walked} → statementAt T h at ≡ Unread → Passes (boundsAt head (unshown (seenAs I) f K)) (stateOf f R) w → WalksBundle E head (simples count T h (head + 1)) w₀ K₀ w
+    pub held-unread : {w : Walked} → statementAt T h at ≡ Unread → Passes (boundsAt head (unshown (seenAs I) f K)) (stateOf f R) w
+        → WalksBundle E head (simples count T h (head + 1)) w₀ K₀ w
     held-unread e p = held-end (simples-some left T h at _ some e) p
 
     cut : (s : Statement) → ((p : Simple) → s ≡ Plain p → ⊥) → (ss : List Simple) → simplesFrom (Read s) ss ≡ []
@@ -186,7 +197,8 @@ module _ {T : List ℤ} {h : Sections} {E : Environment} {head count : ℕ} {w�
     cut (While c i) n ss = refl
     cut (Bundle i) n ss = refl
 
-    pub held-other : {w : Walked} {s : Statement} → statementAt T h at ≡ Read s → ((p : Simple) → s ≡ Plain p → ⊥) → Passes (boundsAt head (unshown (seenAs I) f K)) (stateOf f R) w
+    pub held-other : {w : Walked} {s : Statement} → statementAt T h at ≡ Read s → ((p : Simple) → s ≡ Plain p → ⊥)
+        → Passes (boundsAt head (unshown (seenAs I) f K)) (stateOf f R) w
         → WalksBundle E head (simples count T h (head + 1)) w₀ K₀ w
     held-other {w} {s} e n p = held-end (simples-some left T h at _ some e ∙ cut s n (simples (left - 1) T h (at + 1))) p
 
@@ -194,9 +206,11 @@ module _ {T : List ℤ} {h : Sections} {E : Environment} {head count : ℕ} {w�
       line : simples left T h at ≡ p ∷ simples (left - 1) T h (at + 1)
       line = simples-some left T h at _ some (e ∙ ap Read d)
 
-      line-here : lineFaults E head (head + 1) (simples count T h (head + 1)) w₀ K₀ ≡ also (accessAt (accessIn E (stateOf f R) K p) at) (also (boundsAt at (rowUnshown E f K p))
+      line-here : lineFaults E head (head + 1) (simples count T h (head + 1)) w₀ K₀ ≡ also (accessAt (accessIn E (stateOf f R) K p) at)
+          (also (boundsAt at (rowUnshown E f K p))
           (lineFaults E head (at + 1) (simples (left - 1) T h (at + 1)) (stateAfter p (stateOf f R)) (boundsAfter (effect E f p) K)))
-      line-here = k .blamed ∙ (ap (λ (ss : List Simple). lineFaults E head at ss (stateOf f R) K) line ∙ line-some E head at p (simples (left - 1) T h (at + 1)) (stateOf f R) K)
+      line-here = k .blamed ∙ (ap (λ (ss : List Simple). lineFaults E head at ss (stateOf f R) K) line
+          ∙ line-some E head at p (simples (left - 1) T h (at + 1)) (stateOf f R) K)
 
       state-here : bundleAfter (simples count T h (head + 1)) w₀ ≡ bundleAfter (simples (left - 1) T h (at + 1)) (stateAfter p (stateOf f R))
       state-here = k .left-state ∙ (ap (λ (ss : List Simple). bundleAfter ss (stateOf f R)) line ∙ after-more p (simples (left - 1) T h (at + 1)) (stateOf f R))
@@ -209,7 +223,8 @@ module _ {T : List ℤ} {h : Sections} {E : Environment} {head count : ℕ} {w�
           → WalksBundle E head (simples count T h (head + 1)) w₀ K₀ w
       held-access a t v = stops _ _ line-here (v ∙ access-verdict (accessIn E (stateOf f R) K p) at (sym (access-here a) ∙ t)) v
 
-      pub held-more : {b : Bool} {g : FactSet} {L : List Bounds} {x : Effect} → declaresOf p ≡ NoRow → b ≡ accessShown (seenAs I) f K p → b ≡ true → g ≡ factsAfter p f → x ≡ effect E f p → L ≡ boundsAfter x K
+      pub held-more : {b : Bool} {g : FactSet} {L : List Bounds} {x : Effect} → declaresOf p ≡ NoRow → b ≡ accessShown (seenAs I) f K p → b ≡ true
+          → g ≡ factsAfter p f → x ≡ effect E f p → L ≡ boundsAfter x K
           → Held T h E head count w₀ K₀ (at + 1) (left - 1) g R I L
       held-more {b} {g} {L} n a t q x l =
           let o : stateAfter p (stateOf f R) ≡ stateOf g R = ap₂ stateOf (sym q) (rows-stay p R n) in
@@ -229,7 +244,8 @@ module _ {T : List ℤ} {h : Sections} {E : Environment} {head count : ℕ} {w�
             line-here ∙ (ap (λ (q : Simple). also (accessAt (accessIn E (stateOf f R) K q) at) (also (boundsAt at (rowUnshown E f K q))
             (lineFaults E head (at + 1) (simples (left - 1) T h (at + 1)) (stateAfter q (stateOf f R)) (boundsAfter (effect E f q) K)))) (row-named p y r n)
             ∙ (pass _ _ (declare-accesses E (stateOf f R) K y r at)
-            ∙ ap₂ (λ (w : State FactSet) (x : Effect). also (boundsAt at (rowUnshown E f K (Declare y r))) (lineFaults E head (at + 1) (simples (left - 1) T h (at + 1)) w (boundsAfter x K)))
+            ∙ ap₂ (λ (w : State FactSet) (x : Effect).
+            also (boundsAt at (rowUnshown E f K (Declare y r))) (lineFaults E head (at + 1) (simples (left - 1) T h (at + 1)) w (boundsAfter x K)))
             (declare-after y r f R) (declare-keeps E f y r)))
 
         pub held-missed : {w : Walked} {x : Refusal} → v ≡ Refused x → w .verdict ≡ v → WalksBundle E head (simples count T h (head + 1)) w₀ K₀ w
@@ -238,9 +254,11 @@ module _ {T : List ℤ} {h : Sections} {E : Environment} {head count : ℕ} {w�
         pub held-row : {Q : List ℕ} {J : Seen} {L : List Bounds} → v ≡ Accepted → L ≡ boundsAfter Keep K → Q ≡ set R y (r + 1) → J ≡ seenOf (inForce E Q)
             → Held T h E head count w₀ K₀ (at + 1) (left - 1) f Q J L
         held-row {Q} {J} {L} t l q j =
-            let o : stateAfter p (stateOf f R) ≡ stateOf f Q = ap (λ (x : Simple). stateAfter x (stateOf f R)) (row-named p y r n) ∙ (declare-after y r f R ∙ ap (stateOf f) (sym q)) in
+            let o : stateAfter p (stateOf f R) ≡ stateOf f Q = ap (λ (x : Simple). stateAfter x (stateOf f R)) (row-named p y r n)
+            ∙ (declare-after y r f R ∙ ap (stateOf f) (sym q)) in
             record {
-              blamed = row-here ∙ (pass _ _ (none-refused _ z t) ∙ ap₂ (λ (U : List ℕ) (M : List Bounds). lineFaults E head (at + 1) (simples (left - 1) T h (at + 1)) (stateOf f U) M) (sym q) (sym l));
+              blamed = row-here ∙ (pass _ _ (none-refused _ z t)
+                  ∙ ap₂ (λ (U : List ℕ) (M : List Bounds). lineFaults E head (at + 1) (simples (left - 1) T h (at + 1)) (stateOf f U) M) (sym q) (sym l));
               left-state = state-here ∙ ap (bundleAfter (simples (left - 1) T h (at + 1))) o;
               inside = j;
             }

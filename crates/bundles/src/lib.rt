@@ -62,8 +62,10 @@ pub fn walk_bundle(
     count: usize,
     given: FactSet,
 ) -> Walked
-    requires { ⌜ Measured (environmentOf (now table) sections) × (head < 2 ^ 40) × Framed (environmentOf (now table) sections) frame × Forced (environmentOf (now table) sections) (force .rows .each) force ⌝ }
-    ensures { λ r. ⌜ WalksBundle (environmentOf (now (table .entry)) sections) head (simples count (now (table .entry)) sections (head + 1)) (stateOf given (force .rows .each)) (inForce (environmentOf (now (table .entry)) sections) (force .rows .each) .declared) r ⌝ }
+    requires { ⌜ Measured (environmentOf (now table) sections) × (head < 2 ^ 40) × Framed (environmentOf (now table) sections) frame
+        × Forced (environmentOf (now table) sections) (force .rows .each) force ⌝ }
+    ensures { λ r. ⌜ WalksBundle (environmentOf (now (table .entry)) sections) head (simples count (now (table .entry)) sections (head + 1))
+        (stateOf given (force .rows .each)) (inForce (environmentOf (now (table .entry)) sections) (force .rows .each) .declared) r ⌝ }
 {
     let sizes = frame.sizes;
     let spans = frame.spans;

@@ -6,7 +6,8 @@ use mathlib.Core.Bool.{Bool, true, false}
 use native.Mathlib.Omega.{arith}
 use Rattle.sums.specs.Numbers.{bias, maxValue, zeroVar}
 use Rattle.sums.specs.Scale.{scale-sums}
-use Rattle.chains.specs.Facts.{Variables, Node, Comparable, same-kind, from-zero, to-zero, Known, Always, lower, upper, Chain, empty, link, ChainWithin, Shown, Contradiction, EndShown}
+use Rattle.chains.specs.Facts.{Variables, Node, Comparable, same-kind, from-zero, to-zero, Known, Always}
+use Rattle.chains.specs.Facts.{lower, upper, Chain, empty, link, ChainWithin, Shown, Contradiction, EndShown}
 use Rattle.chains.specs.LeastSums.{LeastSums}
 
 abbrev pub Includes : Known → Known → Type 0
@@ -78,7 +79,8 @@ module _ (vars : Variables) where
   pub pair : (x y : ℕ) → Node vars x → Node vars y → Pair vars x y
   pair x y hx hy = go hx hy (same-or-not (vars .pointer x) (vars .pointer y))
     where
-      go : (x ≡ zeroVar) ⊎ (x < vars .count) → (y ≡ zeroVar) ⊎ (y < vars .count) → (vars .pointer x ≡ vars .pointer y) ⊎ (vars .pointer x ≢ vars .pointer y) → Pair vars x y
+      go : (x ≡ zeroVar) ⊎ (x < vars .count) → (y ≡ zeroVar) ⊎ (y < vars .count) → (vars .pointer x ≡ vars .pointer y) ⊎ (vars .pointer x ≢ vars .pointer y)
+          → Pair vars x y
       go (inl a) (inl b) k = zeros a b
       go (inl a) (inr b) k = rw a (comparable (from-zero b))
       go (inr a) (inl b) k = rw b (comparable (to-zero a))
@@ -148,7 +150,8 @@ pub record Closed (vars : Variables) (D : ℕ → ℕ → ℕ) : Type 0 where
 
 module _ (vars : Variables) (D : ℕ → ℕ → ℕ) (K : Known) (related : (x y k : ℕ) → K x y k → Comparable vars x y) where
   -- A closed matrix that no known fact undercuts is no greater than any chain.
-  pub lowest-of : Closed vars D → ((x y k : ℕ) → K x y k → D x y ≤ k) → {x y up down : ℕ} → Node vars x → Node vars y → Chain K x y up down → D x y + down ≤ up + bias
+  pub lowest-of : Closed vars D → ((x y k : ℕ) → K x y k → D x y ≤ k) → {x y up down : ℕ} → Node vars x → Node vars y → Chain K x y up down
+      → D x y + down ≤ up + bias
   lowest-of c cover hx hy empty = omega (arith, c .own _ hx)
   lowest-of c cover hx hy (link f r) =
       let hm = right-node vars (related _ _ _ f) in
@@ -182,7 +185,8 @@ module _ (vars : Variables) (D : ℕ → ℕ → ℕ) (K : Known) (related : (x 
 
     -- A chain between a pointer and an integer goes through zero.
     split-link : {x m y k p q : ℕ} → Comparable vars x m → x < vars .count → y < vars .count → vars .pointer x ≢ vars .pointer y → K x m k → Chain K m y p q
-        → (m < vars .count → vars .pointer m ≢ vars .pointer y → D m zeroVar + D zeroVar y + q ≤ p + (bias + bias)) → D x zeroVar + D zeroVar y + (bias + q) ≤ (k + p) + (bias + bias)
+        → (m < vars .count → vars .pointer m ≢ vars .pointer y → D m zeroVar + D zeroVar y + q ≤ p + (bias + bias))
+        → D x zeroVar + D zeroVar y + (bias + q) ≤ (k + p) + (bias + bias)
     split-link {x} {m} (same-kind a b e) hx hy n f r ih =
         let h : Node vars x = search (inl, inr) in let hm : Node vars m = search (inl, inr) in
         omega (arith, ih b (λ k. n (e ∙ k)), at-most h hm (one f), closed .triangle x m zeroVar h hm (zero-node vars))
@@ -191,7 +195,8 @@ module _ (vars : Variables) (D : ℕ → ℕ → ℕ) (K : Known) (related : (x 
         let h : Node vars x = search (inl, inr) in let hy′ : Node vars y = search (inl, inr) in
         omega (arith, at-most h (zero-node vars) (one f), l .lowest (zero-node vars) hy′ r)
 
-    split : {x y up down : ℕ} → x < vars .count → y < vars .count → vars .pointer x ≢ vars .pointer y → Chain K x y up down → D x zeroVar + D zeroVar y + down ≤ up + (bias + bias)
+    split : {x y up down : ℕ} → x < vars .count → y < vars .count → vars .pointer x ≢ vars .pointer y → Chain K x y up down
+        → D x zeroVar + D zeroVar y + down ≤ up + (bias + bias)
     split hx hy n empty = absurd (n refl)
     split hx hy n (link f r) = split-link (related _ _ _ f) hx hy n f r (λ a k. split a hy k r)
 
@@ -202,7 +207,8 @@ module _ (vars : Variables) (D : ℕ → ℕ → ℕ) (K : Known) (related : (x 
         omega (arith, split hx hy n (b .chain), closed .triangle x zeroVar y h (zero-node vars) hy′)
 
 -- The same sums by another matrix.
-pub least-same : {vars : Variables} {D E : ℕ → ℕ → ℕ} {K : Known} → LeastSums vars D K → ((x y : ℕ) → Node vars x → Node vars y → E x y ≡ D x y) → LeastSums vars E K
+pub least-same : {vars : Variables} {D E : ℕ → ℕ → ℕ} {K : Known} → LeastSums vars D K → ((x y : ℕ) → Node vars x → Node vars y → E x y ≡ D x y)
+    → LeastSums vars E K
 least-same l e = record {
   attained = λ x y hx hy. rw (e x y hx hy) (l .attained x y hx hy);
   lowest = λ {x} {y} hx hy r. rw (e x y hx hy) (l .lowest hx hy r);

@@ -68,10 +68,16 @@ module _ (vars : Variables) (f : FactSet) (K : Known) (h : Exact vars f K) where
         (λ (l : x < vars .count). at-most vars D K (h .sane .related) (h .least e) (zero-node vars) hx (one (h .sane .ranged _ _ _ (lower l)))) hx
 
     pub high : (x y : ℕ) → Node vars x → Node vars y → D x y ≤ bias + maxValue
-    high x y hx hy = omega (arith, closed vars D K (h .sane .related) (h .least e) .triangle x zeroVar y hx (zero-node vars) hy, to-zero-high x hx, from-zero-high y hy)
+    high x y hx hy =
+        omega (arith, closed vars D K (h .sane .related) (h .least e) .triangle x zeroVar y hx (zero-node vars) hy, to-zero-high x hx, from-zero-high y hy)
 
     pub low : (x y : ℕ) → Node vars x → Node vars y → bias ≤ D x y + maxValue
-    low x y hx hy = omega (arith, closed vars D K (h .sane .related) (h .least e) .triangle x y x hx hy hx, closed vars D K (h .sane .related) (h .least e) .own x hx, high y x hy hx)
+    low x y hx hy = omega (
+      arith,
+      closed vars D K (h .sane .related) (h .least e) .triangle x y x hx hy hx,
+      closed vars D K (h .sane .related) (h .least e) .own x hx,
+      high y x hy hx,
+    )
 
   -- An end is shown to be at most another exactly when two chains show it.
   pub end-exact : (s q n k r m j : ℕ) → s ≤ 8 → Node vars q → Node vars n → Node vars r → Node vars m → k < 2 ^ 40 → j < 2 ^ 40

@@ -11,12 +11,16 @@ use Rattle.sums.specs.Numbers.{bias, maxValue, zeroVar}
 use Rattle.sums.specs.Sums.{concatenated, negated}
 use Rattle.facts.specs.Store.{sumAt, leastSum, shown, newSet, lowered, marked, added, reassigned, dropped, ranged, shifted, related, joinedSum, joined}
 use Rattle.sums.specs.SumsLaws.{concat-plain}
-use Rattle.facts.specs.StoreLaws.{least-node, shown-clear, not-shown, added-shown, added-closed, added-lowered, dropped-variable, ranged-variable, shifted-variable, joined-first, joined-second, joined-both, sum-new, sum-lowered, sum-reassigned, sum-joined, anewAt}
-use Rattle.chains.specs.Facts.{Variables, Node, Comparable, same-kind, from-zero, to-zero, Known, Always, lower, upper, Shown, Contradiction, With, before, fact, Without, always, contradicted, raise, Moved, moved, Shifted, Both, both}
+use Rattle.facts.specs.StoreLaws.{least-node, shown-clear, not-shown, added-shown, added-closed, added-lowered, dropped-variable, ranged-variable}
+use Rattle.facts.specs.StoreLaws.{shifted-variable, joined-first, joined-second, joined-both, sum-new, sum-lowered, sum-reassigned, sum-joined, anewAt}
+use Rattle.chains.specs.Facts.{Variables, Node, Comparable, same-kind, from-zero, to-zero, Known, Always, lower, upper, Shown}
+use Rattle.chains.specs.Facts.{Contradiction, With, before, fact, Without, always, contradicted, raise, Moved, moved, Shifted, Both, both}
 use Rattle.chains.specs.LeastSums.{LeastSums}
 use Rattle.chains.specs.History.{Slight}
-use Rattle.chains.specs.Chains.{one, more-contradiction, contradiction-of, zero-node, left-node, right-node, always-comparable, Sane, shows-every, closed, least-same, least-known}
-use Rattle.chains.specs.Operations.{with-comparable, without-comparable, moved-comparable, both-comparable, new-least, add-shown, add-contradiction, add-least, anewSums, anew-least, shift-least, closure-least}
+use Rattle.chains.specs.Chains.{one, more-contradiction, contradiction-of, zero-node, left-node, right-node}
+use Rattle.chains.specs.Chains.{always-comparable, Sane, shows-every, closed, least-same, least-known}
+use Rattle.chains.specs.Operations.{with-comparable, without-comparable, moved-comparable, both-comparable, new-least}
+use Rattle.chains.specs.Operations.{add-shown, add-contradiction, add-least, anewSums, anew-least, shift-least, closure-least}
 use Rattle.chains.specs.Join.{joinAt, join-least}
 use Rattle.chains.specs.Exact.{Exact, in-rows, high, low}
 use Rattle.facts.specs.declared.FactSet.{FactSet}
@@ -58,7 +62,8 @@ lowered-plain here row start through t hs ht = go (leb row start) refl
     go false e = rw (concat-plain start through hs ht)
 
 -- A fact that is neither shown nor contradictory: its constant is in range, and so are the new sums.
-module _ (vars : Variables) (f : FactSet) (K : Known) (h : Tight vars f K) (e : f .contradiction ≡ false) (x y k : ℕ) (r : Comparable vars x y) (hk : k ≤ bias + bias) where
+module _ (vars : Variables) (f : FactSet) (K : Known) (h : Tight vars f K) (e : f .contradiction ≡ false) (x y k : ℕ) (r : Comparable vars x y)
+    (hk : k ≤ bias + bias) where
   hx : Node vars x
   hx = left-node vars r
 
@@ -111,7 +116,8 @@ added-tight vars f K h x y k r = go (shown f x y k) refl
     y≤16 : y ≤ 16
     y≤16 = omega (arith, in-rows vars hy)
 
-    ends : f .contradiction ≡ false → shown f x y k ≡ false → k ≤ bias + bias → (b : Bool) → ltb (concatenated (sumAt f y x) k) bias ≡ b → Tight vars (added f x y k) (With K x y k)
+    ends : f .contradiction ≡ false → shown f x y k ≡ false → k ≤ bias + bias → (b : Bool) → ltb (concatenated (sumAt f y x) k) bias ≡ b
+        → Tight vars (added f x y k) (With K x y k)
     ends e s hk true q = rw (added-closed f x y k x≤16 y≤16 s (ltb-true _ _ q))
         (marked-tight vars f K h e x y k r hk (omega (arith, back-plain vars f K h e x y k r hk, ltb-true (concatenated (sumAt f y x) k) bias q)))
     ends e s hk false q = rw (added-lowered f x y k x≤16 y≤16 s (ltb-false _ _ q))
@@ -127,7 +133,12 @@ added-tight vars f K h x y k r = go (shown f x y k) refl
     })
     go false s =
         let e : f .contradiction ≡ false = not-shown f x y k s in
-        ends e s (omega (arith, least-node f x y (in-rows vars hx) (in-rows vars hy), leb-false (leastSum f x y) k (sym (shown-clear f x y k e) ∙ s), h .small e x y hx hy))
+        ends e s (omega (
+          arith,
+          least-node f x y (in-rows vars hx) (in-rows vars hy),
+          leb-false (leastSum f x y) k (sym (shown-clear f x y k e) ∙ s),
+          h .small e x y hx hy,
+        ))
         (ltb (concatenated (sumAt f y x) k) bias) refl
 
 pub added-exact : (vars : Variables) (f : FactSet) (K : Known) → Exact vars f K → (x y k : ℕ) → Comparable vars x y → Exact vars (added f x y k) (With K x y k)
@@ -176,7 +187,8 @@ module _ (vars : Variables) (f : FactSet) (K : Known) (h : Exact vars f K) (x : 
 
   ranged-sane : (bottom top : ℕ) → Sane vars (Ranged bottom top)
   ranged-sane bottom top = record {
-    related = with-comparable vars _ (with-comparable vars _ (without-comparable vars K x) x zeroVar (bias + top) (to-zero hx)) zeroVar x (bias - bottom) (from-zero hx);
+    related = with-comparable vars _ (with-comparable vars _ (without-comparable vars K x) x zeroVar (bias + top) (to-zero hx)) zeroVar x
+        (bias - bottom) (from-zero hx);
     ranged = λ a b c w. before (before (always w));
   }
 
@@ -246,7 +258,8 @@ module _ (vars : Variables) (f : FactSet) (K : Known) (h : Exact vars f K) (x k 
   unfolding reassigned
   moved-tight = record {
     related = moved-comparable vars K (λ i. raise (eqb i x) k);
-    least = λ e. least-same (shift-least vars (sumAt f) K (h .sane .related) (h .least e) (λ i. raise (eqb i x) k) (λ i j hi hj. fits e i j hi hj .0)) (moved-plain e);
+    least = λ e. least-same (shift-least vars (sumAt f) K (h .sane .related) (h .least e) (λ i. raise (eqb i x) k)
+        (λ i j hi hj. fits e i j hi hj .0)) (moved-plain e);
     clash = λ e.
         let s : Shown K x x (bias - 1) = shows-every vars K (h .sane) (h .clash e) x x (bias - 1) x-node x-node in
         contradiction-of (one (moved {d = bias - 1} (same-kind hx hx refl) s refl)) (omega arith);
@@ -259,17 +272,20 @@ module _ (vars : Variables) (f : FactSet) (K : Known) (h : Exact vars f K) (x k 
     where
       go : Dec (v ≡ x) → Shifted vars x k K zeroVar v bias
       go (yes e) = rw e (before fact)
-      go (no n) = let m : zeroVar ≢ x = omega (arith, vars .few) in before (before (moved {d = bias} (from-zero l) (one (h .sane .ranged _ _ _ (lower l))) (rw (ne-eqb v x n, ne-eqb zeroVar x m))))
+      go (no n) = let m : zeroVar ≢ x = omega (arith, vars .few) in
+          before (before (moved {d = bias} (from-zero l) (one (h .sane .ranged _ _ _ (lower l))) (rw (ne-eqb v x n, ne-eqb zeroVar x m))))
   shifted-ranged a b c (upper {v = v} l) = go (ℕ-discrete v x)
     where
       go : Dec (v ≡ x) → Shifted vars x k K v zeroVar (bias + maxValue)
       go (yes e) = rw e fact
-      go (no n) = let m : zeroVar ≢ x = omega (arith, vars .few) in before (before (moved {d = bias + maxValue} (to-zero l) (one (h .sane .ranged _ _ _ (upper l))) (rw (ne-eqb v x n, ne-eqb zeroVar x m))))
+      go (no n) = let m : zeroVar ≢ x = omega (arith, vars .few) in
+          before (before (moved {d = bias + maxValue} (to-zero l) (one (h .sane .ranged _ _ _ (upper l))) (rw (ne-eqb v x n, ne-eqb zeroVar x m))))
 
   pub shifted-exact : Exact vars (shifted f x k) (Shifted vars x k K)
   shifted-exact =
       let t = added-tight vars _ _ (added-tight vars _ _ moved-tight zeroVar x bias (from-zero hx)) x zeroVar (bias + maxValue) (to-zero hx) in
-      rw (shifted-variable f x k (omega (arith, vars .few))) (record { sane = record { related = t .related; ranged = shifted-ranged }; least = t .least; clash = t .clash })
+      rw (shifted-variable f x k (omega (arith, vars .few)))
+      (record { sane = record { related = t .related; ranged = shifted-ranged }; least = t .least; clash = t .clash })
 
 -- ---- join
 
@@ -325,8 +341,10 @@ joined-exact vars f g K L hf hg = go (f .contradiction) refl (g .contradiction) 
         z₀ = zero-node vars
 
         plain : (i j : ℕ) → Node vars i → Node vars j → sumAt (joined (vars .pointer) f g) i j
-            ≡ joinAt (related (vars .pointer) i j) (max (sumAt f i j) (sumAt g i j)) (max (sumAt f i zeroVar) (sumAt g i zeroVar)) (max (sumAt f zeroVar j) (sumAt g zeroVar j))
+            ≡ joinAt (related (vars .pointer) i j) (max (sumAt f i j) (sumAt g i j)) (max (sumAt f i zeroVar) (sumAt g i zeroVar))
+            (max (sumAt f zeroVar j) (sumAt g zeroVar j))
         plain i j hi hj = sum-joined f i j (in-rows vars hi) (in-rows vars hj) g (vars .pointer) e d
-            ∙ join-plain (related (vars .pointer) i j) (sumAt f i j) (sumAt g i j) (sumAt f i zeroVar) (sumAt g i zeroVar) (sumAt f zeroVar j) (sumAt g zeroVar j)
+            ∙ join-plain (related (vars .pointer) i j) (sumAt f i j) (sumAt g i j) (sumAt f i zeroVar) (sumAt g i zeroVar)
+            (sumAt f zeroVar j) (sumAt g zeroVar j)
             (omega (arith, high vars f K hf e i zeroVar hi z₀, high vars g L hg d i zeroVar hi z₀))
             (omega (arith, high vars f K hf e zeroVar j z₀ hj, high vars g L hg d zeroVar j z₀ hj))

@@ -6,7 +6,8 @@ use lib.Dec.{ltb}
 use Rattle.sums.specs.Numbers.{bias, zeroVar}
 use Rattle.arrays.specs.Tabulate.{tabulate}
 use Rattle.sums.specs.Sums.{concatenated}
-use Rattle.facts.specs.Store.{leastSum, shown, newRow, newSet, loweredRow, lowered, marked, added, ownRow, reroutedRow, reassigned, dropped, shifted, joinedSum, joinedRow, joined}
+use Rattle.facts.specs.Store.{leastSum, shown, newRow, newSet, loweredRow, lowered, marked, added, ownRow}
+use Rattle.facts.specs.Store.{reroutedRow, reassigned, dropped, shifted, joinedSum, joinedRow, joined}
 use Rattle.facts.specs.declared.FactSet.{FactSet}
 
 abbrev pointer : ℕ → Bool

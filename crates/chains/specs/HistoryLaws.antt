@@ -29,7 +29,8 @@ module _ (vars : Variables) where
   exact (join h g) l = joined-exact vars (made (vars .pointer) h) (made (vars .pointer) g) (known vars h) (known vars g) (exact h (l .0)) (exact g (l .1))
 
   -- A fact is shown exactly when a chain of known vars facts shows it.
-  pub shows-exactly : (h : History) → Legal vars h → (x y k : ℕ) → Node vars x → Node vars y → (shown (made (vars .pointer) h) x y k ≡ true) ↔ Shown (known vars h) x y k
+  pub shows-exactly : (h : History) → Legal vars h → (x y k : ℕ) → Node vars x → Node vars y
+      → (shown (made (vars .pointer) h) x y k ≡ true) ↔ Shown (known vars h) x y k
   shows-exactly h l = shown-exact vars (made (vars .pointer) h) (known vars h) (exact h l)
 
   -- The mark stands exactly when some chain from x to x has a negative sum.

@@ -42,12 +42,14 @@ module _ (vars : Variables) where
       go false = refl
 
   related-comparable : {i j : ℕ} → Comparable vars i j → related (vars .pointer) i j ≡ true
-  related-comparable {i} {j} (same-kind a b e) = let m : i ≢ zeroVar = omega arith in let n : j ≢ zeroVar = omega arith in rw (ne-eqb i zeroVar m, ne-eqb j zeroVar n) (same-true _ _ e)
+  related-comparable {i} {j} (same-kind a b e) = let m : i ≢ zeroVar = omega arith in let n : j ≢ zeroVar = omega arith in
+      rw (ne-eqb i zeroVar m, ne-eqb j zeroVar n) (same-true _ _ e)
   related-comparable (from-zero b) = refl
   related-comparable {i} (to-zero a) = related-to-zero i
 
   related-mixed : (i j : ℕ) → i < vars .count → j < vars .count → vars .pointer i ≢ vars .pointer j → related (vars .pointer) i j ≡ false
-  related-mixed i j hi hj k = let m : i ≢ zeroVar = omega arith in let n : j ≢ zeroVar = omega arith in rw (ne-eqb i zeroVar m, ne-eqb j zeroVar n) (same-false _ _ k)
+  related-mixed i j hi hj k = let m : i ≢ zeroVar = omega arith in let n : j ≢ zeroVar = omega arith in
+      rw (ne-eqb i zeroVar m, ne-eqb j zeroVar n) (same-false _ _ k)
 
   module _ (D E : ℕ → ℕ → ℕ) (K L : Known) (relatedK : (x y k : ℕ) → K x y k → Comparable vars x y) (relatedL : (x y k : ℕ) → L x y k → Comparable vars x y)
       (lk : LeastSums vars D K) (ll : LeastSums vars E L) where
@@ -101,7 +103,8 @@ module _ (vars : Variables) where
         triangle : (i m j : ℕ) → Node vars i → Node vars m → Node vars j → J i j + bias ≤ J i m + J m j
         triangle i m j hi hm hj = go (pair vars i j hi hj) hm (same-or-not (vars .pointer i) (vars .pointer m))
           where
-            go : Pair vars i j → (m ≡ zeroVar) ⊎ (m < vars .count) → (vars .pointer i ≡ vars .pointer m) ⊎ (vars .pointer i ≢ vars .pointer m) → J i j + bias ≤ J i m + J m j
+            go : Pair vars i j → (m ≡ zeroVar) ⊎ (m < vars .count) → (vars .pointer i ≡ vars .pointer m) ⊎ (vars .pointer i ≢ vars .pointer m)
+                → J i j + bias ≤ J i m + J m j
             go (comparable r) u v = omega (arith, plain i j (related-comparable r), tri i m j hi hm hj, over i m hi hm, over m j hm hj)
             go (zeros a b) u v = omega (arith, plain i j (rw a refl), tri i m j hi hm hj, over i m hi hm, over m j hm hj)
             go (mixed a b n) (inl u) v = rw u (omega (arith, round i j a b n, over i zeroVar hi z, over zeroVar j z hj))

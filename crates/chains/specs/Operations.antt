@@ -10,14 +10,17 @@ use lib.Dec.{leb, eqb}
 use Rattle.sums.specs.Numbers.{bias, maxValue, zeroVar}
 use Rattle.facts.specs.Store.{newSum}
 use Rattle.facts.specs.StoreLaws.{anewAt}
-use Rattle.chains.specs.Facts.{Variables, Node, Comparable, from-zero, to-zero, Known, Always, lower, upper, ChainWithin, Shown, Contradiction, With, before, fact, Without, kept, always, contradicted, Both, both, Moved, moved}
+use Rattle.chains.specs.Facts.{Variables, Node, Comparable, from-zero, to-zero, Known, Always, lower, upper, ChainWithin, Shown}
+use Rattle.chains.specs.Facts.{Contradiction, With, before, fact, Without, kept, always, contradicted, Both, both, Moved, moved}
 use Rattle.chains.specs.LeastSums.{LeastSums}
-use Rattle.chains.specs.Chains.{append, weaken, one, none, more-shown, contradiction-of, Pair, comparable, zeros, mixed, pair, zero-node, left-node, right-node, always-comparable, Closed, lowest-of, at-most, closed, through-zero, no-contradiction}
+use Rattle.chains.specs.Chains.{append, weaken, one, none, more-shown, contradiction-of, Pair, comparable, zeros, mixed, pair, zero-node}
+use Rattle.chains.specs.Chains.{left-node, right-node, always-comparable, Closed, lowest-of, at-most, closed, through-zero, no-contradiction}
 
 -- ---- each operation keeps to comparable pairs
 
 module _ (vars : Variables) (K : Known) where
-  pub with-comparable : ((x y k : ℕ) → K x y k → Comparable vars x y) → (x y k : ℕ) → Comparable vars x y → (a b c : ℕ) → With K x y k a b c → Comparable vars a b
+  pub with-comparable : ((x y k : ℕ) → K x y k → Comparable vars x y) → (x y k : ℕ) → Comparable vars x y → (a b c : ℕ) → With K x y k a b c
+      → Comparable vars a b
   with-comparable related x y k r a b c (before f) = related a b c f
   with-comparable related x y k r a b c fact = r
 
@@ -37,7 +40,8 @@ module _ (vars : Variables) (K : Known) where
 module _ (vars : Variables) (D : ℕ → ℕ → ℕ) (K : Known) (related : (x y k : ℕ) → K x y k → Comparable vars x y) where
   pub least-of-facts : Closed vars D → ((x y k : ℕ) → K x y k → D x y ≤ k) → ((x y : ℕ) → Comparable vars x y → Shown K x y (D x y))
       → ((x y : ℕ) → x < vars .count → y < vars .count → vars .pointer x ≢ vars .pointer y → D x zeroVar + D zeroVar y ≤ D x y + bias) → LeastSums vars D K
-  least-of-facts c cover each across = record { attained = λ x y hx hy. go x y hx hy (pair vars x y hx hy); lowest = λ hx hy r. lowest-of vars D K related c cover hx hy r }
+  least-of-facts c cover each across =
+      record { attained = λ x y hx hy. go x y hx hy (pair vars x y hx hy); lowest = λ hx hy r. lowest-of vars D K related c cover hx hy r }
     where
       go : (x y : ℕ) → Node vars x → Node vars y → Pair vars x y → Shown K x y (D x y)
       go x y hx hy (comparable r) = each x y r
@@ -71,12 +75,16 @@ module _ (vars : Variables) where
   new-closed = record { own = λ x hx. rw (eq-eqb x x refl); triangle = λ x m y hx hm hy. go x m y hx (ℕ-discrete x m) }
     where
       go : (x m y : ℕ) → (x ≡ zeroVar) ⊎ (x < vars .count) → Dec (x ≡ m) → newSum x y + bias ≤ newSum x m + newSum m y
-      go x m y (inl e) d = let h : newSum x y ≡ bias = ap (λ (z : ℕ). newSum z y) e ∙ new-from-zero y in omega (arith, new-low (eqb x m) (eqb x zeroVar), new-low (eqb m y) (eqb m zeroVar))
+      go x m y (inl e) d = let h : newSum x y ≡ bias = ap (λ (z : ℕ). newSum z y) e ∙ new-from-zero y in
+          omega (arith, new-low (eqb x m) (eqb x zeroVar), new-low (eqb m y) (eqb m zeroVar))
       go x m y (inr h) (yes e) = let q : newSum x y ≡ newSum m y = ap (λ (z : ℕ). newSum z y) e in omega (arith, new-low (eqb x m) (eqb x zeroVar))
       go x m y (inr h) (no n) = omega (arith, new-apart x m h n, new-low (eqb m y) (eqb m zeroVar), new-high (eqb x y) (eqb x zeroVar))
 
   pub new-least : LeastSums vars newSum (Always vars)
-  new-least = record { attained = λ x y hx hy. go x y hx hy (ℕ-discrete x y); lowest = λ hx hy r. lowest-of vars newSum (Always vars) (λ x y k a. always-comparable vars a) new-closed cover hx hy r }
+  new-least = record {
+    attained = λ x y hx hy. go x y hx hy (ℕ-discrete x y);
+    lowest = λ hx hy r. lowest-of vars newSum (Always vars) (λ x y k a. always-comparable vars a) new-closed cover hx hy r;
+  }
     where
       far : (x : ℕ) → x < vars .count → newSum x zeroVar ≡ bias + maxValue
       far x h = let n : x ≢ zeroVar = omega arith in new-apart x zeroVar h n
@@ -134,7 +142,10 @@ module _ (vars : Variables) (D : ℕ → ℕ → ℕ) (K : Known) (related : (x 
     -- Neither.
     pub add-least : ((i j : ℕ) → Node vars i → Node vars j → D i j ≤ bias + bias) → bias + bias ≤ D y x + k
         → LeastSums vars (λ i j. min (D i j) (D i x + k + D y j - (bias + bias))) (With K x y k)
-    add-least small clear = record { attained = reached; lowest = λ hi hj s. lowest-of vars N (With K x y k) (with-comparable vars K related x y k r) closedN cover hi hj s }
+    add-least small clear = record {
+      attained = reached;
+      lowest = λ hi hj s. lowest-of vars N (With K x y k) (with-comparable vars K related x y k r) closedN cover hi hj s;
+    }
       where
         N : ℕ → ℕ → ℕ
         N i j = min (D i j) (D i x + k + D y j - (bias + bias))
@@ -157,7 +168,16 @@ module _ (vars : Variables) (D : ℕ → ℕ → ℕ) (K : Known) (related : (x 
         closedN : Closed vars N
         closedN = record {
           own = λ i hi. omega (arith, C .own i hi, C .triangle y i x hy hi hx);
-          triangle = λ i m j hi hm hj. omega (arith, large i j hi hj, large i m hi hm, large m j hm hj, C .triangle i m j hi hm hj, C .triangle i m x hi hm hx, C .triangle y m j hy hm hj, C .triangle y m x hy hm hx);
+          triangle = λ i m j hi hm hj. omega (
+            arith,
+            large i j hi hj,
+            large i m hi hm,
+            large m j hm hj,
+            C .triangle i m j hi hm hj,
+            C .triangle i m x hi hm hx,
+            C .triangle y m j hy hm hj,
+            C .triangle y m x hy hm hx,
+          );
         }
 
         cover : (a b c : ℕ) → With K x y k a b c → N a b ≤ c
@@ -165,7 +185,8 @@ module _ (vars : Variables) (D : ℕ → ℕ → ℕ) (K : Known) (related : (x 
         cover a b c fact = omega (arith, C .own x hx, C .own y hy)
 
   -- ---- a variable anew
-  module _ (ranged : (x y k : ℕ) → Always vars x y k → K x y k) (x y up down : ℕ) (x-variable : x < vars .count) (r : Comparable vars x y) (r⁻¹ : Comparable vars y x) (apart : y ≢ x) where
+  module _ (ranged : (x y k : ℕ) → Always vars x y k → K x y k) (x y up down : ℕ) (x-variable : x < vars .count) (r : Comparable vars x y)
+      (r⁻¹ : Comparable vars y x) (apart : y ≢ x) where
     -- What is known afterwards.
     abbrev pub Anew : Known
     Anew = With (With (Without vars x K) x y up) y x down
@@ -187,20 +208,25 @@ module _ (vars : Variables) (D : ℕ → ℕ → ℕ) (K : Known) (related : (x 
         go (comparable s) = one (kept ni nj s (l .attained i j hi hj))
         go (zeros a b) = rw (a, b) (weaken (none zeroVar) (omega (arith, C .own zeroVar (zero-node vars))))
         go (mixed a b n) =
-            append (one (kept ni nz (to-zero a) (l .attained i zeroVar hi (zero-node vars)))) (one (kept nz nj (from-zero b) (l .attained zeroVar j (zero-node vars) hj)))
+            append (one (kept ni nz (to-zero a) (l .attained i zeroVar hi (zero-node vars))))
+            (one (kept nz nj (from-zero b) (l .attained zeroVar j (zero-node vars) hj)))
             (omega (arith, through-zero vars D K related l i j a b n))
 
     -- x is in range, and the two facts do not contradict; no sum is truncated.
     pub anew-least : D y zeroVar + up ≤ bias + maxValue + bias → D zeroVar y + down ≤ bias + bias → bias + bias ≤ up + down
         → ((j : ℕ) → Node vars j → bias ≤ up + D y j) → ((i : ℕ) → Node vars i → bias ≤ D i y + down) → LeastSums vars (anewSums D x y up down) Anew
     anew-least high low apart-by room₁ room₂ =
-        record { attained = λ i j hi hj. reached i j hi hj (eqb i x) (eqb j x) refl refl; lowest = λ hi hj s. lowest-of vars E Anew comparable-all (record { own = own; triangle = triangle }) cover hi hj s }
+        record {
+          attained = λ i j hi hj. reached i j hi hj (eqb i x) (eqb j x) refl refl;
+          lowest = λ hi hj s. lowest-of vars E Anew comparable-all (record { own = own; triangle = triangle }) cover hi hj s;
+        }
       where
         E : ℕ → ℕ → ℕ
         E = anewSums D x y up down
 
         comparable-all : (a b c : ℕ) → Anew a b c → Comparable vars a b
-        comparable-all = with-comparable vars (With (Without vars x K) x y up) (with-comparable vars (Without vars x K) (without-comparable vars K x) x y up r) y x down r⁻¹
+        comparable-all = with-comparable vars (With (Without vars x K) x y up)
+            (with-comparable vars (Without vars x K) (without-comparable vars K x) x y up r) y x down r⁻¹
 
         not-x : eqb y x ≡ false
         not-x = ne-eqb y x apart
@@ -251,8 +277,10 @@ module _ (vars : Variables) (D : ℕ → ℕ → ℕ) (K : Known) (related : (x 
         reached : (i j : ℕ) → Node vars i → Node vars j → (a b : Bool) → eqb i x ≡ a → eqb j x ≡ b
             → Shown Anew i j (anewAt (D i j) (up + D y j - bias) (D i y + down - bias) a b)
         reached i j hi hj true true p q = rw (eqb-true i x p, eqb-true j x q) (none x)
-        reached i j hi hj true false p q = rw (eqb-true i x p) (append (one (before fact)) (kept-shown y j apart (eqb-false j x q) y-node hj) (omega (arith, room₁ j hj)))
-        reached i j hi hj false true p q = rw (eqb-true j x q) (append (kept-shown i y (eqb-false i x p) apart hi y-node) (one fact) (omega (arith, room₂ i hi)))
+        reached i j hi hj true false p q =
+            rw (eqb-true i x p) (append (one (before fact)) (kept-shown y j apart (eqb-false j x q) y-node hj) (omega (arith, room₁ j hj)))
+        reached i j hi hj false true p q =
+            rw (eqb-true j x q) (append (kept-shown i y (eqb-false i x p) apart hi y-node) (one fact) (omega (arith, room₂ i hi)))
         reached i j hi hj false false p q = kept-shown i j (eqb-false i x p) (eqb-false j x q) hi hj
 
   -- ---- shift: no sum falls below what the bias allows

@@ -9,8 +9,10 @@ use lib.Dec.{leb, ltb, eqb}
 use Rattle.sums.specs.Numbers.{bias, maxValue, zeroVar}
 use Rattle.sums.specs.Scale.{scale-sums}
 use Rattle.sums.specs.Sums.{unbounded, concatenated, negated}
-use Rattle.facts.specs.Store.{sumAt, leastSum, shown, endShown, newSet, lowered, added, reassigned, dropped, ranged, shifted, related, joinedSum, joined, withinEnd}
-use Rattle.facts.specs.StoreLaws.{anewAt, least-node, shown-clear, added-left, added-right, added-shown, added-lowered, dropped-variable, ranged-variable, shifted-variable, joined-first, joined-second, joined-both, sum-new, sum-lowered, sum-reassigned, sum-joined, within-true}
+use Rattle.facts.specs.Store.{sumAt, leastSum, shown, endShown, newSet, lowered, added, reassigned}
+use Rattle.facts.specs.Store.{dropped, ranged, shifted, related, joinedSum, joined, withinEnd}
+use Rattle.facts.specs.StoreLaws.{anewAt, least-node, shown-clear, added-left, added-right, added-shown, added-lowered, dropped-variable, ranged-variable}
+use Rattle.facts.specs.StoreLaws.{shifted-variable, joined-first, joined-second, joined-both, sum-new, sum-lowered, sum-reassigned, sum-joined, within-true}
 use Rattle.facts.specs.declared.FactSet.{FactSet}
 
 -- Values of the variables, each in its range; zero is 0.
@@ -43,7 +45,8 @@ module _ (f : FactSet) (v : ℕ → ℕ) (h : Holds f v) where
       go false e = refl
 
   pub holds-sum : (x y : ℕ) → x < 17 → y < 17 → True v x y (sumAt f x y)
-  holds-sum x y hx hy = h x y (sumAt f x y) hx hy (shown-clear f x y (sumAt f x y) holds-clear ∙ le-leb (leastSum f x y) (sumAt f x y) (omega (arith, least-node f x y hx hy)))
+  holds-sum x y hx hy = h x y (sumAt f x y) hx hy
+      (shown-clear f x y (sumAt f x y) holds-clear ∙ le-leb (leastSum f x y) (sumAt f x y) (omega (arith, least-node f x y hx hy)))
 
 pub holds-of-sums : (f : FactSet) (v : ℕ → ℕ) → f .contradiction ≡ false → ((x y : ℕ) → x < 17 → y < 17 → True v x y (sumAt f x y)) → Holds f v
 holds-of-sums f v e s x y k hx hy t = omega (arith, s x y hx hy, least-node f x y hx hy, leb-true (leastSum f x y) k (sym (shown-clear f x y k e) ∙ t))
@@ -93,7 +96,8 @@ module _ (f : FactSet) (v : ℕ → ℕ) (g : InRange v) (h : Holds f v) (x y k 
       let start : v i + bias ≤ v y + concatenated (sumAt f i x) k = concat-true (v i) (v x) (v y) (sumAt f i x) k (g .below i) (holds-sum f v h i x hi hx) t in
       let whole : v i + bias ≤ v j + concatenated (concatenated (sumAt f i x) k) (sumAt f y j)
       = concat-true (v i) (v y) (v j) (concatenated (sumAt f i x) k) (sumAt f y j) (g .below i) start (holds-sum f v h y j hy hj) in
-      either (leb (sumAt f i y) (concatenated (sumAt f i x) k)) (v i) (v j) (sumAt f i j) (concatenated (concatenated (sumAt f i x) k) (sumAt f y j)) (holds-sum f v h i j hi hj) whole))
+      either (leb (sumAt f i y) (concatenated (sumAt f i x) k)) (v i) (v j) (sumAt f i j) (concatenated (concatenated (sumAt f i x) k) (sumAt f y j))
+      (holds-sum f v h i j hi hj) whole))
 
   -- A true fact may be added.
   pub added-holds : (x < 17 → y < 17 → True v x y k) → Holds (added f x y k) v
@@ -102,13 +106,18 @@ module _ (f : FactSet) (v : ℕ → ℕ) (g : InRange v) (h : Holds f v) (x y k 
       inner : x < 17 → y < 17 → (s : Bool) → shown f x y k ≡ s → (b : Bool) → ltb (concatenated (sumAt f y x) k) bias ≡ b → Holds (added f x y k) v
       inner hx hy true s b q = rw (added-shown f x y k (omega arith) (omega arith) s) h
       inner hx hy false s true q =
-          absurd (omega (arith, ltb-true (concatenated (sumAt f y x) k) bias q, concat-true (v y) (v x) (v y) (sumAt f y x) k (g .below y) (holds-sum f v h y x hy hx) (t hx hy)))
+          absurd (omega (
+            arith,
+            ltb-true (concatenated (sumAt f y x) k) bias q,
+            concat-true (v y) (v x) (v y) (sumAt f y x) k (g .below y) (holds-sum f v h y x hy hx) (t hx hy),
+          ))
       inner hx hy false s false q = rw (added-lowered f x y k (omega arith) (omega arith) s (ltb-false _ _ q)) (lowered-holds hx hy (t hx hy))
 
       outer : (a : Bool) → ltb 16 x ≡ a → (b : Bool) → ltb 16 y ≡ b → Holds (added f x y k) v
       outer true p b q = rw (added-left f x y k (ltb-true _ _ p)) h
       outer false p true q = rw (added-right f x y k (ltb-false _ _ p) (ltb-true _ _ q)) h
-      outer false p false q = inner (omega (arith, ltb-false 16 x p)) (omega (arith, ltb-false 16 y q)) (shown f x y k) refl (ltb (concatenated (sumAt f y x) k) bias) refl
+      outer false p false q = inner (omega (arith, ltb-false 16 x p)) (omega (arith, ltb-false 16 y q)) (shown f x y k) refl
+          (ltb (concatenated (sumAt f y x) k) bias) refl
 
 -- The values w are v with another value of x, which lies between y - down and y + up of the values before.
 reassigned-holds : (f : FactSet) (v w : ℕ → ℕ) → InRange v → InRange w → Holds f v → (x y up down : ℕ) → x < 17 → y < 17 → Except x v w
@@ -121,21 +130,33 @@ reassigned-holds f v w g g′ h x y up down hx hy same u d = holds-of-sums (reas
         → w i + bias ≤ w j + anewAt (sumAt f i j) (concatenated up (sumAt f y j)) (concatenated (sumAt f i y) down) a b
     go i j hi hj true true p q = omega (arith, ap w (eqb-true i x p ∙ sym (eqb-true j x q)))
     go i j hi hj true false p q =
-        omega (arith, ap w (eqb-true i x p), same j (eqb-false j x q), concat-true (w x) (v y) (v j) up (sumAt f y j) (g′ .below x) u (holds-sum f v h y j hy hj))
+        omega (
+          arith,
+          ap w (eqb-true i x p),
+          same j (eqb-false j x q),
+          concat-true (w x) (v y) (v j) up (sumAt f y j) (g′ .below x) u (holds-sum f v h y j hy hj),
+        )
     go i j hi hj false true p q =
-        omega (arith, ap w (eqb-true j x q), same i (eqb-false i x p), concat-true (v i) (v y) (w x) (sumAt f i y) down (g .below i) (holds-sum f v h i y hi hy) d)
+        omega (
+          arith,
+          ap w (eqb-true j x q),
+          same i (eqb-false i x p),
+          concat-true (v i) (v y) (w x) (sumAt f i y) down (g .below i) (holds-sum f v h i y hi hy) d,
+        )
     go i j hi hj false false p q = omega (arith, same i (eqb-false i x p), same j (eqb-false j x q), holds-sum f v h i j hi hj)
 
 module _ (f : FactSet) (v w : ℕ → ℕ) (g : InRange v) (g′ : InRange w) (h : Holds f v) (x : ℕ) (hx : x < 16) (same : Except x v w) where
   -- Any value of x in a range.
   pub ranged-holds : (bottom top : ℕ) → bottom ≤ w x → w x ≤ top → Holds (ranged f x bottom top) w
   ranged-holds bottom top l m = rw (ranged-variable f x bottom top (omega arith))
-      (reassigned-holds f v w g g′ h x zeroVar (bias + top) (bias - bottom) (omega arith) (omega arith) same (omega (arith, g .zero-is)) (omega (arith, g .zero-is, g′ .below x)))
+      (reassigned-holds f v w g g′ h x zeroVar (bias + top) (bias - bottom) (omega arith) (omega arith) same (omega (arith, g .zero-is))
+      (omega (arith, g .zero-is, g′ .below x)))
 
   -- Any value of x.
   pub dropped-holds : Holds (dropped f x) w
   dropped-holds = rw (dropped-variable f x (omega arith))
-      (reassigned-holds f v w g g′ h x zeroVar (bias + maxValue) bias (omega arith) (omega arith) same (omega (arith, g .zero-is, g′ .below x)) (omega (arith, g .zero-is)))
+      (reassigned-holds f v w g g′ h x zeroVar (bias + maxValue) bias (omega arith) (omega arith) same (omega (arith, g .zero-is, g′ .below x))
+      (omega (arith, g .zero-is)))
 
   -- x raised by k.
   pub shifted-holds : (k : ℕ) → w x + bias ≡ v x + k → Holds (shifted f x k) w
@@ -150,7 +171,8 @@ module _ (f : FactSet) (v w : ℕ → ℕ) (g : InRange v) (g′ : InRange w) (h
 
 -- ---- join
 
-joined-sum-true : (b : Bool) (u w z p q to₁ to₂ from₁ from₂ : ℕ) → u ≤ maxValue → u + bias ≤ w + max p q → u + bias ≤ z + max to₁ to₂ → z + bias ≤ w + max from₁ from₂
+joined-sum-true : (b : Bool) (u w z p q to₁ to₂ from₁ from₂ : ℕ) → u ≤ maxValue
+    → u + bias ≤ w + max p q → u + bias ≤ z + max to₁ to₂ → z + bias ≤ w + max from₁ from₂
     → u + bias ≤ w + joinedSum b p q to₁ to₂ from₁ from₂
 unfolding joinedSum
 joined-sum-true true u w z p q to₁ to₂ from₁ from₂ r a b c = a
@@ -158,10 +180,12 @@ joined-sum-true false u w z p q to₁ to₂ from₁ from₂ r a b c = concat-tru
 
 module _ (pointer : ℕ → Bool) (f g : FactSet) (v : ℕ → ℕ) (r : InRange v) where
   -- The joined sums are true where every greater sum is.
-  joined-holds : f .contradiction ≡ false → g .contradiction ≡ false → ((x y : ℕ) → x < 17 → y < 17 → True v x y (max (sumAt f x y) (sumAt g x y))) → Holds (joined pointer f g) v
+  joined-holds : f .contradiction ≡ false → g .contradiction ≡ false → ((x y : ℕ) → x < 17 → y < 17 → True v x y (max (sumAt f x y) (sumAt g x y)))
+      → Holds (joined pointer f g) v
   joined-holds e d t = holds-of-sums (joined pointer f g) v (ap (λ (s : FactSet). s .contradiction) (joined-both pointer f g e d))
       (λ i j hi hj. rw (sum-joined f i j hi hj g pointer e d)
-      (joined-sum-true (related pointer i j) (v i) (v j) (v zeroVar) (sumAt f i j) (sumAt g i j) (sumAt f i zeroVar) (sumAt g i zeroVar) (sumAt f zeroVar j) (sumAt g zeroVar j)
+      (joined-sum-true (related pointer i j) (v i) (v j) (v zeroVar) (sumAt f i j) (sumAt g i j) (sumAt f i zeroVar) (sumAt g i zeroVar)
+      (sumAt f zeroVar j) (sumAt g zeroVar j)
       (r .below i) (t i j hi hj) (t i zeroVar hi (omega arith)) (t zeroVar j (omega arith) hj)))
 
   -- What is true of either side is true of the join.

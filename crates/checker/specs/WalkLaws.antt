@@ -26,7 +26,8 @@ use Rattle.blocks.specs.TreeLaws.{parse-none, parse-end, parse-some}
 use Rattle.blocks.specs.Layout.{also, when}
 use Rattle.rules.specs.States.{State}
 use Rattle.flow.specs.Targets.{targetsFrom}
-use Rattle.rules.specs.Stored.{factsAfter, conditionFacts, loopFacts, effect, unshown, bundleBounds, bundleFaults, blockFaults, boundsAfter, stateAfter, assumed, atHead, unshownIn, rowUnshown, declaredIn, bundleAfter, sidesJoined, blockAfter}
+use Rattle.rules.specs.Stored.{factsAfter, conditionFacts, loopFacts, effect, unshown, bundleBounds, bundleFaults, blockFaults, boundsAfter}
+use Rattle.rules.specs.Stored.{stateAfter, assumed, atHead, unshownIn, rowUnshown, declaredIn, bundleAfter, sidesJoined, blockAfter}
 use Rattle.rules.specs.BoundsRules.{inForce}
 use Rattle.rules.specs.Rules.{boundsAt, sameRows, rowsAt}
 use Rattle.rules.specs.Verdict.{verdictOf}
@@ -52,7 +53,8 @@ use Rattle.force.specs.Force.{stateOf, Forced, DeclaresRow}
 use Rattle.force.specs.ForceLaws.{pass, none-refused}
 use Rattle.force.specs.declared.Force.{Force}
 use Rattle.force.specs.declared.Declared.{Declared}
-use Rattle.bundles.specs.BundleLaws.{stops, ends, carry, also-assoc, applied-facts, applied-effect, lineFaults, declare-after, declare-keeps, nothing-asked, row-limits}
+use Rattle.bundles.specs.BundleLaws.{stops, ends, carry, also-assoc, applied-facts, applied-effect}
+use Rattle.bundles.specs.BundleLaws.{lineFaults, declare-after, declare-keeps, nothing-asked, row-limits}
 use Rattle.rules.specs.Rules as walkRules
 use Rattle.rules.specs.RuleLaws.{same-rows}
 
@@ -62,7 +64,8 @@ pub record Same (T : List ℤ) (h : Sections) (E : Environment) (b : Block) (v :
   pub left : blockAfter T h E b v ≡ blockAfter T h E c w
 
 -- The loop's invariant: a walk of what is left, from the facts now and what is in force now, is a walk of the whole.
-pub record Kept (T : List ℤ) (h : Sections) (E : Environment) (end allowed : ℕ) (b : Block) (w₀ : State FactSet) (at left : ℕ) (f : FactSet) (F : Force) : Type 0 where
+pub record Kept (T : List ℤ) (h : Sections) (E : Environment) (end allowed : ℕ) (b : Block) (w₀ : State FactSet)
+    (at left : ℕ) (f : FactSet) (F : Force) : Type 0 where
   pub same : Same T h E b w₀ (parse left T h at end) (stateOf f (F .rows .each))
   pub forced : Forced E (F .rows .each) F
   pub less : left ≤ allowed
@@ -71,15 +74,18 @@ pub kept-none : (T : List ℤ) (h : Sections) (E : Environment) (first end allow
     → Kept T h E end allowed (parse allowed T h first end) (stateOf f (F .rows .each)) first allowed f F
 kept-none T h E first end allowed f F o = record { same = record { blamed = refl; left = refl }; forced = o; less = omega arith }
 
-nil-passes : (T : List ℤ) (h : Sections) (E : Environment) (b : Block) (v : State FactSet) {w : Walked} → b ≡ nil → w .verdict ≡ Accepted → stateOf (w .facts) (w .rows .each) ≡ v → Walks T h E b v w
+nil-passes : (T : List ℤ) (h : Sections) (E : Environment) (b : Block) (v : State FactSet) {w : Walked} → b ≡ nil → w .verdict ≡ Accepted
+    → stateOf (w .facts) (w .rows .each) ≡ v → Walks T h E b v w
 unfolding walkRules.blockFaults walkRules.blockAfter
 nil-passes T h E b v e p q = rw e (ends refl p q)
 
-unread-stops : (T : List ℤ) (h : Sections) (E : Environment) (b : Block) (v : State FactSet) (a : ℕ) {w : Walked} → b ≡ unread a → w .verdict ≡ Refused (StatementRecord a) → Walks T h E b v w
+unread-stops : (T : List ℤ) (h : Sections) (E : Environment) (b : Block) (v : State FactSet) (a : ℕ) {w : Walked} → b ≡ unread a
+    → w .verdict ≡ Refused (StatementRecord a) → Walks T h E b v w
 unfolding walkRules.blockFaults verdictOf
 unread-stops T h E b v a e p = rw e (record { said = p; kept = λ q. let o : _≡_ {A = ℕ} 0 1 = cc in absurd (omega arith) })
 
-module _ {T : List ℤ} {h : Sections} {E : Environment} {end allowed : ℕ} {b : Block} {w₀ : State FactSet} {at left : ℕ} {f : FactSet} {F : Force} (k : Kept T h E end allowed b w₀ at left f F) where
+module _ {T : List ℤ} {h : Sections} {E : Environment} {end allowed : ℕ} {b : Block} {w₀ : State FactSet}
+    {at left : ℕ} {f : FactSet} {F : Force} (k : Kept T h E end allowed b w₀ at left f F) where
   walks : {w : Walked} → Walks T h E (parse left T h at end) (stateOf f (F .rows .each)) w → Walks T h E b w₀ w
   walks p = carry (k .same .blamed) (k .same .left) p
 
@@ -94,7 +100,8 @@ module _ {T : List ℤ} {h : Sections} {E : Environment} {end allowed : ℕ} {b 
     kept-unread e p = walks (unread-stops T h E _ _ at (parse-some left T h at end Unread some within e) p)
 
 -- A turn of the loop, once its statement is read.
-pub record Turn (T : List ℤ) (h : Sections) (E : Environment) (end allowed : ℕ) (b : Block) (w₀ : State FactSet) (at left : ℕ) (f : FactSet) (F : Force) (s : Statement) : Type 0 where
+pub record Turn (T : List ℤ) (h : Sections) (E : Environment) (end allowed : ℕ) (b : Block) (w₀ : State FactSet)
+    (at left : ℕ) (f : FactSet) (F : Force) (s : Statement) : Type 0 where
   pub so-far : Kept T h E end allowed b w₀ at left f F
   pub some : 0 < left
   pub within : at < end
@@ -120,7 +127,8 @@ module _ (T : List ℤ) (h : Sections) (E : Environment) (at left end : ℕ) (w 
   abbrev kindFaults : Statement → List Refusal
   kindFaults (Plain s) =
       also (boundsAt at (rowUnshown E (w .facts) (declaredIn E w) s))
-      (also (boundsAt at (unshownIn E (stateAfter s w) (boundsAfter (effect E (w .facts) s) (declaredIn E w)))) (blockFaults T h E (rest T h left (at + 1) end) (stateAfter s w)))
+      (also (boundsAt at (unshownIn E (stateAfter s w) (boundsAfter (effect E (w .facts) s) (declaredIn E w))))
+      (blockFaults T h E (rest T h left (at + 1) end) (stateAfter s w)))
   kindFaults (If c n m) =
       also (blockFaults T h E (rest T h left (at + 1) (at + 1 + n)) (assumed w c))
       (also (blockFaults T h E (rest T h left (at + 1 + n) (at + 1 + n + m)) (assumed w (negatedOf c)))
@@ -211,14 +219,17 @@ module _ {T : List ℤ} {h : Sections} {E : Environment} {end allowed : ℕ} {b 
 
   module _ (s : Statement) (u : Turn T h E end allowed b w₀ at left f F s) where
     here : blockFaults T h E b w₀ ≡ kindFaults T h E at left end (stateOf f (F .rows .each)) s
-    here = u .so-far .same .blamed ∙ (ap (λ (x : Block). blockFaults T h E x (stateOf f (F .rows .each))) (parse-some left T h at end _ (u .some) (u .within) (u .read)) ∙ faults-here T h E at left end (stateOf f (F .rows .each)) s)
+    here = u .so-far .same .blamed ∙ (ap (λ (x : Block). blockFaults T h E x (stateOf f (F .rows .each)))
+        (parse-some left T h at end _ (u .some) (u .within) (u .read)) ∙ faults-here T h E at left end (stateOf f (F .rows .each)) s)
 
     whole-after : blockAfter T h E b w₀ ≡ kindAfter T h E at left end (stateOf f (F .rows .each)) s
-    whole-after = u .so-far .same .left ∙ (ap (λ (x : Block). blockAfter T h E x (stateOf f (F .rows .each))) (parse-some left T h at end _ (u .some) (u .within) (u .read)) ∙ after-here T h E at left end (stateOf f (F .rows .each)) s)
+    whole-after = u .so-far .same .left ∙ (ap (λ (x : Block). blockAfter T h E x (stateOf f (F .rows .each)))
+        (parse-some left T h at end _ (u .some) (u .within) (u .read)) ∙ after-here T h E at left end (stateOf f (F .rows .each)) s)
 
   -- The next turn.
   next : {s : Statement} {x : ℕ} {g : FactSet} {G : Force} {i : State FactSet} → Turn T h E end allowed b w₀ at left f F s
-      → blockFaults T h E b w₀ ≡ blockFaults T h E (rest T h left x end) i → blockAfter T h E b w₀ ≡ blockAfter T h E (rest T h left x end) i → stateOf g (G .rows .each) ≡ i
+      → blockFaults T h E b w₀ ≡ blockFaults T h E (rest T h left x end) i → blockAfter T h E b w₀ ≡ blockAfter T h E (rest T h left x end) i
+      → stateOf g (G .rows .each) ≡ i
       → Forced E (G .rows .each) G → Kept T h E end allowed b w₀ x (left - 1) g G
   next {s} {x} u p q e o = record {
     same = record { blamed = p ∙ ap (blockFaults T h E (rest T h left x end)) (sym e); left = q ∙ ap (blockAfter T h E (rest T h left x end)) (sym e) };
@@ -233,14 +244,20 @@ module _ {T : List ℤ} {h : Sections} {E : Environment} {end allowed : ℕ} {b 
     still : stateAfter p (stateOf f (F .rows .each)) ≡ stateOf (factsAfter p f) (F .rows .each)
     still = ap (stateOf (factsAfter p f)) (rows-stay p (F .rows .each) n)
 
-    shown-here : v ≡ verdictOf (boundsAt at (unshownIn E (stateAfter p (stateOf f (F .rows .each))) (boundsAfter (effect E f p) (declaredIn E (stateOf f (F .rows .each))))))
+    shown-here : v ≡ verdictOf
+        (boundsAt at (unshownIn E (stateAfter p (stateOf f (F .rows .each))) (boundsAfter (effect E f p) (declaredIn E (stateOf f (F .rows .each))))))
     shown-here =
         z ∙ (ap (λ (x : Seen). verdictOf (boundsAt at (unshown (seenAs x) (d .facts) (boundsAfter (d .effect) (x .declared))))) (u .so-far .forced .seen)
-        ∙ (ap (λ (ps : List ℕ). verdictOf (boundsAt at ps)) (seen-unshown (inForce E (F .rows .each)) (d .facts) (boundsAfter (d .effect) (declaredIn E (stateOf f (F .rows .each)))))
-        ∙ (ap₂ (λ (g : FactSet) (x : Effect). verdictOf (boundsAt at (unshown (inForce E (F .rows .each)) g (boundsAfter x (declaredIn E (stateOf f (F .rows .each))))))) (applied-facts E f p e) (applied-effect E f p e)
-        ∙ ap (λ (w : State FactSet). verdictOf (boundsAt at (unshownIn E w (boundsAfter (effect E f p) (declaredIn E (stateOf f (F .rows .each))))))) (sym still))))
+        ∙ (ap (λ (ps : List ℕ). verdictOf (boundsAt at ps))
+        (seen-unshown (inForce E (F .rows .each)) (d .facts) (boundsAfter (d .effect) (declaredIn E (stateOf f (F .rows .each)))))
+        ∙ (ap₂ (λ (g : FactSet) (x : Effect). verdictOf (boundsAt at (unshown (inForce E (F .rows .each)) g
+        (boundsAfter x (declaredIn E (stateOf f (F .rows .each))))))) (applied-facts E f p e) (applied-effect E f p e)
+        ∙ ap (λ (w : State FactSet).
+        verdictOf (boundsAt at (unshownIn E w (boundsAfter (effect E f p) (declaredIn E (stateOf f (F .rows .each))))))) (sym still))))
 
-    plain-here : blockFaults T h E b w₀ ≡ also (boundsAt at (unshownIn E (stateAfter p (stateOf f (F .rows .each))) (boundsAfter (effect E f p) (declaredIn E (stateOf f (F .rows .each)))))) (blockFaults T h E (rest T h left (at + 1) end) (stateAfter p (stateOf f (F .rows .each))))
+    plain-here : blockFaults T h E b w₀
+        ≡ also (boundsAt at (unshownIn E (stateAfter p (stateOf f (F .rows .each))) (boundsAfter (effect E f p) (declaredIn E (stateOf f (F .rows .each))))))
+        (blockFaults T h E (rest T h left (at + 1) end) (stateAfter p (stateOf f (F .rows .each))))
     plain-here = here (Plain p) u ∙ pass _ _ (nothing-asked E f (declaredIn E (stateOf f (F .rows .each))) p at n)
 
     pub plain-refused : {w : Walked} {r : Refusal} → w .verdict ≡ v → v ≡ Refused r → Walks T h E b w₀ w
@@ -248,7 +265,8 @@ module _ {T : List ℤ} {h : Sections} {E : Environment} {end allowed : ℕ} {b 
 
     pub turn-plain : v ≡ Accepted → Kept T h E end allowed b w₀ (at + 1) (left - 1) (d .facts) F
     turn-plain x =
-        next u (plain-here ∙ pass _ _ (none-refused _ shown-here x)) (whole-after (Plain p) u) (ap (λ (g : FactSet). stateOf g (F .rows .each)) (applied-facts E f p e) ∙ sym still) (u .so-far .forced)
+        next u (plain-here ∙ pass _ _ (none-refused _ shown-here x)) (whole-after (Plain p) u)
+        (ap (λ (g : FactSet). stateOf g (F .rows .each)) (applied-facts E f p e) ∙ sym still) (u .so-far .forced)
 
   -- Nothing has to be shown again.
   pub turn-untouched : {p : Simple} → Turn T h E end allowed b w₀ at left f F (Plain p) → declaresOf p ≡ NoRow → {d : Applied}
@@ -257,19 +275,23 @@ module _ {T : List ℤ} {h : Sections} {E : Environment} {end allowed : ℕ} {b 
   unfolding boundsAt verdictOf
   turn-untouched u n {d} e y x =
       turn-plain u n e {v = Accepted}
-      (sym (ap (λ (ps : List ℕ). verdictOf (boundsAt at ps)) (unnamed (seenAs (F .seen)) (d .effect) (u .so-far .forced .named) (ap (λ (z : List Bool). touches (F .named .each) z (d .effect)) (ap (λ (s : Seen). s .pointers) (u .so-far .forced .seen) ∙ sym y) ∙ x) (d .facts)))) refl
+      (sym (ap (λ (ps : List ℕ). verdictOf (boundsAt at ps)) (unnamed (seenAs (F .seen)) (d .effect) (u .so-far .forced .named) (ap
+      (λ (z : List Bool). touches (F .named .each) z (d .effect)) (ap (λ (s : Seen). s .pointers) (u .so-far .forced .seen) ∙ sym y) ∙ x) (d .facts)))) refl
 
   -- Kind 14.
-  module _ {p : Simple} (u : Turn T h E end allowed b w₀ at left f F (Plain p)) {y r : ℕ} (n : declaresOf p ≡ Row y r) {d : Declared} (z : DeclaresRow E f (F .rows .each) y r at d) where
+  module _ {p : Simple} (u : Turn T h E end allowed b w₀ at left f F (Plain p)) {y r : ℕ} (n : declaresOf p ≡ Row y r)
+      {d : Declared} (z : DeclaresRow E f (F .rows .each) y r at d) where
     row-after : stateAfter p (stateOf f (F .rows .each)) ≡ stateOf f (set (F .rows .each) y (r + 1))
     row-after = ap (λ (s : Simple). stateAfter s (stateOf f (F .rows .each))) (row-named p y r n) ∙ declare-after y r f (F .rows .each)
 
-    row-here : blockFaults T h E b w₀ ≡ also (also (boundsAt at (rowUnshown E f (declaredIn E (stateOf f (F .rows .each))) (Declare y r))) (boundsAt at (unshown (inForce E (set (F .rows .each) y (r + 1))) f (boundsAfter Keep (declaredIn E (stateOf f (F .rows .each)))))))
+    row-here : blockFaults T h E b w₀ ≡ also (also (boundsAt at (rowUnshown E f (declaredIn E (stateOf f (F .rows .each))) (Declare y r)))
+        (boundsAt at (unshown (inForce E (set (F .rows .each) y (r + 1))) f (boundsAfter Keep (declaredIn E (stateOf f (F .rows .each)))))))
         (blockFaults T h E (rest T h left (at + 1) end) (stateOf f (set (F .rows .each) y (r + 1))))
     row-here =
         here (Plain p) u ∙ (ap (λ (s : Simple). kindFaults T h E at left end (stateOf f (F .rows .each)) (Plain s)) (row-named p y r n)
         ∙ (ap₂ (λ (w : State FactSet) (x : Effect). also (boundsAt at (rowUnshown E f (declaredIn E (stateOf f (F .rows .each))) (Declare y r)))
-        (also (boundsAt at (unshownIn E w (boundsAfter x (declaredIn E (stateOf f (F .rows .each)))))) (blockFaults T h E (rest T h left (at + 1) end) w))) (declare-after y r f (F .rows .each)) (declare-keeps E f y r)
+        (also (boundsAt at (unshownIn E w (boundsAfter x (declaredIn E (stateOf f (F .rows .each)))))) (blockFaults T h E (rest T h left (at + 1) end) w)))
+        (declare-after y r f (F .rows .each)) (declare-keeps E f y r)
         ∙ sym (also-assoc _ _ _)))
 
     pub row-refused : {w : Walked} {x : Refusal} → w .verdict ≡ d .verdict → d .verdict ≡ Refused x → Walks T h E b w₀ w
@@ -278,7 +300,8 @@ module _ {T : List ℤ} {h : Sections} {E : Environment} {end allowed : ℕ} {b 
     pub turn-row : d .verdict ≡ Accepted → Kept T h E end allowed b w₀ (at + 1) (left - 1) f (d .force)
     turn-row x =
         let o = z .kept x in
-        next u (row-here ∙ pass _ _ (none-refused _ (z .said) x)) (whole-after (Plain p) u ∙ ap (blockAfter T h E (rest T h left (at + 1) end)) row-after) (ap (stateOf f) (o .rows)) (forced-own o)
+        next u (row-here ∙ pass _ _ (none-refused _ (z .said) x)) (whole-after (Plain p) u ∙ ap (blockAfter T h E (rest T h left (at + 1) end)) row-after)
+        (ap (stateOf f) (o .rows)) (forced-own o)
 
   module _ {c : Condition} {n m : ℕ} (u : Turn T h E end allowed b w₀ at left f F (If c n m))
       {g : FactSet} (e : g ≡ conditionFacts f c) {r : Walked} (w : Walks T h E (rest T h left (at + 1) (at + 1 + n)) (stateOf g (F .rows .each)) r) where
@@ -303,23 +326,28 @@ module _ {T : List ℤ} {h : Sections} {E : Environment} {end allowed : ℕ} {b 
         else-clear : blockFaults T h E (rest T h left (at + 1 + n) (at + 1 + n + m)) (assumed (stateOf f (F .rows .each)) (negatedOf c)) ≡ []
         else-clear = none-refused _ (else-walk .said) x
 
-        sides-here : blockFaults T h E b w₀ ≡ also (rowsAt at (r .rows .each) (o .rows .each)) (blockFaults T h E (rest T h left (at + 1 + n + m) end) (sidesJoined T h E (stateOf (r .facts) (r .rows .each)) (stateOf (o .facts) (o .rows .each))))
+        sides-here : blockFaults T h E b w₀ ≡ also (rowsAt at (r .rows .each) (o .rows .each)) (blockFaults T h E (rest T h left (at + 1 + n + m) end)
+            (sidesJoined T h E (stateOf (r .facts) (r .rows .each)) (stateOf (o .facts) (o .rows .each))))
         sides-here =
             here (If c n m) u ∙ (pass _ _ then-clear ∙ (pass _ _ else-clear
-            ∙ ap₂ (λ (v w : State FactSet). also (rowsAt at (v .rows) (w .rows)) (blockFaults T h E (rest T h left (at + 1 + n + m) end) (sidesJoined T h E v w))) (sym (then-walk .kept then-clear)) (sym (else-walk .kept else-clear))))
+            ∙ ap₂ (λ (v w : State FactSet). also (rowsAt at (v .rows) (w .rows)) (blockFaults T h E (rest T h left (at + 1 + n + m) end)
+            (sidesJoined T h E v w))) (sym (then-walk .kept then-clear)) (sym (else-walk .kept else-clear))))
 
         pub sides-differ : {w : Walked} → s ≡ false → w .verdict ≡ Refused (RowsDiffer at) → Walks T h E b w₀ w
         sides-differ t v = stops _ _ sides-here (v ∙ rows-refused at (r .rows .each) (o .rows .each) (sym l ∙ t)) v
 
-        pub turn-if : {y : FactSet} {G : Force} → s ≡ true → {P : List Bool} → P ≡ E .pointers → y ≡ joined (λ v. getD P v false) (r .facts) (o .facts) → Forced E (r .rows .each) G
+        pub turn-if : {y : FactSet} {G : Force} → s ≡ true → {P : List Bool} → P ≡ E .pointers → y ≡ joined (λ v. getD P v false) (r .facts) (o .facts)
+            → Forced E (r .rows .each) G
             → Kept T h E end allowed b w₀ (at + 1 + n + m) (left - 1) y G
         turn-if t {P} p y a =
             next u (sides-here ∙ pass _ _ (rows-clear at (r .rows .each) (o .rows .each) (sym l ∙ t)))
-            (whole-after (If c n m) u ∙ ap₂ (λ (v w : State FactSet). blockAfter T h E (rest T h left (at + 1 + n + m) end) (sidesJoined T h E v w)) (sym (then-walk .kept then-clear)) (sym (else-walk .kept else-clear)))
+            (whole-after (If c n m) u ∙ ap₂ (λ (v w : State FactSet). blockAfter T h E (rest T h left (at + 1 + n + m) end) (sidesJoined T h E v w))
+            (sym (then-walk .kept then-clear)) (sym (else-walk .kept else-clear)))
             (ap₂ stateOf (y ∙ ap (λ (Q : List Bool). joined (λ v. getD Q v false) (r .facts) (o .facts)) p) (a .rows)) (forced-own a)
 
   module _ {c : Condition} {n : ℕ} (u : Turn T h E end allowed b w₀ at left f F (While c n))
-      {l : FactSet} (y : l ≡ loopFacts (targetsFrom T h (at + 1) n) f) {g : FactSet} (e : g ≡ conditionFacts l c) {r : Walked} (w : Walks T h E (rest T h left (at + 1) (at + 1 + n)) (stateOf g (F .rows .each)) r) where
+      {l : FactSet} (y : l ≡ loopFacts (targetsFrom T h (at + 1) n) f) {g : FactSet} (e : g ≡ conditionFacts l c)
+      {r : Walked} (w : Walks T h E (rest T h left (at + 1) (at + 1 + n)) (stateOf g (F .rows .each)) r) where
     body-walk : Walks T h E (rest T h left (at + 1) (at + 1 + n)) (assumed (head-state T h E at left end (stateOf f (F .rows .each)) n) c) r
     body-walk = rw (e, y) at w
 
@@ -330,22 +358,26 @@ module _ {T : List ℤ} {h : Sections} {E : Environment} {end allowed : ℕ} {b 
       body-clear : blockFaults T h E (rest T h left (at + 1) (at + 1 + n)) (assumed (head-state T h E at left end (stateOf f (F .rows .each)) n) c) ≡ []
       body-clear = none-refused _ (body-walk .said) x
 
-      loop-here : blockFaults T h E b w₀ ≡ also (rowsAt at (F .rows .each) (r .rows .each)) (blockFaults T h E (rest T h left (at + 1 + n) end) (assumed (head-state T h E at left end (stateOf f (F .rows .each)) n) (negatedOf c)))
+      loop-here : blockFaults T h E b w₀ ≡ also (rowsAt at (F .rows .each) (r .rows .each))
+          (blockFaults T h E (rest T h left (at + 1 + n) end) (assumed (head-state T h E at left end (stateOf f (F .rows .each)) n) (negatedOf c)))
       loop-here =
           here (While c n) u ∙ (pass _ _ body-clear
-          ∙ ap (λ (v : State FactSet). also (rowsAt at (F .rows .each) (v .rows)) (blockFaults T h E (rest T h left (at + 1 + n) end) (assumed (head-state T h E at left end (stateOf f (F .rows .each)) n) (negatedOf c)))) (sym (body-walk .kept body-clear)))
+          ∙ ap (λ (v : State FactSet). also (rowsAt at (F .rows .each) (v .rows)) (blockFaults T h E (rest T h left (at + 1 + n) end)
+          (assumed (head-state T h E at left end (stateOf f (F .rows .each)) n) (negatedOf c)))) (sym (body-walk .kept body-clear)))
 
       pub ends-differ : {w : Walked} → s ≡ false → w .verdict ≡ Refused (RowsDiffer at) → Walks T h E b w₀ w
       ends-differ t v = stops _ _ loop-here (v ∙ rows-refused at (F .rows .each) (r .rows .each) (sym o ∙ t)) v
 
-      pub turn-while : {d : Condition} {i : FactSet} → s ≡ true → d ≡ negatedOf c → i ≡ conditionFacts l d → Kept T h E end allowed b w₀ (at + 1 + n) (left - 1) i F
+      pub turn-while : {d : Condition} {i : FactSet} → s ≡ true → d ≡ negatedOf c → i ≡ conditionFacts l d
+          → Kept T h E end allowed b w₀ (at + 1 + n) (left - 1) i F
       turn-while t j k =
           next u (loop-here ∙ pass _ _ (rows-clear at (F .rows .each) (r .rows .each) (sym o ∙ t))) (whole-after (While c n) u)
           (ap (λ (g : FactSet). stateOf g (F .rows .each)) (k ∙ ap₂ conditionFacts y j)) (u .so-far .forced)
 
   module _ {n : ℕ} (u : Turn T h E end allowed b w₀ at left f F (Bundle n))
       {r : Walked} (w : WalksBundle E at (simples n T h (at + 1)) (stateOf f (F .rows .each)) (declaredIn E (stateOf f (F .rows .each))) r) where
-    bundle-here : blockFaults T h E b w₀ ≡ also (lineFaults E at (at + 1) (simples n T h (at + 1)) (stateOf f (F .rows .each)) (declaredIn E (stateOf f (F .rows .each)))) (blockFaults T h E (rest T h left (at + 1 + n) end) (bundleAfter (simples n T h (at + 1)) (stateOf f (F .rows .each))))
+    bundle-here : blockFaults T h E b w₀ ≡ also (lineFaults E at (at + 1) (simples n T h (at + 1)) (stateOf f (F .rows .each)) (declaredIn E
+        (stateOf f (F .rows .each)))) (blockFaults T h E (rest T h left (at + 1 + n) end) (bundleAfter (simples n T h (at + 1)) (stateOf f (F .rows .each))))
     bundle-here = here (Bundle n) u ∙ sym (also-assoc _ _ _)
 
     pub bundle-refused : {v : Refusal} → r .verdict ≡ Refused v → Walks T h E b w₀ r

@@ -30,9 +30,10 @@ ghost use Rattle.rules.specs.Ranges.{Measured};
 ghost use Rattle.force.specs.Force.{stateOf, Framed, Forced};
 ghost use Rattle.checker.specs.Walk.{Walks};
 
-// The block of `first` to `end` - 1 from the facts `given` and what is in force, `begun`. `allowed` is at least the number of its statements; it falls at each. The fact set is changed in
-// place by its own methods alone: a function in between would copy it in and out. Its frame stands on the stack once for each depth, and each local has a place
-// of its own there: `now` is the state of this block, `side` what a nested one is walked from and then what it leaves; nothing else is large.
+// The block of `first` to `end` - 1 from the facts `given` and what is in force, `begun`. `allowed` is at least the number of its statements; it falls at each.
+// The fact set is changed in place by its own methods alone: a function in between would copy it in and out. Its frame stands on the stack once for each depth,
+// and each local has a place of its own there: `now` is the state of this block, `side` what a nested one is walked from and then what it leaves; nothing else
+// is large.
 pub(crate) fn walk(
     table: &[i32],
     sections: Sections,
@@ -43,8 +44,10 @@ pub(crate) fn walk(
     allowed: usize,
     given: FactSet,
 ) -> Walked
-    requires { ⌜ Measured (environmentOf (now table) sections) × Framed (environmentOf (now table) sections) frame × Forced (environmentOf (now table) sections) (begun .rows .each) begun ⌝ }
-    ensures { λ r. ⌜ Walks (now (table .entry)) sections (environmentOf (now (table .entry)) sections) (parse allowed (now (table .entry)) sections first end) (stateOf given (begun .rows .each)) r ⌝ }
+    requires { ⌜ Measured (environmentOf (now table) sections) × Framed (environmentOf (now table) sections) frame
+        × Forced (environmentOf (now table) sections) (begun .rows .each) begun ⌝ }
+    ensures { λ r. ⌜ Walks (now (table .entry)) sections (environmentOf (now (table .entry)) sections) (parse allowed (now (table .entry)) sections first end)
+        (stateOf given (begun .rows .each)) r ⌝ }
 {
     let sizes = frame.sizes;
     let spans = frame.spans;

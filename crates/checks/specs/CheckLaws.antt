@@ -25,14 +25,16 @@ relates-else (suc (suc (suc (suc (suc r))))) x y a b c d e = refl
 
 -- The first of the checks that fails.
 module _ (at next : ℕ) where
-  access-picked : (x y z : Bool) → cond x (Stop (NullAccess at)) (cond y (Stop (OutOfBounds at)) (cond z (Stop (Terminator at)) (Go next))) ≡ stepUnless (firstOf x 2 (firstOf y 3 (firstOf z 6 none))) at next
+  access-picked : (x y z : Bool) → cond x (Stop (NullAccess at))
+      (cond y (Stop (OutOfBounds at)) (cond z (Stop (Terminator at)) (Go next))) ≡ stepUnless (firstOf x 2 (firstOf y 3 (firstOf z 6 none))) at next
   unfolding stepUnless
   access-picked true y z = refl
   access-picked false true z = refl
   access-picked false false true = refl
   access-picked false false false = refl
 
-  arithmetic-picked : (x y : Bool) → cond x (Stop (NullArithmetic at)) (cond y (Stop (AddressRange at)) (Go next)) ≡ stepUnless (firstOf x 4 (firstOf y 5 none)) at next
+  arithmetic-picked : (x y : Bool)
+      → cond x (Stop (NullArithmetic at)) (cond y (Stop (AddressRange at)) (Go next)) ≡ stepUnless (firstOf x 4 (firstOf y 5 none)) at next
   unfolding stepUnless
   arithmetic-picked true y = refl
   arithmetic-picked false true = refl
@@ -40,20 +42,23 @@ module _ (at next : ℕ) where
 
   -- Checks 4 and 5.
   pub arithmetic-step : (q a : ℕ) →
-      cond (eqb q 0) (Stop (NullArithmetic at)) (cond (leb a bias || ltb (bias + maxValue) a) (Stop (AddressRange at)) (Go next)) ≡ stepUnless (arithmeticFailing q a) at next
+      cond (eqb q 0) (Stop (NullArithmetic at))
+      (cond (leb a bias || ltb (bias + maxValue) a) (Stop (AddressRange at)) (Go next)) ≡ stepUnless (arithmeticFailing q a) at next
   unfolding arithmeticFailing
   arithmetic-step q a = arithmetic-picked (eqb q 0) (leb a bias || ltb (bias + maxValue) a)
 
   -- Checks 2, 3 and 6, by the ends in the slice W.
   pub access-step : (W vs : List ℕ) (p a x : ℕ) → p < 16 →
       cond (eqb (value vs p) 0) (Stop (NullAccess at))
-      (cond (ltb a (endValue vs (sizeIn W p) (endIn W (6 * p))) || beyond (stringIn W p) (endValue vs (sizeIn W p) (endIn W (6 * p + 3))) a) (Stop (OutOfBounds at))
+      (cond (ltb a (endValue vs (sizeIn W p) (endIn W (6 * p)))
+      || beyond (stringIn W p) (endValue vs (sizeIn W p) (endIn W (6 * p + 3))) a) (Stop (OutOfBounds at))
       (cond (eqb a (endValue vs (sizeIn W p) (endIn W (6 * p + 3))) && not (eqb x 0)) (Stop (Terminator at)) (Go next)))
       ≡ stepUnless (storeFailing (declaredIn W) vs p a x) at next
   unfolding accessFailing terminatorFailing declaredIn
   access-step W vs p a x few =
       rw (getD-tabulate 16 (boundsIn W) p nothingKnown few, getD-tabulate 16 (stringIn W) p false few, getD-tabulate 16 (sizeIn W) p 1 few)
-      (access-picked (eqb (value vs p) 0) (ltb a (endValue vs (sizeIn W p) (endIn W (6 * p))) || beyond (stringIn W p) (endValue vs (sizeIn W p) (endIn W (6 * p + 3))) a)
+      (access-picked (eqb (value vs p) 0)
+      (ltb a (endValue vs (sizeIn W p) (endIn W (6 * p))) || beyond (stringIn W p) (endValue vs (sizeIn W p) (endIn W (6 * p + 3))) a)
       (eqb a (endValue vs (sizeIn W p) (endIn W (6 * p + 3))) && not (eqb x 0)))
 
 -- The element size of a pointer, as the slice has it.

@@ -33,7 +33,8 @@ module _ (table : List ℤ) (h : Sections) where
       (either (namesInteger table h v && namesInteger table h w) (namesArray table h v && namesArray table h w) j))
       (λ (i : (namesString table h v && namesString table h w) ≡ true).
       let p = both (namesString table h v) (namesString table h w) i in pointers (string-named table h v (p .0)) (string-named table h w (p .1)) refl)
-      (either (namesInteger table h v && namesInteger table h w || namesArray table h v && namesArray table h w) (namesString table h v && namesString table h w) e)
+      (either (namesInteger table h v && namesInteger table h w || namesArray table h v && namesArray table h w)
+      (namesString table h v && namesString table h w) e)
 
   literal-sides : (v w : ℕ) → besideLiteral table h v w ≡ true → Sides table h (plain v) zeroVar (literalValue w)
   unfolding besideLiteral literalValue
@@ -48,7 +49,8 @@ module _ (table : List ℤ) (h : Sections) where
   pub condition-typed : (f : Fields) → conditionRight table h f ≡ true → ConditionTyped table h (conditionOf f)
   unfolding conditionRight conditionOf rightOf offsetOf
   condition-typed f e =
-      let p = both (isBelow 6 (f .second)) (isZero (f .third) && sameKind table h (f .first) (f .fourth) || eqb (f .third) (bias + 1) && besideLiteral table h (f .first) (f .fourth)) e in
+      let p = both (isBelow 6 (f .second))
+      (isZero (f .third) && sameKind table h (f .first) (f .fourth) || eqb (f .third) (bias + 1) && besideLiteral table h (f .first) (f .fourth)) e in
       record { relation = below-holds 6 (f .second) (p .0); sides = go (eqb (f .third) bias) refl (p .1) }
     where
       go : (b : Bool) → eqb (f .third) bias ≡ b →

@@ -2,7 +2,8 @@
 use mathlib.Core.Bool.{Bool, false, _&&_}
 use lib.Dec.{eqb}
 use Rattle.statements.specs.declared.Simple.{Simple}
-use Rattle.statements.specs.declared.Simple.the-variants.{Literal, AddConstant, Arithmetic, Null, Address, PointerOffset, PointerIndex, Load, Store, Check, Declare}
+use Rattle.statements.specs.declared.Simple.the-variants.{Literal, AddConstant, Arithmetic, Null, Address}
+use Rattle.statements.specs.declared.Simple.the-variants.{PointerOffset, PointerIndex, Load, Store, Check, Declare}
 use Rattle.rules.specs.Stored.{sameEnd}
 use Rattle.rules.specs.declared.KnownEnd.{KnownEnd}
 use Rattle.rules.specs.declared.KnownEnd.the-variants.{Known, Unknown}

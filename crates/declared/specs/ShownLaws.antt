@@ -15,7 +15,8 @@ use Rattle.facts.specs.declared.FactSet.{FactSet}
 use Rattle.refusals.specs.declared.Refusal.the-variants.{BoundsNotShown}
 use Rattle.sections.specs.SectionsLaws.{both}
 use Rattle.statements.specs.declared.Simple.{Simple}
-use Rattle.statements.specs.declared.Simple.the-variants.{Literal, AddConstant, Arithmetic, Null, Address, PointerOffset, PointerIndex, Load, Store, Check, Declare}
+use Rattle.statements.specs.declared.Simple.the-variants.{Literal, AddConstant, Arithmetic, Null, Address}
+use Rattle.statements.specs.declared.Simple.the-variants.{PointerOffset, PointerIndex, Load, Store, Check, Declare}
 use Rattle.rules.specs.BoundsRules.{isPointer, declared, known, consIf, rowBound, rowsAfter}
 use Rattle.rules.specs.Stored.{endAtMost, knownAtMost, boundsShown, unshownFrom, unshown, accessShown, rowUnshown}
 use Rattle.rules.specs.Rules.{boundsAt}
@@ -65,7 +66,8 @@ unfolding sameKnown boundsRules.knownAtMost boundsRules.endAtMost
 same-at-most f s t Unknown b z h = absurd (false≢true h)
 same-at-most f s t (Known e) Unknown z h = absurd (false≢true h)
 same-at-most f s t (Known e) (Known g) z h =
-    ap₂ (λ (a b : Bool). (a || eqb (e .integer) zeroVar && eqb (g .integer) zeroVar) && (b || endShown f s (e .pointer) (e .integer) (e .constant) (g .pointer) (g .integer) (g .constant))) z h
+    ap₂ (λ (a b : Bool). (a || eqb (e .integer) zeroVar && eqb (g .integer) zeroVar)
+    && (b || endShown f s (e .pointer) (e .integer) (e .constant) (g .pointer) (g .integer) (g .constant))) z h
 
 pub same-shown : (f : FactSet) (p : ℕ) (k d : Bounds) → sameBounds k d ≡ true → boundsShown f p k d ≡ true
 unfolding sameBounds
@@ -82,7 +84,8 @@ same-shown f p k d h =
 unfoldable pub missed : Environment → FactSet → List Bounds → ℕ → Bool
 missed E f K p = isPointer E p && not (boundsShown f p (known K p) (declared E p))
 
-unshown-some : (E : Environment) (f : FactSet) (K : List Bounds) (n p : ℕ) → 0 < n → unshownFrom E f K n p ≡ consIf (missed E f K p) p (unshownFrom E f K (n - 1) (p + 1))
+unshown-some : (E : Environment) (f : FactSet) (K : List Bounds) (n p : ℕ) → 0 < n
+    → unshownFrom E f K n p ≡ consIf (missed E f K p) p (unshownFrom E f K (n - 1) (p + 1))
 unfolding boundsRules.unshownFrom missed
 unshown-some E f K zero p h = absurd (omega arith)
 unshown-some E f K (suc n) p h = rw sub-one
@@ -108,7 +111,8 @@ module _ {E : Environment} {f : FactSet} {K : List Bounds} {p : ℕ} (q : Passed
 
   pub passed-missed : (a : ℕ) → p < 16 → missed E f K p ≡ true → Refused (BoundsNotShown a p) ≡ verdictOf (boundsAt a (unshown E f K))
   unfolding verdictOf boundsAt
-  passed-missed a h e = sym (ap (λ (ps : List ℕ). verdictOf (boundsAt a ps)) (q .same ∙ (unshown-some E f K (16 - p) p (omega arith) ∙ ap (λ (b : Bool). consIf b p (unshownFrom E f K (16 - p - 1) (p + 1))) e)))
+  passed-missed a h e = sym (ap (λ (ps : List ℕ). verdictOf (boundsAt a ps))
+      (q .same ∙ (unshown-some E f K (16 - p) p (omega arith) ∙ ap (λ (b : Bool). consIf b p (unshownFrom E f K (16 - p - 1) (p + 1))) e)))
 
   pub passed-all : (a : ℕ) → 16 ≤ p → Accepted ≡ verdictOf (boundsAt a (unshown E f K))
   unfolding verdictOf boundsAt boundsRules.unshownFrom
@@ -130,7 +134,8 @@ missed-unasked true false c t k = absurd (false≢true (sym t))
 missed-unasked false b c t k = refl
 
 -- A pointer with the known bounds k: it is asked only where they are not the declared ones.
-module _ (E : Environment) (f : FactSet) (K : List Bounds) (p : ℕ) (d : p < length (E .declared)) {k : Bounds} (e : k ≡ known K p) {same : Bool} (w : same ≡ sameBounds k (stored (E .declared) p)) where
+module _ (E : Environment) (f : FactSet) (K : List Bounds) (p : ℕ) (d : p < length (E .declared)) {k : Bounds} (e : k ≡ known K p)
+    {same : Bool} (w : same ≡ sameBounds k (stored (E .declared) p)) where
   pub unasked : (isPointer E p && not same) ≡ false → missed E f K p ≡ false
   unfolding missed
   unasked t =
@@ -222,7 +227,8 @@ no-row-asked E f K (Store p i k x) e = refl
 no-row-asked E f K (Check c) e = refl
 no-row-asked E f K (Declare p r) e = let o : _≡_ {A = ℕ} 0 1 = cc in absurd (omega arith)
 
-module _ (E : Environment) (f : FactSet) (K : List Bounds) (p r a : ℕ) {n d : Bounds} {b : Bool} (i : n ≡ known K p) (j : d ≡ rowBound E (r + 1) p) (e : b ≡ boundsShown f p n d) where
+module _ (E : Environment) (f : FactSet) (K : List Bounds) (p r a : ℕ) {n d : Bounds} {b : Bool} (i : n ≡ known K p) (j : d ≡ rowBound E (r + 1) p)
+    (e : b ≡ boundsShown f p n d) where
   row-asked : b ≡ boundsShown f p (known K p) (rowBound E (r + 1) p)
   row-asked = rw (i, j) at e
 

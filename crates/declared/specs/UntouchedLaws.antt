@@ -56,7 +56,8 @@ module _ (E : Environment) (e : Effect) (other : isPointer E (replacedBy e) ≡ 
       apart i q = false≢true (sym (rw q other) ∙ i)
 
       kept : isPointer E p ≡ true → boundsStay (changedBy e) (declared E p) ≡ true → known (boundsAfter e (E .declared)) p ≡ declared E p
-      kept i s = known-after e (E .declared) p h ∙ stays-known e (E .declared) p (sym (left-alone e p (declared E p) h) ∙ rw (ne-eqb p (replacedBy e) (apart i), s) refl)
+      kept i s = known-after e (E .declared) p h
+          ∙ stays-known e (E .declared) p (sym (left-alone e p (declared E p) h) ∙ rw (ne-eqb p (replacedBy e) (apart i), s) refl)
 
       go : (a : Bool) → isPointer E p ≡ a → (b : Bool) → boundsStay (changedBy e) (declared E p) ≡ b
           → (isPointer E p && not (boundsShown f p (known (boundsAfter e (E .declared)) p) (declared E p))) ≡ false
@@ -79,7 +80,8 @@ flag-clear E v c = go (ltb v 18) refl
   where
     go : (b : Bool) → ltb v 18 ≡ b → touched E (Forget v) ≡ false
     go true h = sym (getD-tabulate 18 (λ (m : ℕ). touched E (Forget m)) v true (ltb-true v 18 h)) ∙ c
-    go false h = absurd (false≢true (sym c ∙ List·getD-eq-default (tabulate 18 (λ (m : ℕ). touched E (Forget m))) true {n = v} (omega (arith, ltb-false v 18 h, length-tabulate 18 (λ (m : ℕ). touched E (Forget m))))))
+    go false h = absurd (false≢true (sym c ∙ List·getD-eq-default (tabulate 18 (λ (m : ℕ). touched E (Forget m))) true
+        {n = v} (omega (arith, ltb-false v 18 h, length-tabulate 18 (λ (m : ℕ). touched E (Forget m))))))
 
 -- What the flags tell not to be touched need not be shown again, whatever the facts.
 pub unnamed : (E : Environment) (e : Effect) {named : List Bool} → named ≡ namedIn E → touches named (E .pointers) e ≡ false → (f : FactSet)

@@ -10,7 +10,8 @@ use Rattle.words.specs.declared.Fields.{Fields}
 use Rattle.fields.specs.Fields.{plain, literalValue, isZero}
 use Rattle.sections.specs.declared.Sections.{Sections}
 use Rattle.conditions.specs.declared.Condition.{Condition}
-use Rattle.statements.specs.declared.Simple.the-variants.{Literal, AddConstant, Arithmetic, Null, Address, PointerOffset, PointerIndex, Load, Store, Check, Declare}
+use Rattle.statements.specs.declared.Simple.the-variants.{Literal, AddConstant, Arithmetic, Null, Address}
+use Rattle.statements.specs.declared.Simple.the-variants.{PointerOffset, PointerIndex, Load, Store, Check, Declare}
 use Rattle.statements.specs.declared.Statement.{Statement}
 use Rattle.statements.specs.declared.Statement.the-variants.{Plain, If, While, Bundle}
 
@@ -31,7 +32,12 @@ decodedOffset form w = cond (isZero form) 0 (literalValue w)
 
 unfoldable pub decodedCondition : Fields → Condition
 decodedCondition f =
-    record { left = unsigned (f .first); relation = unsigned (f .second); right = decodedRight (f .third) (f .fourth); offset = decodedOffset (f .third) (f .fourth) }
+    record {
+      left = unsigned (f .first);
+      relation = unsigned (f .second);
+      right = decodedRight (f .third) (f .fourth);
+      offset = decodedOffset (f .third) (f .fourth);
+    }
 
 -- The kinds by their number, fields in the order that the paper names. A kind that is none of 1 to 13 is taken for 14. Counts, which
 -- a run does not look at, are as they are read.

@@ -12,13 +12,15 @@ use Rattle.sums.specs.Numbers.{bias, zeroVar}
 use Rattle.words.specs.Words.{fieldsAt}
 use Rattle.words.specs.declared.Fields.{Fields}
 use Rattle.fields.specs.Fields.{plain, indexOf, literalValue, isZero, isCount, isBelow, isConstant}
-use Rattle.sections.specs.Sections.{inLimits, statementStart, integerAt, pointerAt, namesInteger, namesPointer, namesIndex, takesPointer, takesObject, namesArray, namesString}
+use Rattle.sections.specs.Sections.{inLimits, statementStart, integerAt, pointerAt, namesInteger, namesPointer}
+use Rattle.sections.specs.Sections.{namesIndex, takesPointer, takesObject, namesArray, namesString}
 use Rattle.sections.specs.SectionsLaws.{both}
 use Rattle.sections.specs.NameLaws.{either, integer-limits, pointer-limits, array-names, string-names}
 use Rattle.sections.specs.declared.Sections.{Sections}
 use Rattle.conditions.specs.Conditions.{sameKind, besideLiteral, conditionRight, rightOf, offsetOf, conditionOf}
 use Rattle.conditions.specs.declared.Condition.{Condition}
-use Rattle.statements.specs.Statements.{readIf, unusedFrom, literalRead, addConstantRead, arithmeticRead, nullRead, addressRead, pointerOffsetRead, pointerIndexRead, loadRead, storeRead, checkRead, ifRead, whileRead, bundleRead, kindRead, statementAt, declareRead}
+use Rattle.statements.specs.Statements.{readIf, unusedFrom, literalRead, addConstantRead, arithmeticRead, nullRead, addressRead, pointerOffsetRead}
+use Rattle.statements.specs.Statements.{pointerIndexRead, loadRead, storeRead, checkRead, ifRead, whileRead, bundleRead, kindRead, statementAt, declareRead}
 use Rattle.statements.specs.StatementLaws.{read-limits}
 use Rattle.statements.specs.declared.Statement.{Statement}
 use Rattle.statements.specs.declared.StatementRead.{StatementRead}
@@ -86,11 +88,14 @@ module _ (table : List ℤ) (h : Sections) where
       (λ (i : (namesInteger table h v && namesInteger table h w) ≡ true).
       let p = both (namesInteger table h v) (namesInteger table h w) i in (integer-unsigned v (p .0), integer-unsigned w (p .1)))
       (λ (i : (namesArray table h v && namesArray table h w) ≡ true).
-      let p = both (namesArray table h v) (namesArray table h w) i in (pointer-unsigned v (array-names table h v (p .0)), pointer-unsigned w (array-names table h w (p .1))))
+      let p = both (namesArray table h v) (namesArray table h w) i in
+      (pointer-unsigned v (array-names table h v (p .0)), pointer-unsigned w (array-names table h w (p .1))))
       (either (namesInteger table h v && namesInteger table h w) (namesArray table h v && namesArray table h w) j))
       (λ (i : (namesString table h v && namesString table h w) ≡ true).
-      let p = both (namesString table h v) (namesString table h w) i in (pointer-unsigned v (string-names table h v (p .0)), pointer-unsigned w (string-names table h w (p .1))))
-      (either (namesInteger table h v && namesInteger table h w || namesArray table h v && namesArray table h w) (namesString table h v && namesString table h w) e)
+      let p = both (namesString table h v) (namesString table h w) i in
+      (pointer-unsigned v (string-names table h v (p .0)), pointer-unsigned w (string-names table h w (p .1))))
+      (either (namesInteger table h v && namesInteger table h w || namesArray table h v && namesArray table h w)
+      (namesString table h v && namesString table h w) e)
 
   beside-unsigned : (v w : ℕ) → besideLiteral table h v w ≡ true → unsigned v ≡ plain v
   unfolding besideLiteral
@@ -118,7 +123,8 @@ module _ (table : List ℤ) (h : Sections) where
   condition-unsigned : (f : Fields) → conditionRight table h f ≡ true → decodedCondition f ≡ conditionOf f
   unfolding conditionRight decodedCondition conditionOf
   condition-unsigned f e =
-      let p = both (isBelow 6 (f .second)) (isZero (f .third) && sameKind table h (f .first) (f .fourth) || eqb (f .third) (bias + 1) && besideLiteral table h (f .first) (f .fourth)) e in
+      let p = both (isBelow 6 (f .second))
+      (isZero (f .third) && sameKind table h (f .first) (f .fourth) || eqb (f .third) (bias + 1) && besideLiteral table h (f .first) (f .fourth)) e in
       let s = sides-unsigned (f .third) (f .first) (f .fourth) (p .1) in
       condition-same _ _ _ _ _ _ _ _ (s .0) (below-unsigned 6 (f .second) (omega arith) (p .0)) (s .1) (s .2)
 
@@ -198,22 +204,51 @@ module _ (table : List ℤ) (h : Sections) (f : Fields) (t : Statement) where
       (λ e. let z : _≡_ {A = ℕ} 0 1 = cc in absurd (omega arith)))))))))))))))
 
   kind-decoded : kindRead table h f ≡ Read t → decodedAs kind f ≡ t
-  unfolding kindRead decodedAs literalRead addConstantRead arithmeticRead nullRead addressRead pointerOffsetRead pointerIndexRead loadRead storeRead checkRead ifRead whileRead bundleRead declareRead
+  unfolding kindRead decodedAs literalRead addConstantRead arithmeticRead nullRead addressRead pointerOffsetRead pointerIndexRead loadRead storeRead checkRead
+      ifRead whileRead bundleRead declareRead
   kind-decoded =
-      either-record (eqb kind 1) _ _ _ _ t (read-as (integer (f .first) && unusedFrom 3 f) _ _ t (λ e. let p = both (integer (f .first)) (unusedFrom 3 f) e in rw (integer-unsigned table h (f .first) (p .0))))
-      (either-record (eqb kind 2) _ _ _ _ t (read-as (integer (f .first) && integer (f .second) && isConstant (f .third) && unusedFrom 4 f) _ _ t (λ e. let p = both₄ (integer (f .first)) (integer (f .second)) (isConstant (f .third)) (unusedFrom 4 f) e in rw (integer-unsigned table h (f .first) (p .0), integer-unsigned table h (f .second) (p .1))))
-      (either-record (eqb kind 3) _ _ _ _ t (read-as (integer (f .first) && integer (f .second) && integer (f .third) && isBelow 3 (f .fourth) && unusedFrom 5 f) _ _ t (λ e. let p = both₅ (integer (f .first)) (integer (f .second)) (integer (f .third)) (isBelow 3 (f .fourth)) (unusedFrom 5 f) e in rw (integer-unsigned table h (f .first) (p .0), integer-unsigned table h (f .second) (p .1), integer-unsigned table h (f .third) (p .2), below-unsigned 3 (f .fourth) (omega arith) (p .3))))
-      (either-record (eqb kind 4) _ _ _ _ t (read-as (pointer (f .first) && unusedFrom 2 f) _ _ t (λ e. let p = both (pointer (f .first)) (unusedFrom 2 f) e in rw (pointer-unsigned table h (f .first) (p .0))))
-      (either-record (eqb kind 5) _ _ _ _ t (read-as (pointer (f .first) && isBelow (h .objects) (f .second) && takesObject table h (f .first) (f .second) && unusedFrom 3 f) _ _ t (λ e. let p = both₄ (pointer (f .first)) (isBelow (h .objects) (f .second)) (takesObject table h (f .first) (f .second)) (unusedFrom 3 f) e in rw (pointer-unsigned table h (f .first) (p .0), object-unsigned table h (f .first) (f .second) (p .0) (p .1))))
-      (either-record (eqb kind 6) _ _ _ _ t (read-as (pointer (f .first) && pointer (f .second) && isConstant (f .third) && takesPointer table h (f .first) (f .second) && unusedFrom 4 f) _ _ t (λ e. let p = both₅ (pointer (f .first)) (pointer (f .second)) (isConstant (f .third)) (takesPointer table h (f .first) (f .second)) (unusedFrom 4 f) e in rw (pointer-unsigned table h (f .first) (p .0), pointer-unsigned table h (f .second) (p .1))))
-      (either-record (eqb kind 7) _ _ _ _ t (read-as (pointer (f .first) && pointer (f .second) && integer (f .third) && takesPointer table h (f .first) (f .second) && unusedFrom 4 f) _ _ t (λ e. let p = both₅ (pointer (f .first)) (pointer (f .second)) (integer (f .third)) (takesPointer table h (f .first) (f .second)) (unusedFrom 4 f) e in rw (pointer-unsigned table h (f .first) (p .0), pointer-unsigned table h (f .second) (p .1), integer-unsigned table h (f .third) (p .2))))
-      (either-record (eqb kind 8) _ _ _ _ t (read-as (integer (f .first) && pointer (f .second) && namesIndex table h (f .third) && isConstant (f .fourth) && unusedFrom 5 f) _ _ t (λ e. let p = both₅ (integer (f .first)) (pointer (f .second)) (namesIndex table h (f .third)) (isConstant (f .fourth)) (unusedFrom 5 f) e in rw (integer-unsigned table h (f .first) (p .0), pointer-unsigned table h (f .second) (p .1), index-unsigned table h (f .third) (p .2))))
-      (either-record (eqb kind 9) _ _ _ _ t (read-as (pointer (f .first) && namesIndex table h (f .second) && isConstant (f .third) && integer (f .fourth) && unusedFrom 5 f) _ _ t (λ e. let p = both₅ (pointer (f .first)) (namesIndex table h (f .second)) (isConstant (f .third)) (integer (f .fourth)) (unusedFrom 5 f) e in rw (pointer-unsigned table h (f .first) (p .0), index-unsigned table h (f .second) (p .1), integer-unsigned table h (f .fourth) (p .3))))
-      (either-record (eqb kind 10) _ _ _ _ t (read-as (conditionRight table h f && unusedFrom 5 f) _ _ t (λ e. let p = both (conditionRight table h f) (unusedFrom 5 f) e in rw (condition-unsigned table h f (p .0))))
-      (either-record (eqb kind 11) _ _ _ _ t (read-as (conditionRight table h f && isCount (f .fifth) && isCount (f .sixth)) _ _ t (λ e. let p = both₃ (conditionRight table h f) (isCount (f .fifth)) (isCount (f .sixth)) e in rw (condition-unsigned table h f (p .0))))
-      (either-record (eqb kind 12) _ _ _ _ t (read-as (conditionRight table h f && isCount (f .fifth) && unusedFrom 6 f) _ _ t (λ e. let p = both₃ (conditionRight table h f) (isCount (f .fifth)) (unusedFrom 6 f) e in rw (condition-unsigned table h f (p .0))))
+      either-record (eqb kind 1) _ _ _ _ t (read-as (integer (f .first) && unusedFrom 3 f) _ _ t
+      (λ e. let p = both (integer (f .first)) (unusedFrom 3 f) e in rw (integer-unsigned table h (f .first) (p .0))))
+      (either-record (eqb kind 2) _ _ _ _ t (read-as (integer (f .first) && integer (f .second) && isConstant (f .third) && unusedFrom 4 f) _ _ t
+      (λ e. let p = both₄ (integer (f .first)) (integer (f .second)) (isConstant (f .third)) (unusedFrom 4 f) e in
+      rw (integer-unsigned table h (f .first) (p .0), integer-unsigned table h (f .second) (p .1))))
+      (either-record (eqb kind 3) _ _ _ _ t (read-as (integer (f .first) && integer (f .second) && integer (f .third) && isBelow 3 (f .fourth) && unusedFrom 5
+      f) _ _ t (λ e. let p = both₅ (integer (f .first)) (integer (f .second)) (integer (f .third)) (isBelow 3 (f .fourth)) (unusedFrom 5 f) e in rw (
+        integer-unsigned table h (f .first) (p .0),
+        integer-unsigned table h (f .second) (p .1),
+        integer-unsigned table h (f .third) (p .2),
+        below-unsigned 3 (f .fourth) (omega arith) (p .3),
+      )))
+      (either-record (eqb kind 4) _ _ _ _ t (read-as (pointer (f .first) && unusedFrom 2 f) _ _ t
+      (λ e. let p = both (pointer (f .first)) (unusedFrom 2 f) e in rw (pointer-unsigned table h (f .first) (p .0))))
+      (either-record (eqb kind 5) _ _ _ _ t (read-as (pointer (f .first) && isBelow (h .objects) (f .second) && takesObject table h (f .first) (f .second)
+      && unusedFrom 3 f) _ _ t (λ e. let p = both₄ (pointer (f .first)) (isBelow (h .objects) (f .second)) (takesObject table h (f .first) (f .second))
+      (unusedFrom 3 f) e in rw (pointer-unsigned table h (f .first) (p .0), object-unsigned table h (f .first) (f .second) (p .0) (p .1))))
+      (either-record (eqb kind 6) _ _ _ _ t (read-as (pointer (f .first) && pointer (f .second) && isConstant (f .third) && takesPointer table h (f .first)
+      (f .second) && unusedFrom 4 f) _ _ t (λ e. let p = both₅ (pointer (f .first)) (pointer (f .second)) (isConstant (f .third)) (takesPointer table h
+      (f .first) (f .second)) (unusedFrom 4 f) e in rw (pointer-unsigned table h (f .first) (p .0), pointer-unsigned table h (f .second) (p .1))))
+      (either-record (eqb kind 7) _ _ _ _ t
+      (read-as (pointer (f .first) && pointer (f .second) && integer (f .third) && takesPointer table h (f .first) (f .second) && unusedFrom 4 f) _ _ t
+      (λ e. let p = both₅ (pointer (f .first)) (pointer (f .second)) (integer (f .third)) (takesPointer table h (f .first) (f .second)) (unusedFrom 4 f)
+      e in rw (pointer-unsigned table h (f .first) (p .0), pointer-unsigned table h (f .second) (p .1), integer-unsigned table h (f .third) (p .2))))
+      (either-record (eqb kind 8) _ _ _ _ t
+      (read-as (integer (f .first) && pointer (f .second) && namesIndex table h (f .third) && isConstant (f .fourth) && unusedFrom 5 f) _ _ t
+      (λ e. let p = both₅ (integer (f .first)) (pointer (f .second)) (namesIndex table h (f .third)) (isConstant (f .fourth)) (unusedFrom 5 f) e in
+      rw (integer-unsigned table h (f .first) (p .0), pointer-unsigned table h (f .second) (p .1), index-unsigned table h (f .third) (p .2))))
+      (either-record (eqb kind 9) _ _ _ _ t
+      (read-as (pointer (f .first) && namesIndex table h (f .second) && isConstant (f .third) && integer (f .fourth) && unusedFrom 5 f) _ _ t
+      (λ e. let p = both₅ (pointer (f .first)) (namesIndex table h (f .second)) (isConstant (f .third)) (integer (f .fourth)) (unusedFrom 5 f) e in
+      rw (pointer-unsigned table h (f .first) (p .0), index-unsigned table h (f .second) (p .1), integer-unsigned table h (f .fourth) (p .3))))
+      (either-record (eqb kind 10) _ _ _ _ t (read-as (conditionRight table h f && unusedFrom 5 f) _ _ t
+      (λ e. let p = both (conditionRight table h f) (unusedFrom 5 f) e in rw (condition-unsigned table h f (p .0))))
+      (either-record (eqb kind 11) _ _ _ _ t (read-as (conditionRight table h f && isCount (f .fifth) && isCount (f .sixth)) _ _ t
+      (λ e. let p = both₃ (conditionRight table h f) (isCount (f .fifth)) (isCount (f .sixth)) e in rw (condition-unsigned table h f (p .0))))
+      (either-record (eqb kind 12) _ _ _ _ t (read-as (conditionRight table h f && isCount (f .fifth) && unusedFrom 6 f) _ _ t
+      (λ e. let p = both₃ (conditionRight table h f) (isCount (f .fifth)) (unusedFrom 6 f) e in rw (condition-unsigned table h f (p .0))))
       (either-record (eqb kind 13) _ _ _ _ t (read-if (ltb (plain (f .first)) (2 ^ 31) && unusedFrom 2 f) _ t)
-      (last (eqb kind 14) _ _ t (read-as (pointer (f .first) && isBelow (h .rows) (f .second) && unusedFrom 3 f) _ _ t (λ e. let p = both₃ (pointer (f .first)) (isBelow (h .rows) (f .second)) (unusedFrom 3 f) e in rw (pointer-unsigned table h (f .first) (p .0), row-unsigned table h (f .first) (f .second) (p .0) (p .1)))))))))))))))))
+      (last (eqb kind 14) _ _ t (read-as (pointer (f .first) && isBelow (h .rows) (f .second) && unusedFrom 3 f) _ _ t
+      (λ e. let p = both₃ (pointer (f .first)) (isBelow (h .rows) (f .second)) (unusedFrom 3 f) e in
+      rw (pointer-unsigned table h (f .first) (p .0), row-unsigned table h (f .first) (f .second) (p .0) (p .1)))))))))))))))))
 
 pub read-decoded : (table : List ℤ) (h : Sections) (a : ℕ) (s : Statement) → statementAt table h a ≡ Read s → decodedAt table h a ≡ s
 unfolding statementAt decodedAt

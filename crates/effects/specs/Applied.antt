@@ -11,7 +11,8 @@ use Rattle.changes.specs.declared.Change.{Change}
 use Rattle.changes.specs.declared.Fact.{Fact}
 use Rattle.facts.specs.declared.FactSet.{FactSet}
 use Rattle.statements.specs.declared.Simple.{Simple}
-use Rattle.statements.specs.declared.Simple.the-variants.{Literal, AddConstant, Arithmetic, Null, Address, PointerOffset, PointerIndex, Load, Store, Check, Declare}
+use Rattle.statements.specs.declared.Simple.the-variants.{Literal, AddConstant, Arithmetic, Null, Address}
+use Rattle.statements.specs.declared.Simple.the-variants.{PointerOffset, PointerIndex, Load, Store, Check, Declare}
 use Rattle.conditions.specs.declared.Condition.{Condition}
 use Rattle.rules.specs.Stored.{differs, sumFacts, factsAfter, conditionFacts, effect}
 use Rattle.rules.specs.declared.Environment.{Environment}

@@ -22,7 +22,8 @@ use Rattle.conditions.specs.Negation.{negation, negatedOf}
 use Rattle.conditions.specs.declared.Condition.{Condition}
 use Rattle.changes.specs.declared.Change.{Change}
 use Rattle.statements.specs.declared.Simple.{Simple}
-use Rattle.statements.specs.declared.Simple.the-variants.{Literal, AddConstant, Arithmetic, Null, Address, PointerOffset, PointerIndex, Load, Store, Check, Declare}
+use Rattle.statements.specs.declared.Simple.the-variants.{Literal, AddConstant, Arithmetic, Null, Address}
+use Rattle.statements.specs.declared.Simple.the-variants.{PointerOffset, PointerIndex, Load, Store, Check, Declare}
 use Rattle.statements.specs.declared.Statement.the-variants.{Plain}
 use Rattle.statements.specs.declared.StatementRead.the-variants.{Read}
 use Rattle.statements.specs.Statements.{statementAt}
@@ -73,12 +74,14 @@ module _ (a : Answers) (f : FactSet) (c : Condition) {g : FactSet} where
   unfolding factRules.relationFacts
   condition-not-greater p e = from 3 refl p e
 
-  pub condition-equal : {h : FactSet} → c .relation ≡ 4 → h ≡ added f (c .left) (c .right) (bias + c .offset) → g ≡ added h (c .right) (c .left) (bias - c .offset)
+  pub condition-equal : {h : FactSet} → c .relation ≡ 4 → h ≡ added f (c .left) (c .right) (bias + c .offset)
+      → g ≡ added h (c .right) (c .left) (bias - c .offset)
       → g ≡ conditionGiven a f c
   unfolding factRules.relationFacts factRules.equated
   condition-equal {h} p d e =
       let q : bias - c .offset ≡ bias + bias - (bias + c .offset) = omega arith in
-      from 4 refl p (e ∙ (ap (λ (i : FactSet). added i (c .right) (c .left) (bias - c .offset)) d ∙ ap (added (added f (c .left) (c .right) (bias + c .offset)) (c .right) (c .left)) q))
+      from 4 refl p (e ∙ (ap (λ (i : FactSet). added i (c .right) (c .left) (bias - c .offset)) d
+      ∙ ap (added (added f (c .left) (c .right) (bias + c .offset)) (c .right) (c .left)) q))
 
   module _ (n₀ : c .relation ≢ 0) (n₁ : c .relation ≢ 1) (n₂ : c .relation ≢ 2) (n₃ : c .relation ≢ 3) (n₄ : c .relation ≢ 4) where
     -- left != right + offset: each of the two facts is one more where the answer says so.
@@ -189,7 +192,8 @@ pub carried-out : (sizes spans : List ℕ) (f : FactSet) (s : Simple) (r : Plan)
 carried-out sizes spans f s r b w p e = ap (λ (i : FactSet). appliedOf i (r .effect)) e ∙ (p f ∙ planned-applied sizes spans f s (w ∙ ap (answered f) b))
 
 -- The same of a condition.
-pub assumed : (f : FactSet) (c : Condition) (r : Change) {g : FactSet} {q : Questions} {a : Answers} → q ≡ conditionAsked c → a ≡ answered f q → Assumes c a r → g ≡ changed f r
+pub assumed : (f : FactSet) (c : Condition) (r : Change) {g : FactSet} {q : Questions} {a : Answers} → q ≡ conditionAsked c → a ≡ answered f q → Assumes c a r
+    → g ≡ changed f r
     → g ≡ conditionFacts f c
 assumed f c r b w p e = e ∙ (p f ∙ given-facts f c (w ∙ ap (answered f) b))
 

@@ -46,7 +46,12 @@ module _ (E : Environment) where
           let s : i < 96 = ltb-true i 96 q in
           let m : i % 96 ≡ i = omega arith in
           let d : i / 6 < 16 = omega arith in
-          rw (m, getD-tabulate 96 (λ (n : ℕ). boundsNumber (getD (E .declared) (n / 6) nothingKnown) (n % 6)) i 0 s, lt-ltb (i / 6) 16 d, own-declared E (i / 6) d)
+          rw (
+            m,
+            getD-tabulate 96 (λ (n : ℕ). boundsNumber (getD (E .declared) (n / 6) nothingKnown) (n % 6)) i 0 s,
+            lt-ltb (i / 6) 16 d,
+            own-declared E (i / 6) d,
+          )
       go false q =
           let s : 96 ≤ i = ltb-false i 96 q in
           let m : (i + 288) % 384 ≡ i - 96 = omega arith in

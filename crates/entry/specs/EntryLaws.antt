@@ -38,7 +38,8 @@ twice n o p = go (eqb n (2 * o)) (eqb-true n (2 * o)) (eqb-false n (2 * o))
     go true f g = let e = f refl in eq-eqb (n - o) o (omega arith)
     go false f g = ne-eqb (n - o) o (λ (e : n - o ≡ o). g refl (omega arith))
 
-pub pairs-counted : (h : Sections) (D cs : List ℕ) → h .objects ≤ length D → (leb (length cs) 16777216 && eqb (length D - h .objects) (h .objects)) ≡ memoryRight h D cs
+pub pairs-counted : (h : Sections) (D cs : List ℕ) → h .objects ≤ length D
+    → (leb (length cs) 16777216 && eqb (length D - h .objects) (h .objects)) ≡ memoryRight h D cs
 unfolding memoryRight
 pairs-counted h D cs p = rw (twice (length D) (h .objects) p)
 
@@ -129,6 +130,7 @@ module _ (h : Sections) (E : Environment) (D cs vs os : List ℕ) where
         unfolding entryRefusals
         enter-values r v e g = rw (m, begun-none pairs p, l) (e ∙ refused-first values _ v (sym e ∙ g))
 
-        pub enter-last : (r : EntryVerdict) → entered values ≡ Begun → r ≡ entered (failures (lastRight E D cs) LastCell (h .objects) 0) → r ≡ entered (entryRefusals h E D cs vs os)
+        pub enter-last : (r : EntryVerdict) → entered values ≡ Begun → r ≡ entered (failures (lastRight E D cs) LastCell (h .objects) 0)
+            → r ≡ entered (entryRefusals h E D cs vs os)
         unfolding entryRefusals
         enter-last r b e = rw (m, begun-none pairs p, l, begun-none values b) e

@@ -107,7 +107,8 @@ fn check_values(
     origins: &[u32],
 ) -> EntryVerdict
     requires { ⌜ Sized environment ⌝ }
-    ensures { λ r. ⌜ r ≡ entered (failures (entryRight environment (now (directory .entry)) (now (values .entry)) (now (origins .entry))) EntryValue (sections .variables) 0) ⌝ }
+    ensures { λ r. ⌜ r ≡ entered
+        (failures (entryRight environment (now (directory .entry)) (now (values .entry)) (now (origins .entry))) EntryValue (sections .variables) 0) ⌝ }
 {
     let count = sections.variables;
     let mut v = 0;
@@ -162,7 +163,8 @@ pub fn enter(
     origins: &[u32],
 ) -> EntryVerdict
     requires { ⌜ Sized environment ⌝ }
-    ensures { λ r. ⌜ r ≡ entered (entryRefusals sections environment (now (directory .entry)) (now (cells .entry)) (now (values .entry)) (now (origins .entry))) ⌝ }
+    ensures { λ r. ⌜ r ≡ entered
+        (entryRefusals sections environment (now (directory .entry)) (now (cells .entry)) (now (values .entry)) (now (origins .entry))) ⌝ }
 {
     if !memory_right(sections, directory, cells) {
         return EntryVerdict::Refused(Refusal::MemorySize);

@@ -26,7 +26,8 @@ module _ (w : List ℕ) {w′ : List ℕ} where
   unfolding verdictWords
   accepted-words e p = rw e p
 
-  pub refused-words : {v : Verdict} {r : Refusal} {n a b p q : ℕ} → v ≡ verdict.Refused r → n ≡ number r → a ≡ place r → b ≡ wordOf a → p ≡ pointer r → q ≡ wordOf p
+  pub refused-words : {v : Verdict} {r : Refusal} {n a b p q : ℕ} → v ≡ verdict.Refused r → n ≡ number r → a ≡ place r → b ≡ wordOf a → p ≡ pointer r
+      → q ≡ wordOf p
       → w′ ≡ putThree w n b q → w′ ≡ verdictWords (verdictReads v) w
   unfolding verdictWords
   refused-words e en ea eb ep eq s = rw (e, ← en, ← ea, ← ep, ← eb, ← eq) s
@@ -39,7 +40,8 @@ module _ (w : List ℕ) {w′ : List ℕ} where
   unfolding answerWords
   spent-words e eb p = rw (e, ← eb) p
 
-  pub stopped-words : {o : Outcome} {c : Check} {n a b k : ℕ} → o ≡ Stopped n c → a ≡ checkStatement c → b ≡ wordOf a → k ≡ checkNumber c → w′ ≡ putFour w 2 n b k → w′ ≡ answerWords (reads o) w
+  pub stopped-words : {o : Outcome} {c : Check} {n a b k : ℕ} → o ≡ Stopped n c → a ≡ checkStatement c → b ≡ wordOf a → k ≡ checkNumber c
+      → w′ ≡ putFour w 2 n b k → w′ ≡ answerWords (reads o) w
   unfolding answerWords
   stopped-words e ea eb ek p = rw (e, ← ea, ← eb, ← ek) p
 
@@ -56,12 +58,14 @@ unfolding Judged
 checked-words {T} {w} {w′} v h a e =
     record {
       room = sym (le-leb 3 (length w) h);
-      words = rw (le-leb 3 (length w) h) (decided T (λ d. w′ ≡ verdictWords (firstReads (chainFaults d T)) w) (λ d c. e ∙ ap (λ (x : Reading). verdictWords x w) (a .by-each d c .reads)));
+      words = rw (le-leb 3 (length w) h)
+          (decided T (λ d. w′ ≡ verdictWords (firstReads (chainFaults d T)) w) (λ d c. e ∙ ap (λ (x : Reading). verdictWords x w) (a .by-each d c .reads)));
     }
 
 pub no-room-to-run : {l : Lent} {w : List ℕ} {limit : ℕ} → length w < 4 → RunWords l limit w false (l .values) (l .cells) w
 no-room-to-run {w = w} h = record { room = sym (lt-leb 4 (length w) h); words = rw (lt-leb 4 (length w) h) (refl, refl, refl) }
 
-pub ran-words : {l : Lent} {w vs cs w′ : List ℕ} {limit : ℕ} (o : Outcome) → 4 ≤ length w → RunJudged l limit (record { answer = o; values = vs; cells = cs }) → w′ ≡ answerWords (reads o) w
+pub ran-words : {l : Lent} {w vs cs w′ : List ℕ} {limit : ℕ} (o : Outcome) → 4 ≤ length w → RunJudged l limit (record { answer = o; values = vs; cells = cs })
+    → w′ ≡ answerWords (reads o) w
     → RunWords l limit w true vs cs w′
 ran-words {w = w} o h a e = record { room = sym (le-leb 4 (length w) h); words = rw (le-leb 4 (length w) h) (o, a, e) }

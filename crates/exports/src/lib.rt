@@ -103,7 +103,13 @@ pub extern "C" fn mizzengrape_run(
     limit: u32,
     answer: &mut [u32],
 ) -> bool
-    ensures { λ r. ⌜ RunWords (record { table = now (table .entry); directory = now (directory .entry); cells = now (cells .entry); values = now (values .entry); origins = now (origins .entry) }) limit (now (answer .entry)) r (now (values .exit)) (now (cells .exit)) (now (answer .exit)) ⌝ }
+    ensures { λ r. ⌜ RunWords (record {
+      table = now (table .entry);
+      directory = now (directory .entry);
+      cells = now (cells .entry);
+      values = now (values .entry);
+      origins = now (origins .entry);
+    }) limit (now (answer .entry)) r (now (values .exit)) (now (cells .exit)) (now (answer .exit)) ⌝ }
 {
     if answer.len() < 4 {
         return false;

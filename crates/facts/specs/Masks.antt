@@ -58,7 +58,8 @@ unfolding maskRow
 in-mask x j hx hj e = rw e (go (eqb j x) refl)
   where
     go : (b : Bool) → eqb j x ≡ b → inRow (maskRow x) j ≡ cond b unbounded 0
-    go true q = ap (inRow (maskRow x)) (eqb-true j x q) ∙ getD-set-same noMasks x unbounded 0 (let e : length noMasks ≡ 17 = length-tabulate 17 _ in omega arith)
+    go true q = ap (inRow (maskRow x)) (eqb-true j x q)
+        ∙ getD-set-same noMasks x unbounded 0 (let e : length noMasks ≡ 17 = length-tabulate 17 _ in omega arith)
     go false q = getD-set-other noMasks x j unbounded 0 (eqb-false j x q) ∙ getD-tabulate 17 _ j 0 hj
 
 pub masks : {mask : Row} (x : ℕ) → x < 17 → mask ≡ maskRow x → Masks mask
@@ -70,7 +71,8 @@ masks x hx e = record { each = λ j hj. go (eqb j x) (in-mask x j hx hj e) }
 
 pub merged-rerouted : {mask : Row} (x : ℕ) (row : Row) (to : ℕ) → x < 17 → mask ≡ maskRow x → mergedRow row mask to ≡ reroutedRow row x to
 unfolding mergedRow reroutedRow
-merged-rerouted {mask} x row to hx e = ap (λ (l : List ℕ). record { sums = l }) (tabulate-alike 17 (λ j hj. rw (in-mask x j hx hj e) (go (eqb j x) (inRow row j))))
+merged-rerouted {mask} x row to hx e =
+    ap (λ (l : List ℕ). record { sums = l }) (tabulate-alike 17 (λ j hj. rw (in-mask x j hx hj e) (go (eqb j x) (inRow row j))))
   where
     go : (b : Bool) (a : ℕ) → cond (eqb (cond b unbounded 0) 0) a to ≡ cond b to a
     go true a = refl

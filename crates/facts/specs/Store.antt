@@ -64,7 +64,10 @@ noAnswers = record { there = false; back = false }
 abbrev pub answered : FactSet → Questions → Answers
 answered f q =
     cond (q .asked)
-    (record { there = shown f (q .x) (q .y) (q .there); back = cond (q .chained && not (shown f (q .x) (q .y) (q .there))) false (shown f (q .y) (q .x) (q .back)) })
+    (record {
+      there = shown f (q .x) (q .y) (q .there);
+      back = cond (q .chained && not (shown f (q .x) (q .y) (q .there))) false (shown f (q .y) (q .x) (q .back));
+    })
     noAnswers
 
 -- ---- new

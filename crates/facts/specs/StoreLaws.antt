@@ -12,7 +12,9 @@ use Rattle.changes.specs.Changes.{noFact, adding, ranging, shifting, equating}
 use Rattle.arrays.specs.Tabulate.{tabulate}
 use Rattle.arrays.specs.TabulateLaws.{length-tabulate, getD-tabulate}
 use Rattle.sums.specs.Sums.{concatenated, negated}
-use Rattle.facts.specs.Store.{noRow, rowAt, inRow, sumAt, rowOf, setOf, leastSum, shown, withinEnd, endShown, newSum, newRow, newSet, loweredRow, lowered, marked, added, ownRow, reroutedRow, rerouted, reassigned, anew, addedFact, addedFirst, changed, dropped, ranged, shifted, related, joinedSum, joinedRow, joined}
+use Rattle.facts.specs.Store.{noRow, rowAt, inRow, sumAt, rowOf, setOf, leastSum, shown, withinEnd, endShown, newSum, newRow}
+use Rattle.facts.specs.Store.{newSet, loweredRow, lowered, marked, added, ownRow, reroutedRow, rerouted, reassigned, anew}
+use Rattle.facts.specs.Store.{addedFact, addedFirst, changed, dropped, ranged, shifted, related, joinedSum, joinedRow, joined}
 use Rattle.facts.specs.declared.rows.Row.{Row}
 use Rattle.changes.specs.declared.Fact.{Fact}
 use Rattle.changes.specs.declared.Change.{Change}
@@ -240,17 +242,22 @@ module _ (f : FactSet) (i j : ℕ) (hi : i < 17) (hj : j < 17) where
       → sumAt (reassigned f x y up down) i j ≡ anewAt (sumAt f i j) (concatenated up (sumAt f y j)) (concatenated (sumAt f i y) down) (eqb i x) (eqb j x)
   sum-reassigned x y up down hx = go (eqb i x) refl
     where
-      own : (b : Bool) → cond b bias (concatenated up (sumAt f y j)) ≡ anewAt (sumAt f i j) (concatenated up (sumAt f y j)) (concatenated (sumAt f i y) down) true b
+      own : (b : Bool) → cond b bias (concatenated up (sumAt f y j)) ≡ anewAt (sumAt f i j) (concatenated up (sumAt f y j))
+          (concatenated (sumAt f i y) down) true b
       own true = refl
       own false = refl
 
-      other : (b : Bool) → cond b (concatenated (sumAt f i y) down) (sumAt f i j) ≡ anewAt (sumAt f i j) (concatenated up (sumAt f y j)) (concatenated (sumAt f i y) down) false b
+      other : (b : Bool) → cond b (concatenated (sumAt f i y) down) (sumAt f i j) ≡ anewAt (sumAt f i j) (concatenated up (sumAt f y j))
+          (concatenated (sumAt f i y) down) false b
       other true = refl
       other false = refl
 
-      go : (a : Bool) → eqb i x ≡ a → sumAt (reassigned f x y up down) i j ≡ anewAt (sumAt f i j) (concatenated up (sumAt f y j)) (concatenated (sumAt f i y) down) a (eqb j x)
-      go true e = ap (λ (n : ℕ). sumAt (reassigned f x y up down) n j) (eqb-true i x e) ∙ ap (λ (row : Row). inRow row j) (own-row f x y up down hx) ∙ in-own (rowAt f y) x up j hj ∙ own (eqb j x)
-      go false e = ap (λ (row : Row). inRow row j) (other-row f x y up down i hi (eqb-false i x e)) ∙ in-rerouted (rowAt f i) x (concatenated (sumAt f i y) down) j hj ∙ other (eqb j x)
+      go : (a : Bool) → eqb i x ≡ a
+          → sumAt (reassigned f x y up down) i j ≡ anewAt (sumAt f i j) (concatenated up (sumAt f y j)) (concatenated (sumAt f i y) down) a (eqb j x)
+      go true e = ap (λ (n : ℕ). sumAt (reassigned f x y up down) n j) (eqb-true i x e) ∙ ap (λ (row : Row). inRow row j) (own-row f x y up down hx)
+          ∙ in-own (rowAt f y) x up j hj ∙ own (eqb j x)
+      go false e = ap (λ (row : Row). inRow row j) (other-row f x y up down i hi (eqb-false i x e))
+          ∙ in-rerouted (rowAt f i) x (concatenated (sumAt f i y) down) j hj ∙ other (eqb j x)
 
   pub sum-joined : (g : FactSet) (pointer : ℕ → Bool) → f .contradiction ≡ false → g .contradiction ≡ false → sumAt (joined pointer f g) i j
       ≡ joinedSum (related pointer i j) (sumAt f i j) (sumAt g i j) (sumAt f i zeroVar) (sumAt g i zeroVar) (sumAt f zeroVar j) (sumAt g zeroVar j)

@@ -11,11 +11,14 @@ use native.Mathlib.Omega.{arith}
 use Rattle.sums.specs.Numbers.{bias, zeroVar}
 use Rattle.arrays.specs.Choice.{cond-either}
 use Rattle.arrays.specs.Tabulate.{tabulate}
-use Rattle.arrays.specs.TabulateLaws.{length-tabulate, getD-tabulate, tabulate-alike, Filled, filled-none, filled-more, filled-next, filled-each, filled-kept, filled-whole}
+use Rattle.arrays.specs.TabulateLaws.{length-tabulate, getD-tabulate, tabulate-alike, Filled, filled-none}
+use Rattle.arrays.specs.TabulateLaws.{filled-more, filled-next, filled-each, filled-kept, filled-whole}
 use Rattle.sums.specs.Sums.{concatenated}
-use Rattle.facts.specs.Store.{noRow, rowAt, inRow, sumAt, setOf, leastSum, shown, loweredRow, lowered, marked, added, ownRow, rerouted, reassigned, anew, factAt, addedFact, addedFirst, same, joinedSum, joinedRow}
+use Rattle.facts.specs.Store.{noRow, rowAt, inRow, sumAt, setOf, leastSum, shown, loweredRow, lowered, marked, added}
+use Rattle.facts.specs.Store.{ownRow, rerouted, reassigned, anew, factAt, addedFact, addedFirst, same, joinedSum, joinedRow}
 use Rattle.facts.specs.Rows.{shortenedRow, greatestRow, throughZero}
-use Rattle.facts.specs.StoreLaws.{least-node, shown-marked, shown-clear, added-left, added-right, added-shown, added-closed, added-lowered, anew-left, anew-right, anew-variable}
+use Rattle.facts.specs.StoreLaws.{least-node, shown-marked, shown-clear, added-left, added-right, added-shown}
+use Rattle.facts.specs.StoreLaws.{added-closed, added-lowered, anew-left, anew-right, anew-variable}
 use Rattle.facts.specs.declared.rows.Row.{Row}
 use Rattle.changes.specs.declared.Fact.{Fact}
 use Rattle.facts.specs.declared.FactSet.{FactSet}
@@ -79,12 +82,16 @@ module _ (f : FactSet) (x y k : ℕ) where
     pub way-known : x < 17 → y < 17 → sumAt f x y ≤ k → g ≡ f → g ≡ added f x y k
     way-known hx hy h e = e ∙ sym (added-shown f x y k (omega arith) (omega arith) (known-shown (omega arith) (omega arith) h))
 
-    pub way-closed : {s : ℕ} → x < 17 → y < 17 → not (f .contradiction) ≡ true → k < sumAt f x y → s ≡ concatenated (sumAt f y x) k → s < bias → g ≡ setOf (f .rows) true → g ≡ added f x y k
+    pub way-closed : {s : ℕ} → x < 17 → y < 17 → not (f .contradiction) ≡ true → k < sumAt f x y → s ≡ concatenated (sumAt f y x) k → s < bias
+        → g ≡ setOf (f .rows) true → g ≡ added f x y k
     unfolding marked
-    way-closed hx hy c h d l e = e ∙ sym (added-closed f x y k (omega arith) (omega arith) (clear-not-shown (omega arith) (omega arith) (not-true _ c) h) (omega arith))
+    way-closed hx hy c h d l e = e
+        ∙ sym (added-closed f x y k (omega arith) (omega arith) (clear-not-shown (omega arith) (omega arith) (not-true _ c) h) (omega arith))
 
-    pub way-lowered : {s : ℕ} → x < 17 → y < 17 → not (f .contradiction) ≡ true → k < sumAt f x y → s ≡ concatenated (sumAt f y x) k → bias ≤ s → g ≡ lowered f x y k → g ≡ added f x y k
-    way-lowered hx hy c h d l e = e ∙ sym (added-lowered f x y k (omega arith) (omega arith) (clear-not-shown (omega arith) (omega arith) (not-true _ c) h) (omega arith))
+    pub way-lowered : {s : ℕ} → x < 17 → y < 17 → not (f .contradiction) ≡ true → k < sumAt f x y → s ≡ concatenated (sumAt f y x) k → bias ≤ s
+        → g ≡ lowered f x y k → g ≡ added f x y k
+    way-lowered hx hy c h d l e = e
+        ∙ sym (added-lowered f x y k (omega arith) (omega arith) (clear-not-shown (omega arith) (omega arith) (not-true _ c) h) (omega arith))
 
   long-added : length (f .rows) ≡ 17 → length (added f x y k .rows) ≡ 17
   unfolding added marked lowered
@@ -103,7 +110,8 @@ pub record Lowering (x y k : ℕ) (through : Row) (f₀ f : FactSet) (i : ℕ) :
 abbrev turned : ℕ → ℕ → ℕ → Row → Row → Row
 turned x y k through row = loweredRow row (concatenated (inRow row x) k) y through
 
-turned-falls : (x y k : ℕ) (through row : Row) → concatenated (inRow row x) k < inRow row y → turned x y k through row ≡ shortenedRow row (concatenated (inRow row x) k) through
+turned-falls : (x y k : ℕ) (through row : Row) → concatenated (inRow row x) k < inRow row y
+    → turned x y k through row ≡ shortenedRow row (concatenated (inRow row x) k) through
 unfolding loweredRow shortenedRow
 turned-falls x y k through row h = rw (lt-leb (inRow row y) (concatenated (inRow row x) k) h)
 
@@ -121,13 +129,18 @@ module _ {x y k : ℕ} {through : Row} where
     lowering-falls l e d =
         rw d
         (record {
-          filled = filled-each (turned x y k through) noRow (p .filled) h (e ∙ ap (λ (a : ℕ). shortenedRow (rowAt f i) a through) s ∙ sym (turned-falls x y k through (rowAt f i) (omega arith)));
+          filled = filled-each (turned x y k through) noRow (p .filled) h
+              (e ∙ ap (λ (a : ℕ). shortenedRow (rowAt f i) a through) s ∙ sym (turned-falls x y k through (rowAt f i) (omega arith)));
           mark = p .mark;
         })
 
     pub lowering-stays : sumAt f i y ≤ start → g ≡ f → Lowering x y k through f₀ g (i + 1)
     lowering-stays l d =
-        rw d (record { filled = filled-kept noRow (p .filled) h (sym (turned-stays x y k through (rowAt f i) (omega arith)) ∙ ap (turned x y k through) (filled-next noRow (p .filled))); mark = p .mark })
+        rw d (record {
+          filled = filled-kept noRow (p .filled) h
+              (sym (turned-stays x y k through (rowAt f i) (omega arith)) ∙ ap (turned x y k through) (filled-next noRow (p .filled)));
+          mark = p .mark;
+        })
 
 pub lowering-done : {x y k : ℕ} {f₀ f : FactSet} {i : ℕ} → Lowering x y k (rowAt f₀ y) f₀ f i → 17 ≤ i → f ≡ lowered f₀ x y k
 unfolding lowered
@@ -180,7 +193,8 @@ alike true false e = sym e
 alike false true e = sym e
 alike false false e = refl
 
-routed-variable : (pointers : List Bool) (pointer : Bool) (row : Row) (to : ℕ) (zeros : Row) (j : ℕ) {b : Bool} → j < 16 → same pointer (getD pointers j false) ≡ b
+routed-variable : (pointers : List Bool) (pointer : Bool) (row : Row) (to : ℕ) (zeros : Row) (j : ℕ) {b : Bool} → j < 16
+    → same pointer (getD pointers j false) ≡ b
     → routed pointers pointer row to zeros j ≡ cond b (inRow row j) (concatenated to (inRow zeros j))
 routed-variable pointers pointer row to zeros j h e = rw (ne-eqb j zeroVar (λ q. omega (arith, q)), e)
 
@@ -189,20 +203,27 @@ module _ {pointers : List Bool} {pointer : Bool} {row zeros : Row} {to : ℕ} wh
   routing-none e = record { filled = filled-none _ _ _ e; within = omega arith }
 
   module _ {next after : Row} {j : ℕ} (p : Routing pointers pointer row to zeros next j) (h : j < 16) where
-    pub routing-mixed : {s : ℕ} → not (Bool·beq (getD pointers j false) pointer) ≡ true → s ≡ concatenated to (inRow zeros j) → after ≡ record { sums = set (next .sums) j s }
+    pub routing-mixed : {s : ℕ} → not (Bool·beq (getD pointers j false) pointer) ≡ true → s ≡ concatenated to (inRow zeros j)
+        → after ≡ record { sums = set (next .sums) j s }
         → Routing pointers pointer row to zeros after (j + 1)
     routing-mixed t e d =
-        rw d (record { filled = filled-more (p .filled) (omega arith) (e ∙ sym (routed-variable pointers pointer row to zeros j h (mixed (getD pointers j false) pointer t))); within = omega arith })
+        rw d (record {
+          filled = filled-more (p .filled) (omega arith)
+              (e ∙ sym (routed-variable pointers pointer row to zeros j h (mixed (getD pointers j false) pointer t)));
+          within = omega arith;
+        })
 
     pub routing-alike : not (Bool·beq (getD pointers j false) pointer) ≡ false → after ≡ next → Routing pointers pointer row to zeros after (j + 1)
     routing-alike t d =
         rw d
         (record {
-          filled = filled-kept 0 (p .filled) (omega arith) (filled-next 0 (p .filled) ∙ sym (routed-variable pointers pointer row to zeros j h (alike (getD pointers j false) pointer t)));
+          filled = filled-kept 0 (p .filled) (omega arith)
+              (filled-next 0 (p .filled) ∙ sym (routed-variable pointers pointer row to zeros j h (alike (getD pointers j false) pointer t)));
           within = omega arith;
         })
 
-pub routing-done : {pointers : List Bool} {pointer : Bool} {row zeros next : Row} {j : ℕ} → Routing pointers pointer row (inRow row zeroVar) zeros next j → 16 ≤ j
+pub routing-done : {pointers : List Bool} {pointer : Bool} {row zeros next : Row} {j : ℕ} → Routing pointers pointer row (inRow row zeroVar) zeros next j
+    → 16 ≤ j
     → next ≡ throughZero (λ n. getD pointers n false) pointer row zeros
 unfolding throughZero
 routing-done {pointers} {pointer} {row} {zeros} {next} {j} p h =
@@ -220,8 +241,10 @@ module _ (pointer : ℕ → Bool) {zeros : Row} (zeroA zeroB : Row) (z : zeros �
   unfolding joinedRow joinedSum greatestRow
   zero-joined = z
 
-  pub row-joined : {r t : Row} (i : ℕ) (a b : Row) → i < 16 → r ≡ greatestRow a b → t ≡ throughZero pointer (pointer i) r zeros → t ≡ joinedRow pointer i a b zeroA zeroB
+  pub row-joined : {r t : Row} (i : ℕ) (a b : Row) → i < 16 → r ≡ greatestRow a b → t ≡ throughZero pointer (pointer i) r zeros
+      → t ≡ joinedRow pointer i a b zeroA zeroB
   unfolding joinedRow joinedSum throughZero
   row-joined {r} i a b h e d =
       d ∙ ap (λ (l : List ℕ). record { sums = l })
-      (tabulate-alike 17 (λ j hj. rw (ne-eqb i zeroVar (λ q. omega (arith, q)), in-greatest a b j e hj, in-greatest a b zeroVar e (omega arith), in-greatest zeroA zeroB j z hj)))
+      (tabulate-alike 17 (λ j hj.
+      rw (ne-eqb i zeroVar (λ q. omega (arith, q)), in-greatest a b j e hj, in-greatest a b zeroVar e (omega arith), in-greatest zeroA zeroB j z hj)))

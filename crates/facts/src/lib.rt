@@ -59,8 +59,8 @@ impl FactSet {
         row.sums[y]
     }
 
-    // The facts after a change: the target anew, then the three facts besides; one that is shown already changes nothing. One function with one exit: a set that
-    // passes a function's boundary is copied.
+    // The facts after a change: the target anew, then the three facts besides; one that is shown already changes nothing. One function with one exit: a set
+    // that passes a function's boundary is copied.
     pub fn after(mut self, change: Change) -> FactSet
         ensures { λ r. ⌜ r ≡ changed self change ⌝ }
     {

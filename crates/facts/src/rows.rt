@@ -118,7 +118,8 @@ pub fn greatest_row(a: Row, b: Row) -> Row
     next
 }
 
-// The row of a variable that is a pointer or not (`pointer`): its sum to each variable of the other kind is that of the chain through zero, whose row is `zero`.
+// The row of a variable that is a pointer or not (`pointer`): its sum to each variable of the other kind is that of the chain through zero, whose row is
+// `zero`.
 pub fn through_zero(row: Row, pointers: [bool; 17], pointer: bool, zero: Row) -> Row
     ensures { λ r. ⌜ r ≡ throughZero (λ n. getD pointers n false) pointer row «zero» ⌝ }
 {

@@ -44,14 +44,17 @@ unfolding FileJudged fileFaults verdictOf wordsOf
 long-refused bytes e h =
     decided _ _ (λ d r. says _ _ (rw (
       eq-eqb (length bytes % 4) 0 e,
-      faults-long (byChains d) (tabulate (length bytes / 4) (λ i. wordAt bytes (4 * i))) (rw (length-tabulate (length bytes / 4) (λ i. wordAt bytes (4 * i))) h),
+      faults-long (byChains d) (tabulate (length bytes / 4) (λ i. wordAt bytes (4 * i)))
+          (rw (length-tabulate (length bytes / 4) (λ i. wordAt bytes (4 * i))) h),
     ) refl))
 
-pub file-answered : (bytes : List ℕ) {table old : List ℤ} {count : ℕ} (v : Verdict) → length bytes % 4 ≡ 0 → length bytes / 4 ≤ length old → WordsRead bytes old count table
+pub file-answered : (bytes : List ℕ) {table old : List ℤ} {count : ℕ} (v : Verdict) → length bytes % 4 ≡ 0 → length bytes / 4 ≤ length old
+    → WordsRead bytes old count table
     → Judged (take count table) v → FileJudged bytes v
 unfolding FileJudged Judged fileFaults wordsOf
 file-answered bytes {table} {count = count} v e h p a =
     let q : count ≡ length bytes / 4 = omega (arith, p .many) in
-    let t : take count table ≡ tabulate (length bytes / 4) (λ j. wordAt bytes (4 * j)) = p .filled .front ∙ ap (λ (n : ℕ). tabulate n (λ j. wordAt bytes (4 * j))) q in
+    let t : take count table ≡ tabulate (length bytes / 4) (λ j. wordAt bytes (4 * j)) = p .filled .front
+    ∙ ap (λ (n : ℕ). tabulate n (λ j. wordAt bytes (4 * j))) q in
     let j : Judged (tabulate (length bytes / 4) (λ j. wordAt bytes (4 * j))) v = rw t at a in
     decided _ _ (λ d r. rw (eq-eqb (length bytes % 4) 0 e) (j .by-each d r))

@@ -206,7 +206,8 @@ unfolding written
 along-written [] lo m w c p s b = tt
 along-written (x ∷ xs) lo m w c p s b =
     let g = c .0 in (
-      same-successors _ _ _ _ _ _ refl (untouched xs (lo + 1) (2 * lo) (put w x) (c .1) (omega arith)) (untouched xs (lo + 1) (2 * lo + 1) (put w x) (c .1) (omega arith))
+      same-successors _ _ _ _ _ _ refl (untouched xs (lo + 1) (2 * lo) (put w x) (c .1) (omega arith))
+          (untouched xs (lo + 1) (2 * lo + 1) (put w x) (c .1) (omega arith))
           ∙ rw (← g) (put-there w x m (omega arith) s (b .0) (b .1)),
       along-written xs (lo + 1) m (put w x) (c .1) (omega (arith, length-put w x)) s (b .2),
     )

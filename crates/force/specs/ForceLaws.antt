@@ -99,7 +99,8 @@ module _ {E : Environment} (f : FactSet) {F : Force} (p r a : ℕ) (o : Forced E
       let b = k ∙ ap (λ (x : Seen). x .declared) (o .seen) in
       record {
         said = i ∙ (u ∙ (ap₂ (λ (x : Seen) (M : List Bounds). verdictOf (boundsAt a (unshown (seenAs x) f M))) (G .seen) (l ∙ ap (boundsAfter Keep) b)
-            ∙ (ap (λ (ps : List ℕ). verdictOf (boundsAt a ps)) (seen-unshown (inForce E (set (F .rows .each) p (r + 1))) f (boundsAfter Keep (inForce E (F .rows .each) .declared)))
+            ∙ (ap (λ (ps : List ℕ). verdictOf (boundsAt a ps))
+            (seen-unshown (inForce E (set (F .rows .each) p (r + 1))) f (boundsAfter Keep (inForce E (F .rows .each) .declared)))
             ∙ ap verdictOf (sym (pass _ _ (none-refused _ own q))))));
         kept = λ z. G;
       }
@@ -110,11 +111,21 @@ module _ {E : Environment} (f : FactSet) {F : Force} (p r a : ℕ) (o : Forced E
 pub own-seen : (E : Environment) → length (E .declared) ≡ 16 → seenOf E ≡ seenOf (inForce E ownRows)
 unfolding rowBound
 own-seen E l =
-    ap (λ (D : List Bounds). seenOf (record { pointers = E .pointers; strings = E .strings; sizes = E .sizes; declared = D; lengths = E .lengths; terminated = E .terminated; spans = E .spans; rows = E .rows })) (sym whole)
+    ap (λ (D : List Bounds). seenOf (record {
+      pointers = E .pointers;
+      strings = E .strings;
+      sizes = E .sizes;
+      declared = D;
+      lengths = E .lengths;
+      terminated = E .terminated;
+      spans = E .spans;
+      rows = E .rows;
+    })) (sym whole)
   where
     each : (i : ℕ) → i < 16 → rowBound E (getD ownRows i 0) i ≡ getD (E .declared) i nothingKnown
     each i h = rw (own-row i) refl
 
     whole : tabulate 16 (λ p. rowBound E (getD ownRows p 0) p) ≡ E .declared
     whole = ext-getD nothingKnown _ _ (length-tabulate 16 (λ p. rowBound E (getD ownRows p 0) p) ∙ sym l)
-        (λ i h. let q : i < 16 = omega (arith, length-tabulate 16 (λ p. rowBound E (getD ownRows p 0) p)) in getD-tabulate 16 (λ p. rowBound E (getD ownRows p 0) p) i nothingKnown q ∙ each i q)
+        (λ i h. let q : i < 16 = omega (arith, length-tabulate 16 (λ p. rowBound E (getD ownRows p 0) p)) in
+        getD-tabulate 16 (λ p. rowBound E (getD ownRows p 0) p) i nothingKnown q ∙ each i q)

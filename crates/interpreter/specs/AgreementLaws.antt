@@ -16,7 +16,8 @@ use Rattle.statements.specs.Statements.{statementAt}
 use Rattle.statements.specs.Typed.{SimpleTyped, WellTyped}
 use Rattle.statements.specs.StatementLaws.{read-typed, read-limits}
 use Rattle.statements.specs.declared.Simple.{Simple}
-use Rattle.statements.specs.declared.Simple.the-variants.{Literal, AddConstant, Arithmetic, Null, Address, PointerOffset, PointerIndex, Load, Store, Check as Test, Declare}
+use Rattle.statements.specs.declared.Simple.the-variants.{Literal, AddConstant, Arithmetic, Null, Address, PointerOffset}
+use Rattle.statements.specs.declared.Simple.the-variants.{PointerIndex, Load, Store, Check as Test, Declare}
 use Rattle.statements.specs.declared.Statement.{Statement}
 use Rattle.statements.specs.declared.Statement.the-variants.{Plain, If, While, Bundle}
 use Rattle.statements.specs.declared.StatementRead.{StatementRead}
@@ -27,7 +28,9 @@ use Rattle.flow.specs.Flow.{Successors}
 use Rattle.flow.specs.Shape.{entriesAt}
 use Rattle.rules.specs.BoundsRules.{inForce, rowsAfter}
 use Rattle.rules.specs.declared.Environment.{Environment}
-use Rattle.machine.specs.Machine.{low, high, address, inOrigin, conditionHolds, Failing, none, fails, failing, Status, going, stopped, stuck, Point, Memory, Performed, done, no-step, stepIf, performed, memoryOf, afterChecks, branched, statementStep, stepIfDue, nextPoint, pointAfter, value}
+use Rattle.machine.specs.Machine.{low, high, address, inOrigin, conditionHolds, Failing, none, fails, failing, Status}
+use Rattle.machine.specs.Machine.{going, stopped, stuck, Point, Memory, Performed, done, no-step, stepIf, performed}
+use Rattle.machine.specs.Machine.{memoryOf, afterChecks, branched, statementStep, stepIfDue, nextPoint, pointAfter, value}
 use Rattle.checks.specs.Checked.{stepUnless}
 use Rattle.steps.specs.Bare.{valuesAfter, cellsAfter, changedUnless, Move, move, simpleMove, statementMove, bareMove, InCells, InsideSimple, Inside, Ready}
 use Rattle.runs.specs.BareRun.{Result, result, follow, bareRun, IfTrue, Onward, SafeRun}
@@ -124,15 +127,23 @@ move-same : (s : Step) (W W′ vs ws cs ds : List ℕ) → W ≡ W′ → vs ≡
 move-same s W W′ vs ws cs ds o p q = rw (o, p, q)
 
 module _ (E : Environment) (P : Point) (next k : ℕ) (o : (p : ℕ) → getD (P .origins) p 0 ≤ k) where
-  simple-stepped : (f : Failing) (p : Performed) (W rs vs cs : List ℕ) → W ≡ endsOf E rs → Leaves rs vs cs k p → length cs ≡ length (P .cells) → (afterChecks f P next p .status ≡ stuck → ⊥) →
-      Stepped E P (afterChecks f P next p) k (move (stepUnless f (P .due) next) (changedUnless f (endsOf E (P .rows)) W) (changedUnless f (P .values) vs) (changedUnless f (P .cells) cs))
+  simple-stepped : (f : Failing) (p : Performed) (W rs vs cs : List ℕ) → W ≡ endsOf E rs → Leaves rs vs cs k p → length cs ≡ length (P .cells)
+      → (afterChecks f P next p .status ≡ stuck → ⊥) →
+      Stepped E P (afterChecks f P next p) k
+      (move (stepUnless f (P .due) next) (changedUnless f (endsOf E (P .rows)) W) (changedUnless f (P .values) vs) (changedUnless f (P .cells) cs))
   unfolding stepUnless changedUnless
   simple-stepped (fails n) p W rs vs cs w l e u = record { same = refl; counted = refl; long = refl; origins = o }
   simple-stepped none (done m) W rs vs cs w l e u =
-      record { same = move-same (Go next) W (endsOf E (m .rows)) vs (m .values) cs (m .cells) (w ∙ ap (endsOf E) (sym (l .3))) (sym (l .0)) (sym (l .1)); counted = refl; long = ap length (l .1) ∙ e; origins = l .2 }
+      record {
+        same = move-same (Go next) W (endsOf E (m .rows)) vs (m .values) cs (m .cells) (w ∙ ap (endsOf E) (sym (l .3))) (sym (l .0)) (sym (l .1));
+        counted = refl;
+        long = ap length (l .1) ∙ e;
+        origins = l .2;
+      }
   simple-stepped none no-step W rs vs cs w l e u = absurd (u refl)
 
-  branch-stepped : (b : Bool) (n : Successors) → Stepped E P (branched b P n) k (move (Go (cond b (n .next) (n .other))) (endsOf E (P .rows)) (P .values) (P .cells))
+  branch-stepped : (b : Bool) (n : Successors)
+      → Stepped E P (branched b P n) k (move (Go (cond b (n .next) (n .other))) (endsOf E (P .rows)) (P .values) (P .cells))
   branch-stepped true n = record { same = refl; counted = refl; long = refl; origins = o }
   branch-stepped false n = record { same = refl; counted = refl; long = refl; origins = o }
 
@@ -141,8 +152,10 @@ module _ (T : List ℤ) (h : Sections) (E : Environment) (D W S : List ℕ) wher
   after P = nextPoint T h E D (P .status) P
 
   -- A step from P whose statement is s, where the plain machine is not stuck after it.
-  pub stepped : (P : Point) (s : Statement) (n : Successors) → W ≡ endsOf E (P .rows) → length (P .rows) ≡ 16 → Limits h → WellTyped T h s → ((p : ℕ) → getD (P .origins) p 0 ≤ h .objects) →
-      (statementStep E D (Read s) n P .status ≡ stuck → ⊥) → Stepped E P (statementStep E D (Read s) n P) (h .objects) (statementMove W D s (P .due) n (P .values) (P .cells))
+  pub stepped : (P : Point) (s : Statement) (n : Successors) → W ≡ endsOf E (P .rows) → length (P .rows) ≡ 16 → Limits h → WellTyped T h s
+      → ((p : ℕ) → getD (P .origins) p 0 ≤ h .objects) →
+      (statementStep E D (Read s) n P .status ≡ stuck → ⊥)
+      → Stepped E P (statementStep E D (Read s) n P) (h .objects) (statementMove W D s (P .due) n (P .values) (P .cells))
   unfolding statementStep statementMove simpleMove
   stepped P (Plain s) n w k l t o u =
       rw (w, failing-same T h E (P .rows) (P .values) s l t)
@@ -194,7 +207,8 @@ module _ (T : List ℤ) (h : Sections) (E : Environment) (D W S : List ℕ) wher
     inside-simple (Test c) n w l t u = tt
     inside-simple (Declare p r) n w l t u = tt
 
-    inside : (s : Statement) (n : Successors) → W ≡ endsOf E (P .rows) → Limits h → WellTyped T h s → (statementStep E D (Read s) n P .status ≡ stuck → ⊥) → Inside W s (P .values) (P .cells)
+    inside : (s : Statement) (n : Successors) → W ≡ endsOf E (P .rows) → Limits h → WellTyped T h s → (statementStep E D (Read s) n P .status ≡ stuck → ⊥)
+        → Inside W s (P .values) (P .cells)
     unfolding statementStep
     inside (Plain s) n w l t u = inside-simple s (n .next) w l t u
     inside (If c x y) n w l t u = tt
@@ -250,9 +264,11 @@ module _ (T : List ℤ) (h : Sections) (E : Environment) (D W S : List ℕ) wher
     point-stepped : Stepped E P (after P) (h .objects) (bareMove T h W D S (P .due) (P .values) (P .cells))
     unfolding bareMove
     point-stepped =
-        subst (λ (Q : Point). Stepped E P Q (h .objects) (statementMove W D (decodedAt T h (P .due)) (P .due) (entriesAt S (P .due)) (P .values) (P .cells))) (sym after-is)
+        subst (λ (Q : Point). Stepped E P Q (h .objects)
+        (statementMove W D (decodedAt T h (P .due)) (P .due) (entriesAt S (P .due)) (P .values) (P .cells))) (sym after-is)
         (rw (read-decoded T h (P .due) here reads)
-        (stepped P here (entriesAt S (P .due)) (R .ends) (rows-now P R) (read-limits T h (P .due) here reads .0) (read-typed T h (P .due) here reads) (R .origins) free-here))
+        (stepped P here (entriesAt S (P .due)) (R .ends) (rows-now P R) (read-limits T h (P .due) here reads .0) (read-typed T h (P .due) here reads)
+        (R .origins) free-here))
 
     -- The step without origins says and leaves what the plain machine's next point shows.
     pub step-agrees : bareMove T h W D S (P .due) (P .values) (P .cells) ≡ moveShown E (after P)
@@ -264,7 +280,8 @@ module _ (T : List ℤ) (h : Sections) (E : Environment) (D W S : List ℕ) wher
           statement = here;
           reads = reads;
           inside =
-              inside P (R .origins) (R .objects) here (entriesAt S (P .due)) (R .ends) (read-limits T h (P .due) here reads .0) (read-typed T h (P .due) here reads) free-here;
+              inside P (R .origins) (R .objects) here (entriesAt S (P .due)) (R .ends) (read-limits T h (P .due) here reads .0)
+              (read-typed T h (P .due) here reads) free-here;
         }
 
     -- What the run needs holds of the next point too, with the ends in force there.
@@ -310,22 +327,26 @@ module _ (T : List ℤ) (h : Sections) (E : Environment) (D S : List ℕ) where
             (λ i. safe-run (endsOf E (next P .rows)) l (next P) i (runnable-next T h E D W S P g R due)) (free T h E D W S P g R due)),
       ))
 
-  spent-or-done : (b : Bool) (n a : ℕ) (W vs cs : List ℕ) → cond b (result (Spent n a) W vs cs) (result (Done n) W vs cs) ≡ result (cond b (Spent n a) (Done n)) W vs cs
+  spent-or-done : (b : Bool) (n a : ℕ) (W vs cs : List ℕ)
+      → cond b (result (Spent n a) W vs cs) (result (Done n) W vs cs) ≡ result (cond b (Spent n a) (Done n)) W vs cs
   spent-or-done true n a W vs cs = refl
   spent-or-done false n a W vs cs = refl
 
   -- The result shown at a point that is going.
-  shown-going : (P : Point) (b : Bool) → P .status ≡ going → ltb (P .due) (h .statements) ≡ b → result (cond b (Spent (P .steps) (P .due)) (Done (P .steps))) (endsOf E (P .rows)) (P .values) (P .cells) ≡ resultShown E h P
+  shown-going : (P : Point) (b : Bool) → P .status ≡ going → ltb (P .due) (h .statements) ≡ b
+      → result (cond b (Spent (P .steps) (P .due)) (Done (P .steps))) (endsOf E (P .rows)) (P .values) (P .cells) ≡ resultShown E h P
   shown-going P b g e =
       ap (λ (x : Bool). result (cond x (Spent (P .steps) (P .due)) (Done (P .steps))) (endsOf E (P .rows)) (P .values) (P .cells)) (sym e)
       ∙ ap (λ (s : Status). result (outcomeShown h s (P .steps) (P .due)) (endsOf E (P .rows)) (P .values) (P .cells)) (sym g)
 
-  shown-stopped : (P : Point) (k n : ℕ) → P .status ≡ stopped k → n ≡ P .steps → result (Stopped n (checkOf k (P .due))) (endsOf E (P .rows)) (P .values) (P .cells) ≡ resultShown E h P
+  shown-stopped : (P : Point) (k n : ℕ) → P .status ≡ stopped k → n ≡ P .steps
+      → result (Stopped n (checkOf k (P .due))) (endsOf E (P .rows)) (P .values) (P .cells) ≡ resultShown E h P
   shown-stopped P k n g e =
       ap (λ (i : ℕ). result (Stopped i (checkOf k (P .due))) (endsOf E (P .rows)) (P .values) (P .cells)) e
       ∙ ap (λ (s : Status). result (outcomeShown h s (P .steps) (P .due)) (endsOf E (P .rows)) (P .values) (P .cells)) (sym g)
 
-  followed : (s : Status) (a n : ℕ) (F : ℕ → Result) (W vs cs : List ℕ) (X : Result) → (s ≡ going → F a ≡ X) → ((k : ℕ) → s ≡ stopped k → result (Stopped n (checkOf k a)) W vs cs ≡ X) →
+  followed : (s : Status) (a n : ℕ) (F : ℕ → Result) (W vs cs : List ℕ) (X : Result) → (s ≡ going → F a ≡ X)
+      → ((k : ℕ) → s ≡ stopped k → result (Stopped n (checkOf k a)) W vs cs ≡ X) →
       (s ≡ stuck → ⊥) → follow (stepShown s a) F n W vs cs ≡ X
   followed going a n F W vs cs X f c u = f refl
   followed (stopped k) a n F W vs cs X f c u = c k refl
@@ -336,7 +357,8 @@ module _ (T : List ℤ) (h : Sections) (E : Environment) (D S : List ℕ) where
   by-test false x y X f c = c refl
 
   -- The run without origins ends as the plain machine's point at that limit shows.
-  pub run-agrees : (W : List ℕ) (l : ℕ) (P : Point) → P .status ≡ going → Runnable T h E D W S P → bareRun T h W D S l (P .steps) (P .due) (P .values) (P .cells) ≡ resultShown E h (pointAfter T h E D l P)
+  pub run-agrees : (W : List ℕ) (l : ℕ) (P : Point) → P .status ≡ going → Runnable T h E D W S P
+      → bareRun T h W D S l (P .steps) (P .due) (P .values) (P .cells) ≡ resultShown E h (pointAfter T h E D l P)
   unfolding bareRun pointAfter
   run-agrees W zero P g R = rw (R .ends) (spent-or-done (ltb (P .due) (h .statements)) _ _ _ _ _ ∙ shown-going P _ g refl)
   run-agrees W (suc l) P g R =
@@ -347,10 +369,12 @@ module _ (T : List ℤ) (h : Sections) (E : Environment) (D S : List ℕ) where
       let n = P .steps + 1 in
       let X = endsOf E (Q .rows) in
       let counted = point-stepped T h E D W S P g R due .counted in
-      ap (λ (m : Move). follow (m .said) (λ b. bareRun T h (m .ends) D S l n b (m .values) (m .cells)) n (m .ends) (m .values) (m .cells)) (step-agrees T h E D W S P g R due)
+      ap (λ (m : Move). follow (m .said) (λ b. bareRun T h (m .ends) D S l n b (m .values) (m .cells)) n (m .ends) (m .values) (m .cells))
+      (step-agrees T h E D W S P g R due)
       ∙ followed (Q .status) (Q .due) n (λ b. bareRun T h X D S l n b (Q .values) (Q .cells)) X (Q .values) (Q .cells) _
       (λ i. ap (λ (j : ℕ). bareRun T h X D S l j (Q .due) (Q .values) (Q .cells)) (sym counted)
       ∙ (run-agrees X l Q i (runnable-next T h E D W S P g R due) ∙ ap (resultShown E h) (later T h E D W S l P)))
-      (λ k i. shown-stopped Q k n i (sym counted) ∙ ap (resultShown E h) (sym (stays T h E D W S Q (after-stopped T h E D W S Q k i) l) ∙ later T h E D W S l P))
+      (λ k i. shown-stopped Q k n i (sym counted)
+      ∙ ap (resultShown E h) (sym (stays T h E D W S Q (after-stopped T h E D W S Q k i) l) ∙ later T h E D W S l P))
       (free T h E D W S P g R due))
       (λ e. rw (R .ends) (shown-going P false g e ∙ ap (resultShown E h) (sym (stays T h E D W S P (after-ended T h E D W S P g e) (suc l)))))

@@ -36,7 +36,8 @@ module _ (h : Sections) (E : Environment) (D cs vs os : List ℕ) (A : Admitted 
   pair-placed : (o : ℕ) → o < h .objects → Placed E D (length cs) o
   unfolding pairRight
   pair-placed o l =
-      let t = three (leb (endBefore D o) (getD D (2 * o) 0)) (leb (getD D (2 * o) 0 + getD D (2 * o + 1) 0) (length cs)) (eqb (getD D (2 * o + 1) 0) (objectLength E o)) (A .objects o l) in
+      let t = three (leb (endBefore D o) (getD D (2 * o) 0)) (leb (getD D (2 * o) 0 + getD D (2 * o + 1) 0) (length cs))
+      (eqb (getD D (2 * o + 1) 0) (objectLength E o)) (A .objects o l) in
       record {
         first = omega (arith, leb-true (endBefore D o) (getD D (2 * o) 0) (t .0), end-positive o (omega arith));
         long = eqb-true _ _ (t .2);
@@ -87,7 +88,8 @@ module _ (h : Sections) (E : Environment) (D cs vs os : List ℕ) (A : Admitted 
   unfolding boundsTrue
   null-right p z = rw (eq-eqb (value vs p) 0 z)
 
-  pub entry-begun : ((x : ℕ) → getD vs x 0 ≤ maxValue) → ((i : ℕ) → getD cs i 0 ≤ maxValue) → ((p : ℕ) → isPointer E p ≡ true → p < h .variables) → Begun h E D cs vs os
+  pub entry-begun : ((x : ℕ) → getD vs x 0 ≤ maxValue) → ((i : ℕ) → getD cs i 0 ≤ maxValue) → ((p : ℕ) → isPointer E p ≡ true → p < h .variables)
+      → Begun h E D cs vs os
   entry-begun small-values small-cells few = record {
     pairs = A .pairs;
     placed = pair-placed;

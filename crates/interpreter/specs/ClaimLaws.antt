@@ -49,7 +49,8 @@ use Rattle.rules.specs.Verdict as verdictRules
 use Rattle.rules.specs.ByChains.{byChains}
 use Rattle.rules.specs.Decidable.{decided, decider, decider-decides}
 use Rattle.rules.specs.Agreement.{SameFirst, same-self, same-also, faults-agree}
-use Rattle.interpreter.specs.Claim.{Lent, Leaves, entryFaults, runFaults, answerOf, failingDue, answerAt, AtPoint, Ran, RunAnswer, RunJudged, Begins, WholeRun}
+use Rattle.interpreter.specs.Claim.{Lent, Leaves, entryFaults, runFaults, answerOf, failingDue}
+use Rattle.interpreter.specs.Claim.{answerAt, AtPoint, Ran, RunAnswer, RunJudged, Begins, WholeRun}
 use Rattle.entry.specs.Entered.{entered}
 use Rattle.entry.specs.declared.EntryVerdict.{EntryVerdict}
 use Rattle.entry.specs.declared.EntryVerdict.the-variants as entry
@@ -104,14 +105,16 @@ stopped-steps h stuck steps due n a k e = let z : _≡_ {A = ℕ} 0 1 = cc in ne
 spent-steps : (h : Sections) (s : Status) (steps due n a : ℕ) → answerOf h s steps due ≡ says.spent n a → (s ≡ going) × (due < h .statements) × (steps ≡ n)
 spent-steps h going steps due n a e = go (ltb due (h .statements)) refl e
   where
-    go : (b : Bool) → ltb due (h .statements) ≡ b → cond b (says.spent steps due) (says.done steps) ≡ says.spent n a → (going ≡ going) × (due < h .statements) × (steps ≡ n)
+    go : (b : Bool) → ltb due (h .statements) ≡ b → cond b (says.spent steps due) (says.done steps) ≡ says.spent n a
+        → (going ≡ going) × (due < h .statements) × (steps ≡ n)
     go true q e = (refl, ltb-true due (h .statements) q, cc)
     go false q e = let z : _≡_ {A = ℕ} 0 1 = cc in never z
 spent-steps h (stopped k) steps due n a e = let z : _≡_ {A = ℕ} 0 1 = cc in never z
 spent-steps h stuck steps due n a e = let z : _≡_ {A = ℕ} 0 1 = cc in never z
 
 -- What the code's answer at a point reads as.
-reads-shown : (h : Sections) (s : Status) (steps due : ℕ) → ((n : ℕ) → s ≡ stopped n → (1 ≤ n) × (n ≤ 6)) → reads (outcomeShown h s steps due) ≡ answerOf h s steps due
+reads-shown : (h : Sections) (s : Status) (steps due : ℕ) → ((n : ℕ) → s ≡ stopped n → (1 ≤ n) × (n ≤ 6))
+    → reads (outcomeShown h s steps due) ≡ answerOf h s steps due
 reads-shown h going steps due five = go (ltb due (h .statements))
   where
     go : (b : Bool) → reads (cond b (Spent steps due) (Done steps)) ≡ cond b (says.spent steps due) (says.done steps)
@@ -124,7 +127,8 @@ reads-shown h stuck steps due five = refl
 
 -- ---- every point of a begun run
 
-module _ (T : List ℤ) (h : Sections) (formed : formOf T ≡ WellFormed h) (accepts : faults T ≡ []) (D cs vs os : List ℕ) (begun : Begun h (environmentOf T h) D cs vs os) where
+module _ (T : List ℤ) (h : Sections) (formed : formOf T ≡ WellFormed h) (accepts : faults T ≡ []) (D cs vs os : List ℕ)
+    (begun : Begun h (environmentOf T h) D cs vs os) where
   abbrev E : Environment
   E = environmentOf T h
 
@@ -178,7 +182,8 @@ module _ (T : List ℤ) (h : Sections) (formed : formOf T ≡ WellFormed h) (acc
   finished : (limit t : ℕ) → t ≤ limit → point t .status ≡ going → (shown limit ≡ says.done (point t .steps)) ↔ (h .statements ≤ point t .due)
   finished limit t l g = (
     (λ e. by-due e (ltb (point t .due) (h .statements)) refl),
-    (λ d. ap (λ (P : Point). answerOf h (P .status) (P .steps) (P .due)) (ended-done limit t l g d) ∙ going-done h (point t .status) (point t .steps) (point t .due) g d),
+    (λ d. ap (λ (P : Point). answerOf h (P .status) (P .steps) (P .due)) (ended-done limit t l g d)
+        ∙ going-done h (point t .status) (point t .steps) (point t .due) g d),
   )
     where
       by-time : shown limit ≡ says.done (point t .steps) → point t .due < h .statements → (t ≡ limit) ⊎ (t < limit) → ⊥
@@ -195,13 +200,17 @@ module _ (T : List ℤ) (h : Sections) (formed : formOf T ≡ WellFormed h) (acc
 
   spent : (limit t : ℕ) → point t .status ≡ going → point t .due < h .statements → (shown limit ≡ says.spent (point t .steps) (point t .due)) ↔ (t ≡ limit)
   spent limit t g l = (
-    (λ e. let f = spent-steps h (point limit .status) (point limit .steps) (point limit .due) (point t .steps) (point t .due) e in omega (arith, f .2, counted limit (f .0) (f .1), counted t g l)),
+    (λ e. let f = spent-steps h (point limit .status) (point limit .steps) (point limit .due) (point t .steps) (point t .due) e in
+        omega (arith, f .2, counted limit (f .0) (f .1), counted t g l)),
     (λ e. rw (← e) (going-spent h (point t .status) (point t .steps) (point t .due) g l)),
   )
 
   answers-check : (limit t : ℕ) → point t .status ≡ going → point t .due < h .statements → t < limit → (n a : ℕ)
       → (shown limit ≡ says.stopped (point t .steps + 1) a n) ↔ ((failingDue lent h t ≡ fails n) × (a ≡ point t .due))
-  answers-check limit t g d l n a = ((λ e. by-status e (point (t + 1) .status) refl), (λ w. at-stop n (facts .stops n .1 (w .0)) ∙ ap (λ (x : ℕ). says.stopped (point t .steps + 1) x n) (sym (w .1))))
+  answers-check limit t g d l n a = (
+    (λ e. by-status e (point (t + 1) .status) refl),
+    (λ w. at-stop n (facts .stops n .1 (w .0)) ∙ ap (λ (x : ℕ). says.stopped (point t .steps + 1) x n) (sym (w .1))),
+  )
     where
       facts : StepFacts (failingDue lent h t) (point t) (point (t + 1))
       facts = point-step T h E D first t g d (unstuck (t + 1))
@@ -226,9 +235,11 @@ module _ (T : List ℤ) (h : Sections) (formed : formOf T ≡ WellFormed h) (acc
 
           by-due : (b : Bool) → ltb (point (t + 1) .due) (h .statements) ≡ b → ⊥
           by-due true q = by-time (ltb-true (point (t + 1) .due) (h .statements) q) (eq-or-lt-of-le (omega arith))
-          by-due false q = contrary (ap (λ (P : Point). P .status) (ended-done limit (t + 1) (omega arith) s (ltb-false (point (t + 1) .due) (h .statements) q)) ∙ s)
+          by-due false q = contrary
+              (ap (λ (P : Point). P .status) (ended-done limit (t + 1) (omega arith) s (ltb-false (point (t + 1) .due) (h .statements) q)) ∙ s)
 
-      by-status : shown limit ≡ says.stopped (point t .steps + 1) a n → (s : Status) → point (t + 1) .status ≡ s → (failingDue lent h t ≡ fails n) × (a ≡ point t .due)
+      by-status : shown limit ≡ says.stopped (point t .steps + 1) a n → (s : Status) → point (t + 1) .status ≡ s
+          → (failingDue lent h t ≡ fails n) × (a ≡ point t .due)
       by-status e going s = absurd (went-on e s)
       by-status e (stopped k) s =
           let q : says.stopped (point t .steps + 1) a n ≡ says.stopped (point t .steps + 1) (point t .due) k = sym e ∙ at-stop k s in
@@ -286,13 +297,16 @@ pub record Small (cs vs : List ℕ) : Type 0 where
 module _ (T : List ℤ) (h : Sections) (formed : formOf T ≡ WellFormed h) (accepts : faults T ≡ []) (D cs vs os : List ℕ) (small : Small cs vs)
     (none : entryRefusals h (environmentOf T h) D cs vs os ≡ []) where
   begun : Begun h (environmentOf T h) D cs vs os
-  begun = entry-begun h (environmentOf T h) D cs vs os (admitted h (environmentOf T h) D cs vs os none) (small .values-small) (small .cells-small) (environment-declares T h (well-formed T h formed) .below)
+  begun = entry-begun h (environmentOf T h) D cs vs os (admitted h (environmentOf T h) D cs vs os none) (small .values-small) (small .cells-small)
+      (environment-declares T h (well-formed T h formed) .below)
 
   -- What the loop asks.
   pub run-prepared : (w : List ℕ) → 2 * h .statements ≤ length w → Prepared T h (endsOf (environmentOf T h) ownRows) D (written (tableFlow T h) w) vs
-  run-prepared w room = start-prepared T h D cs vs os w (well-formed T h formed) (clear T h formed accepts .laid) room (admitted h (environmentOf T h) D cs vs os none)
+  run-prepared w room = start-prepared T h D cs vs os w (well-formed T h formed) (clear T h formed accepts .laid) room
+      (admitted h (environmentOf T h) D cs vs os none)
 
-  pub run-safe : (w : List ℕ) → 2 * h .statements ≤ length w → (limit : ℕ) → SafeRun T h (endsOf (environmentOf T h) ownRows) D (written (tableFlow T h) w) limit 0 vs cs
+  pub run-safe : (w : List ℕ) → 2 * h .statements ≤ length w → (limit : ℕ)
+      → SafeRun T h (endsOf (environmentOf T h) ownRows) D (written (tableFlow T h) w) limit 0 vs cs
   run-safe w room limit =
       start-safe T h D cs vs os w (well-formed T h formed) (clear T h formed accepts .laid) room (admitted h (environmentOf T h) D cs vs os none)
       (unstuck T h formed accepts D cs vs os begun) (rows-long T h formed accepts D cs vs os begun) limit
@@ -302,13 +316,18 @@ module _ (T : List ℤ) (h : Sections) (formed : formOf T ≡ WellFormed h) (acc
       → Ends (bareRun T h (endsOf (environmentOf T h) ownRows) D (written (tableFlow T h) w) limit 0 0 vs cs) r W′ vs′ cs′
       → Ran (lends T D cs vs os) (sectionsOf T) limit (leaves r vs′ cs′)
   run-claim w room limit r W′ vs′ cs′ e =
-      let agrees : bareRun T h (endsOf (environmentOf T h) ownRows) D (written (tableFlow T h) w) limit 0 0 vs cs ≡ resultShown (environmentOf T h) h (point T h formed accepts D cs vs os begun limit)
+      let agrees : bareRun T h (endsOf (environmentOf T h) ownRows) D (written (tableFlow T h) w) limit 0 0 vs cs ≡ resultShown (environmentOf T h) h
+      (point T h formed accepts D cs vs os begun limit)
       = start-agrees T h D cs vs os w (well-formed T h formed) (clear T h formed accepts .laid) room (admitted h (environmentOf T h) D cs vs os none)
       (unstuck T h formed accepts D cs vs os begun) (rows-long T h formed accepts D cs vs os begun) limit in
       let answered : reads r ≡ shown T h formed accepts D cs vs os begun limit =
       ap reads (e .outcome ∙ ap (λ (o : Result). o .outcome) agrees) ∙ reads-at T h formed accepts D cs vs os begun limit in
       subst (λ (g : Sections). Ran (lends T D cs vs os) g limit (leaves r vs′ cs′)) (formed-sections T h formed) (record {
-        ends = record { answer = answered; values = e .values ∙ ap (λ (o : Result). o .values) agrees; cells = e .cells ∙ ap (λ (o : Result). o .cells) agrees };
+        ends = record {
+          answer = answered;
+          values = e .values ∙ ap (λ (o : Result). o .values) agrees;
+          cells = e .cells ∙ ap (λ (o : Result). o .cells) agrees;
+        };
         every-point = λ t l. at-point T h formed accepts D cs vs os begun limit t (reads r) answered l;
       })
 
@@ -324,7 +343,8 @@ pub check-refused : (T : List ℤ) (D cs vs os : List ℕ) (limit : ℕ) (r : Re
 unfolding runFaults RunAnswer also verdictOf
 check-refused T D cs vs os limit r a = go (faults T) a
   where
-    go : (fs : List Refusal) → verdict.Refused r ≡ verdictOf fs → RunAnswer (also fs (entryFaults (formOf T) (lends T D cs vs os))) (lends T D cs vs os) limit (leaves (outcome.Refused r) vs cs)
+    go : (fs : List Refusal) → verdict.Refused r ≡ verdictOf fs
+        → RunAnswer (also fs (entryFaults (formOf T) (lends T D cs vs os))) (lends T D cs vs os) limit (leaves (outcome.Refused r) vs cs)
     go [] a = let z : _≡_ {A = ℕ} 0 1 = cc in absurd (omega arith)
     go (f ∷ fs) a = record { answer = let e : r ≡ f = cc in ap (λ (x : Refusal). reads (outcome.Refused x)) e; values = refl; cells = refl }
 
@@ -333,7 +353,8 @@ pub no-form-refused : (T : List ℤ) (r : Refusal) → faults T ≡ [] → formO
 no-form-refused T r e f = let p = faults-clear T e in let q = p .1 .form in let z : _≡_ {A = ℕ} 0 1 = cc in omega arith
 
 -- Of an accepted table the faults of a run are those of the entry.
-entry-only : (T : List ℤ) (h : Sections) (D cs vs os : List ℕ) → formOf T ≡ WellFormed h → faults T ≡ [] → runFaults store (lends T D cs vs os) ≡ entryRefusals h (environmentOf T h) D cs vs os
+entry-only : (T : List ℤ) (h : Sections) (D cs vs os : List ℕ) → formOf T ≡ WellFormed h → faults T ≡ []
+    → runFaults store (lends T D cs vs os) ≡ entryRefusals h (environmentOf T h) D cs vs os
 unfolding runFaults also
 entry-only T h D cs vs os f e = rw (e, f)
 
@@ -343,7 +364,8 @@ entered-none [] e = refl
 entered-none (r ∷ rs) e = cc
 
 pub entry-refused : (T : List ℤ) (h : Sections) (D cs vs os : List ℕ) (limit : ℕ) (r : Refusal) → formOf T ≡ WellFormed h → faults T ≡ []
-    → entered (entryRefusals h (environmentOf T h) D cs vs os) ≡ entry.Refused r → RunAnswer (runFaults store (lends T D cs vs os)) (lends T D cs vs os) limit (leaves (outcome.Refused r) vs cs)
+    → entered (entryRefusals h (environmentOf T h) D cs vs os) ≡ entry.Refused r
+    → RunAnswer (runFaults store (lends T D cs vs os)) (lends T D cs vs os) limit (leaves (outcome.Refused r) vs cs)
 unfolding RunAnswer entered
 entry-refused T h D cs vs os limit r f e q = rw (entry-only T h D cs vs os f e) (go (entryRefusals h (environmentOf T h) D cs vs os) q)
   where
@@ -352,7 +374,8 @@ entry-refused T h D cs vs os limit r f e q = rw (entry-only T h D cs vs os f e) 
     go (x ∷ rs) q = record { answer = let e : r ≡ x = cc in ap (λ (y : Refusal). reads (outcome.Refused y)) e; values = refl; cells = refl }
 
 pub begun-ran : (T : List ℤ) (h : Sections) (D cs vs os : List ℕ) (limit : ℕ) (r : Outcome) (vs′ cs′ : List ℕ) → formOf T ≡ WellFormed h → faults T ≡ []
-    → entryRefusals h (environmentOf T h) D cs vs os ≡ [] → Ran (lends T D cs vs os) (sectionsOf T) limit (leaves r vs′ cs′) → RunAnswer (runFaults store (lends T D cs vs os)) (lends T D cs vs os) limit (leaves r vs′ cs′)
+    → entryRefusals h (environmentOf T h) D cs vs os ≡ [] → Ran (lends T D cs vs os) (sectionsOf T) limit (leaves r vs′ cs′)
+    → RunAnswer (runFaults store (lends T D cs vs os)) (lends T D cs vs os) limit (leaves r vs′ cs′)
 unfolding RunAnswer
 begun-ran T h D cs vs os limit r vs′ cs′ f e n a = rw (entry-only T h D cs vs os f e, n) a
 
@@ -369,7 +392,8 @@ pub record Launched (T : List ℤ) (h : Sections) (D cs vs os W S : List ℕ) : 
   pub successors : S ≡ written (tableFlow T h) slice
 
 pub launched : {T : List ℤ} {h : Sections} {D cs vs os W S : List ℕ} {E′ : Environment} {v : EntryVerdict} {b : Bool} (w : List ℕ)
-    → formOf T ≡ WellFormed h → faults T ≡ [] → Small cs vs → E′ ≡ environmentOf T h → v ≡ entered (entryRefusals h E′ D cs vs os) → v ≡ entry.Begun → W ≡ endsOf E′ ownRows
+    → formOf T ≡ WellFormed h → faults T ≡ [] → Small cs vs → E′ ≡ environmentOf T h → v ≡ entered (entryRefusals h E′ D cs vs os) → v ≡ entry.Begun
+    → W ≡ endsOf E′ ownRows
     → Written T h w b S → length w ≡ 2048 → Launched T h D cs vs os W S
 launched {T} {h} {D} {cs} {vs} {os} {W} {S} {E′} {v} w f a l e q g k s n =
     let room : 2 * h .statements ≤ length w = omega (arith, well-formed T h f .limits .statements) in
@@ -391,7 +415,8 @@ module _ {T : List ℤ} {h : Sections} {D cs vs os W S : List ℕ} (L : Launched
     run-safe T h (L .formed) (L .accepts) D cs vs os (L .small) (L .none) (L .slice) (L .room) limit,
   )
 
-  pub launched-ran : {r : Outcome} {W′ vs′ cs′ : List ℕ} → Ends (bareRun T h W D S limit 0 0 vs cs) r W′ vs′ cs′ → RunAnswer (runFaults store (lends T D cs vs os)) (lends T D cs vs os) limit (leaves r vs′ cs′)
+  pub launched-ran : {r : Outcome} {W′ vs′ cs′ : List ℕ} → Ends (bareRun T h W D S limit 0 0 vs cs) r W′ vs′ cs′
+      → RunAnswer (runFaults store (lends T D cs vs os)) (lends T D cs vs os) limit (leaves r vs′ cs′)
   launched-ran {r} {W′} {vs′} {cs′} e =
       begun-ran T h D cs vs os limit r vs′ cs′ (L .formed) (L .accepts) (L .none)
       (run-claim T h (L .formed) (L .accepts) D cs vs os (L .small) (L .none) (L .slice) (L .room) limit r W′ vs′ cs′ (rw (L .ends, L .successors) at e))
@@ -407,7 +432,8 @@ same-run (f ∷ fs) [] T D cs vs os limit r vs′ cs′ s a = absurd s
 same-run (f ∷ fs) (g ∷ gs) T D cs vs os limit r vs′ cs′ s a =
     record { answer = a .answer ∙ ap (λ (x : Refusal). reads (outcome.Refused x)) s; values = a .values; cells = a .cells }
 
-pub run-judged : (T : List ℤ) (D cs vs os : List ℕ) (limit : ℕ) (r : Outcome) (vs′ cs′ : List ℕ) → RunAnswer (runFaults store (lends T D cs vs os)) (lends T D cs vs os) limit (leaves r vs′ cs′)
+pub run-judged : (T : List ℤ) (D cs vs os : List ℕ) (limit : ℕ) (r : Outcome) (vs′ cs′ : List ℕ)
+    → RunAnswer (runFaults store (lends T D cs vs os)) (lends T D cs vs os) limit (leaves r vs′ cs′)
     → RunJudged (lends T D cs vs os) limit (leaves r vs′ cs′)
 unfolding RunJudged runFaults
 run-judged T D cs vs os limit r vs′ cs′ a =

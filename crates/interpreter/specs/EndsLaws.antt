@@ -20,7 +20,8 @@ use Rattle.sections.specs.Sections.{Limits}
 use Rattle.sections.specs.declared.Sections.{Sections}
 use Rattle.statements.specs.Typed.{SimpleTyped}
 use Rattle.statements.specs.declared.Simple.{Simple}
-use Rattle.statements.specs.declared.Simple.the-variants.{Literal, AddConstant, Arithmetic, Null, Address, PointerOffset, PointerIndex, Load, Store, Check as Test, Declare}
+use Rattle.statements.specs.declared.Simple.the-variants.{Literal, AddConstant, Arithmetic, Null, Address, PointerOffset}
+use Rattle.statements.specs.declared.Simple.the-variants.{PointerIndex, Load, Store, Check as Test, Declare}
 use Rattle.variables.specs.Typed.{EndTyped}
 use Rattle.variables.specs.Variables.{variableAt, rowAt}
 use Rattle.variables.specs.VariableLaws.{variable-read-typed, variable-read-limits, row-read-typed}
@@ -36,7 +37,8 @@ use Rattle.rules.specs.Verdict.{boundsOf, environmentOf, rowBounds}
 use Rattle.rules.specs.declared.KnownEnd.the-variants.{Unknown}
 use Rattle.rules.specs.declared.Bounds.{Bounds}
 use Rattle.rules.specs.declared.Environment.{Environment}
-use Rattle.machine.specs.Machine.{value, endValue, endOf, lowerEnd, upperEnd, address, none, firstOf, accessFailing, loadFailing, storeFailing, failing, indexed, arithmeticFailing, Failing, beyond, terminatorFailing}
+use Rattle.machine.specs.Machine.{value, endValue, endOf, lowerEnd, upperEnd, address, none, firstOf, accessFailing, loadFailing}
+use Rattle.machine.specs.Machine.{storeFailing, failing, indexed, arithmeticFailing, Failing, beyond, terminatorFailing}
 use Rattle.ends.specs.Ends.{endNumber, boundsNumber, endsOf, placeBounds, afterBounds, placeNumber, markNumber}
 use Rattle.checks.specs.Checked.{boundsIn, declaredIn, sizeIn, stringIn}
 use Rattle.checks.specs.CheckLaws.{size-in}
@@ -128,7 +130,8 @@ module _ (E : Environment) (R vs : List ℕ) (p : ℕ) (few : p < 16) where
   unfolding accessFailing
   access-same a rest =
       ap₂ (λ (l u : ℕ). firstOf (eqb (value vs p) 0) 2 (firstOf (ltb a l || beyond (isString (declaredIn (endsOf E R)) p) u a) 3 rest)) lower-same upper-same
-      ∙ ap (λ (b : Bool). firstOf (eqb (value vs p) 0) 2 (firstOf (ltb a (lowerEnd (inForce E R) vs p) || beyond b (upperEnd (inForce E R) vs p) a) 3 rest)) (string-same E R p few)
+      ∙ ap (λ (b : Bool). firstOf (eqb (value vs p) 0) 2
+      (firstOf (ltb a (lowerEnd (inForce E R) vs p) || beyond b (upperEnd (inForce E R) vs p) a) 3 rest)) (string-same E R p few)
 
   terminator-same : (a x : ℕ) → terminatorFailing (declaredIn (endsOf E R)) vs p a x ≡ terminatorFailing (inForce E R) vs p a x
   unfolding terminatorFailing
@@ -142,7 +145,8 @@ pub indexed-laid : (E : Environment) (R vs : List ℕ) (q i : ℕ) → q < 16 �
 indexed-laid E R vs q i few = ap (λ (s : ℕ). value vs q + s * value vs i) (size-same E R q few)
 
 -- The first check that fails is the same.
-pub failing-same : (T : List ℤ) (h : Sections) (E : Environment) (R vs : List ℕ) (s : Simple) → Limits h → SimpleTyped T h s → failing (declaredIn (endsOf E R)) vs s ≡ failing (inForce E R) vs s
+pub failing-same : (T : List ℤ) (h : Sections) (E : Environment) (R vs : List ℕ) (s : Simple) → Limits h → SimpleTyped T h s
+    → failing (declaredIn (endsOf E R)) vs s ≡ failing (inForce E R) vs s
 unfolding failing
 failing-same T h E R vs (Literal x k) l t = refl
 failing-same T h E R vs (AddConstant x y k) l t = refl
@@ -177,9 +181,11 @@ unfolding placeBounds
 place-other E R p v q n = go (ltb q 16) refl
   where
     go : (b : Bool) → ltb q 16 ≡ b
-        → cond b (declared (inForce E (set R p v)) q) (getD (E .rows) (q - 16) nothingKnown) ≡ cond b (declared (inForce E R) q) (getD (E .rows) (q - 16) nothingKnown)
+        → cond b (declared (inForce E (set R p v)) q) (getD (E .rows) (q - 16) nothingKnown) ≡ cond b (declared (inForce E R) q)
+        (getD (E .rows) (q - 16) nothingKnown)
     go true l =
-        declared-in-force E (set R p v) q (ltb-true q 16 l) ∙ ap (λ (k : ℕ). rowBound E k q) (getD-set-other R p q v 0 n) ∙ sym (declared-in-force E R q (ltb-true q 16 l))
+        declared-in-force E (set R p v) q (ltb-true q 16 l) ∙ ap (λ (k : ℕ). rowBound E k q) (getD-set-other R p q v 0 n)
+        ∙ sym (declared-in-force E R q (ltb-true q 16 l))
     go false l = refl
 
 place-own : (E : Environment) (R : List ℕ) (p r : ℕ) → p < 16 → length R ≡ 16 → placeBounds E (set R p (r + 1)) p ≡ rowBound E (suc r) p
@@ -263,7 +269,8 @@ module _ (T : List ℤ) (h : Sections) where
   pick-small true x y p q = p
   pick-small false x y p q = q
 
-  bounds-small : (b : Bounds) → ((j : ℕ) → endNumber (endOf (b .lower)) j < 2 ^ 34) → ((j : ℕ) → endNumber (endOf (b .upper)) j < 2 ^ 34) → (j : ℕ) → boundsNumber b j < 2 ^ 34
+  bounds-small : (b : Bounds) → ((j : ℕ) → endNumber (endOf (b .lower)) j < 2 ^ 34) → ((j : ℕ) → endNumber (endOf (b .upper)) j < 2 ^ 34) → (j : ℕ)
+      → boundsNumber b j < 2 ^ 34
   unfolding boundsNumber
   bounds-small b p q j = pick-small (ltb j 3) (endNumber (endOf (b .lower)) j) (endNumber (endOf (b .upper)) (j - 3)) (p j) (q (j - 3))
 
@@ -304,7 +311,8 @@ module _ (T : List ℤ) (h : Sections) where
   unfolding placeBounds rowBound
   place-small l R q j = go (ltb q 16) refl
     where
-      go : (b : Bool) → ltb q 16 ≡ b → boundsNumber (cond b (declared (inForce (environmentOf T h) R) q) (getD (environmentOf T h .rows) (q - 16) nothingKnown)) j < 2 ^ 34
+      go : (b : Bool) → ltb q 16 ≡ b
+          → boundsNumber (cond b (declared (inForce (environmentOf T h) R) q) (getD (environmentOf T h .rows) (q - 16) nothingKnown)) j < 2 ^ 34
       go true e = rw (declared-in-force (environmentOf T h) R q (ltb-true q 16 e)) (number-small l (getD R q 0) q j)
       go false e = rows-small l (q - 16) j
 

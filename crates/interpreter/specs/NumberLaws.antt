@@ -18,7 +18,10 @@ use Rattle.statements.specs.declared.StatementRead.the-variants.{Read, Unread}
 use Rattle.flow.specs.Flow.{Successors}
 use Rattle.rules.specs.BoundsRules.{inForce, isString}
 use Rattle.rules.specs.declared.Environment.{Environment}
-use Rattle.machine.specs.Machine.{value, address, lowerEnd, upperEnd, conditionHolds, Failing, none, fails, firstOf, firstUnless, accessFailing, arithmeticFailing, failing, Status, going, stopped, stuck, Point, Performed, done, no-step, performed, memoryOf, afterPerformed, afterChecks, branched, statementStep, successorsOf, stepIfDue, nextPoint, pointAfter, beyond, terminatorFailing}
+use Rattle.machine.specs.Machine.{value, address, lowerEnd, upperEnd, conditionHolds, Failing, none, fails, firstOf}
+use Rattle.machine.specs.Machine.{firstUnless, accessFailing, arithmeticFailing, failing, Status, going, stopped, stuck}
+use Rattle.machine.specs.Machine.{Point, Performed, done, no-step, performed, memoryOf, afterPerformed, afterChecks, branched}
+use Rattle.machine.specs.Machine.{statementStep, successorsOf, stepIfDue, nextPoint, pointAfter, beyond, terminatorFailing}
 use Rattle.stops.specs.Checks.{checkNumber, checkStatement, checkOf}
 use Rattle.stops.specs.declared.Check.{Check}
 use Rattle.stops.specs.declared.Check.the-variants.{ConditionFalse, NullAccess, OutOfBounds, NullArithmetic, AddressRange, Terminator}

@@ -107,7 +107,8 @@ module _ (h : Sections) (E : Environment) (D cs vs os : List ℕ) (A : Admitted 
       none : eqb (getD os v 0) 0 ≡ true → getD os v 0 ≤ h .objects
       none e = let z : getD os v 0 ≡ 0 = eqb-true _ _ e in omega arith
 
-      go : (a b : Bool) → cond (a && not b) (b || originHolds E D v (getD os v 0) (lowerEnd E vs v) (upperEnd E vs v)) (eqb (getD os v 0) 0) ≡ true → getD os v 0 ≤ h .objects
+      go : (a b : Bool) → cond (a && not b) (b || originHolds E D v (getD os v 0) (lowerEnd E vs v) (upperEnd E vs v)) (eqb (getD os v 0) 0) ≡ true
+          → getD os v 0 ≤ h .objects
       go true true e = none e
       go true false e = origin (getD os v 0) (lowerEnd E vs v) (upperEnd E vs v) e
       go false b e = none e
@@ -149,7 +150,8 @@ module _ (T : List ℤ) (h : Sections) (D cs vs os w : List ℕ)
         values = omega (arith, A .values);
       }
 
-  module _ (unstuck : (t : ℕ) → pointAfter T h E D t (start T h E D cs vs os) .status ≡ stuck → ⊥) (rows-long : (t : ℕ) → length (pointAfter T h E D t (start T h E D cs vs os) .rows) ≡ 16) where
+  module _ (unstuck : (t : ℕ) → pointAfter T h E D t (start T h E D cs vs os) .status ≡ stuck → ⊥)
+      (rows-long : (t : ℕ) → length (pointAfter T h E D t (start T h E D cs vs os) .rows) ≡ 16) where
     pub start-runnable : Runnable T h E D W S (start T h E D cs vs os)
     unfolding start
     start-runnable =

@@ -17,7 +17,8 @@ use Rattle.statements.specs.declared.StatementRead.the-variants.{Read, Unread}
 use Rattle.flow.specs.Flow.{Successors}
 use Rattle.rules.specs.BoundsRules.{inForce}
 use Rattle.rules.specs.declared.Environment.{Environment}
-use Rattle.machine.specs.Machine.{Failing, none, fails, failing, conditionHolds, Status, going, stopped, stuck, Point, Performed, done, no-step, performed, memoryOf, moved, halted, afterChecks, branched, statementStep, successorsOf, nextPoint, pointAfter}
+use Rattle.machine.specs.Machine.{Failing, none, fails, failing, conditionHolds, Status, going, stopped, stuck, Point, Performed, done, no-step}
+use Rattle.machine.specs.Machine.{performed, memoryOf, moved, halted, afterChecks, branched, statementStep, successorsOf, nextPoint, pointAfter}
 use Rattle.machine.specs.Points.{failingAt}
 
 -- The step from P to Q, where f is the first check that fails.
@@ -56,7 +57,8 @@ branch-facts : (b : Bool) (P : Point) (n : Successors) → StepFacts none P (bra
 branch-facts true P n = moves P (branched true P n) refl refl
 branch-facts false P n = moves P (branched false P n) refl refl
 
-step-facts : (E : Environment) (D : List ℕ) (s : StatementRead) (n : Successors) (P : Point) → statementStep E D s n P .status ≢ stuck → StepFacts (failingAt (inForce E (P .rows)) s (P .values)) P (statementStep E D s n P)
+step-facts : (E : Environment) (D : List ℕ) (s : StatementRead) (n : Successors) (P : Point) → statementStep E D s n P .status ≢ stuck
+    → StepFacts (failingAt (inForce E (P .rows)) s (P .values)) P (statementStep E D s n P)
 unfolding statementStep
 step-facts E D (Read (Plain s)) n P u = simple-facts (failing (inForce E (P .rows)) (P .values) s) (performed E D s (memoryOf P)) P (n .next) u
 step-facts E D (Read (If c x y)) n P u = branch-facts (conditionHolds (P .values) c) P n
@@ -135,7 +137,11 @@ module _ (T : List ℤ) (h : Sections) (E : Environment) (D : List ℕ) where
       count-next t ih g l = by-status (point t .status) refl
         where
           by-due : point t .status ≡ going → (b : Bool) → ltb (point t .due) (h .statements) ≡ b → point (t + 1) .steps ≡ t + 1
-          by-due s true q = omega (arith, point-step t s (ltb-true (point t .due) (h .statements) q) (unstuck (t + 1)) .counts g, ih s (ltb-true (point t .due) (h .statements) q))
+          by-due s true q = omega (
+            arith,
+            point-step t s (ltb-true (point t .due) (h .statements) q) (unstuck (t + 1)) .counts g,
+            ih s (ltb-true (point t .due) (h .statements) q),
+          )
           by-due s false q =
               let e : point (t + 1) .due ≡ point t .due = ap (λ (Q : Point). Q .due) (stays-done t s (ltb-false (point t .due) (h .statements) q)) in
               absurd (omega (arith, ltb-false (point t .due) (h .statements) q))

@@ -20,7 +20,7 @@ use Rattle.rules.specs.ByChains.{byChains}
 use Rattle.rules.specs.Decidable.{decider, decider-decides}
 use Rattle.rules.specs.Agreement.{SameFirst, faults-agree}
 use Rattle.rules.specs.AcceptedLaws.{faults-clear}
-use Rattle.rules.specs.RuleLaws.{no-first, no-rest}
+use Rattle.blocks.specs.LayoutLaws.{no-first, no-rest}
 use Rattle.machine.specs.Machine.{Point}
 use Rattle.machine.specs.Frame.{Elsewhere, SameCells}
 use Rattle.machine.specs.Reach.{CellOf, Reachable}
@@ -69,7 +69,8 @@ module _ (T : List ℤ) (D cs vs os : List ℕ) (begins : Begins (lends T D cs v
   pub other-elsewhere : (i : ℕ) → OtherCell (lends T D cs vs os) i → Elsewhere D (Reachable T h os) i
   other-elsewhere i (inl u) c =
       let q : c .object ≡ u .object =
-      one-object h (environmentOf T h) D cs vs os entry (c .object) (u .object) i (reachable-object (c .object) (c .chosen)) (u .chosen .0) (c .above) (c .below) (u .above) (u .below) in
+      one-object h (environmentOf T h) D cs vs os entry (c .object) (u .object) i (reachable-object (c .object) (c .chosen)) (u .chosen .0) (c .above)
+      (c .below) (u .above) (u .below) in
       u .chosen .1 (rw q at (c .chosen))
   other-elsewhere i (inr u) c = u (c .object) (reachable-object (c .object) (c .chosen)) (c .above) (c .below)
 

@@ -30,7 +30,13 @@ fn run_sections(
     limit: u32,
 ) -> Outcome
     requires { ⌜ (formOf (now table) ≡ WellFormed sections) × (faults (now table) ≡ []) ⌝ }
-    ensures { λ r. ⌜ RunStored (record { table = now (table .entry); directory = now (directory .entry); cells = now (cells .entry); values = now (values .entry); origins = now (origins .entry) }) limit (record { answer = r; values = now (values .exit); cells = now (cells .exit) }) ⌝ }
+    ensures { λ r. ⌜ RunStored (record {
+      table = now (table .entry);
+      directory = now (directory .entry);
+      cells = now (cells .entry);
+      values = now (values .entry);
+      origins = now (origins .entry);
+    }) limit (record { answer = r; values = now (values .exit); cells = now (cells .exit) }) ⌝ }
 {
     let environment = read_environment(table, sections);
     let entry = enter(sections, environment, directory, cells, values, origins);
@@ -65,7 +71,13 @@ fn run_accepted(
     limit: u32,
 ) -> Outcome
     requires { ⌜ faults (now table) ≡ [] ⌝ }
-    ensures { λ r. ⌜ RunStored (record { table = now (table .entry); directory = now (directory .entry); cells = now (cells .entry); values = now (values .entry); origins = now (origins .entry) }) limit (record { answer = r; values = now (values .exit); cells = now (cells .exit) }) ⌝ }
+    ensures { λ r. ⌜ RunStored (record {
+      table = now (table .entry);
+      directory = now (directory .entry);
+      cells = now (cells .entry);
+      values = now (values .entry);
+      origins = now (origins .entry);
+    }) limit (record { answer = r; values = now (values .exit); cells = now (cells .exit) }) ⌝ }
 {
     let form = read_form(table);
     match form {
@@ -85,7 +97,13 @@ pub fn run(
     origins: &[u32],
     limit: u32,
 ) -> Outcome
-    ensures { λ r. ⌜ RunJudged (record { table = now (table .entry); directory = now (directory .entry); cells = now (cells .entry); values = now (values .entry); origins = now (origins .entry) }) limit (record { answer = r; values = now (values .exit); cells = now (cells .exit) }) ⌝ }
+    ensures { λ r. ⌜ RunJudged (record {
+      table = now (table .entry);
+      directory = now (directory .entry);
+      cells = now (cells .entry);
+      values = now (values .entry);
+      origins = now (origins .entry);
+    }) limit (record { answer = r; values = now (values .exit); cells = now (cells .exit) }) ⌝ }
 {
     let verdict = check(table);
     match verdict {

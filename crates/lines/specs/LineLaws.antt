@@ -18,6 +18,7 @@ pub line-of-eight : (r : Refusal) {n p q : ℕ} {t : Text} → n ≡ number r �
 unfolding refusedLine spaced refusedWord bytesOf
 line-of-eight r {n} {p} {q} en ep eq e g = g .text ∙ rw (← en, ← ep, ← eq, eq-eqb n 8 e) (simp append-assoc)
 
-pub line-of-other : (r : Refusal) {n p : ℕ} {t : Text} → n ≡ number r → p ≡ place r → (n ≡ 8 → ⊥) → Grown [] (started n p ++ (lineFeed ∷ [])) 0 t → textOf t ≡ refusedLine (number r) (place r) (pointer r)
+pub line-of-other : (r : Refusal) {n p : ℕ} {t : Text} → n ≡ number r → p ≡ place r → (n ≡ 8 → ⊥) → Grown [] (started n p ++ (lineFeed ∷ [])) 0 t
+    → textOf t ≡ refusedLine (number r) (place r) (pointer r)
 unfolding refusedLine spaced refusedWord bytesOf
 line-of-other r {n} {p} en ep e g = g .text ∙ rw (← en, ← ep, ne-eqb n 8 e) (simp append-assoc)

@@ -14,7 +14,8 @@ use Rattle.facts.specs.Store.{dropped}
 use Rattle.facts.specs.declared.FactSet.{FactSet}
 use Rattle.sections.specs.declared.Sections.{Sections}
 use Rattle.statements.specs.declared.Simple.{Simple}
-use Rattle.statements.specs.declared.Simple.the-variants.{Literal, AddConstant, Arithmetic, Null, Address, PointerOffset, PointerIndex, Load, Store, Check, Declare}
+use Rattle.statements.specs.declared.Simple.the-variants.{Literal, AddConstant, Arithmetic, Null, Address}
+use Rattle.statements.specs.declared.Simple.the-variants.{PointerOffset, PointerIndex, Load, Store, Check, Declare}
 use Rattle.statements.specs.declared.Statement.{Statement}
 use Rattle.statements.specs.declared.Statement.the-variants.{Plain, If, While, Bundle}
 use Rattle.statements.specs.declared.StatementRead.{StatementRead}
@@ -43,7 +44,8 @@ targets-some T h a zero p = absurd (omega arith)
 targets-some T h a (suc n) p = rw sub-one
 
 -- One more statement marked.
-pub mark-more : (T : List ℤ) (h : Sections) (a n : ℕ) (m : List Bool) {r : List Bool} {got : StatementRead} → 0 < n → got ≡ statementAt T h a → r ≡ marked m (targetOf got)
+pub mark-more : (T : List ℤ) (h : Sections) (a n : ℕ) (m : List Bool) {r : List Bool} {got : StatementRead} → 0 < n → got ≡ statementAt T h a
+    → r ≡ marked m (targetOf got)
     → marked m (targetsFrom T h a n) ≡ marked r (targetsFrom T h (a + 1) (n - 1))
 mark-more T h a n m p g e =
     ap (marked m) (targets-some T h a n p) ∙ (marked-append m (targetOf (statementAt T h a)) (targetsFrom T h (a + 1) (n - 1))
@@ -157,7 +159,8 @@ dropped-more n lost f = rw add-one
 
 module _ (n : ℕ) (lost : ℕ → Bool) (f : FactSet) {g : FactSet} (e : g ≡ droppedEach n lost f) where
   pub drop-marked : lost n ≡ true → {r h : FactSet} → r ≡ dropped g n → h ≡ r → h ≡ droppedEach (n + 1) lost f
-  drop-marked t d q = q ∙ (d ∙ (ap (λ (i : FactSet). dropped i n) e ∙ sym (dropped-more n lost f ∙ ap (λ (b : Bool). cond b (dropped (droppedEach n lost f) n) (droppedEach n lost f)) t)))
+  drop-marked t d q = q ∙ (d ∙ (ap (λ (i : FactSet). dropped i n) e
+      ∙ sym (dropped-more n lost f ∙ ap (λ (b : Bool). cond b (dropped (droppedEach n lost f) n) (droppedEach n lost f)) t)))
 
   pub drop-unmarked : lost n ≡ false → {h : FactSet} → h ≡ g → h ≡ droppedEach (n + 1) lost f
   drop-unmarked t q = q ∙ (e ∙ sym (dropped-more n lost f ∙ ap (λ (b : Bool). cond b (dropped (droppedEach n lost f) n) (droppedEach n lost f)) t))
@@ -167,4 +170,5 @@ module _ (n : ℕ) (lost : ℕ → Bool) (f : FactSet) {g : FactSet} (e : g ≡ 
 
 pub loop-facts : (xs : List ℕ) (f : FactSet) (m : List Bool) → m ≡ marked noMarks xs → droppedEach 16 (λ v. getD m v false) f ≡ loopFacts xs f
 unfolding factRules.loopFacts
-loop-facts xs f m e = dropped-alike 16 _ _ f (λ v p. ap (λ (l : List Bool). getD l v false) e ∙ (marked-among noMarks xs v p ∙ ap (λ (b : Bool). b || among v xs) (getD-replicate 16 v false false p)))
+loop-facts xs f m e = dropped-alike 16 _ _ f
+    (λ v p. ap (λ (l : List Bool). getD l v false) e ∙ (marked-among noMarks xs v p ∙ ap (λ (b : Bool). b || among v xs) (getD-replicate 16 v false false p)))

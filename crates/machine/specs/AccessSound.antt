@@ -10,14 +10,16 @@ use lib.Dec.{ltb, eqb}
 use lib.ListN.{getD}
 use Rattle.sums.specs.Numbers.{bias}
 use Rattle.statements.specs.declared.Simple.{Simple}
-use Rattle.statements.specs.declared.Simple.the-variants.{Literal, AddConstant, Arithmetic, Null, Address, PointerOffset, PointerIndex, Load, Store, Check, Declare}
+use Rattle.statements.specs.declared.Simple.the-variants.{Literal, AddConstant, Arithmetic, Null, Address}
+use Rattle.statements.specs.declared.Simple.the-variants.{PointerOffset, PointerIndex, Load, Store, Check, Declare}
 use Rattle.rules.specs.FactsTrue.{neither}
 use Rattle.rules.specs.BoundsRules.{declared, elementSize, isString, isTerminated, upperLimit}
 use Rattle.rules.specs.BoundsTrue.{endAt, BoundsHold}
 use Rattle.rules.specs.EnvironmentLaws.{DeclaredEnds}
 use Rattle.rules.specs.declared.KnownEnd.the-variants.{Known}
 use Rattle.rules.specs.declared.Environment.{Environment}
-use Rattle.machine.specs.Machine.{value, lowerEnd, upperEnd, low, high, inOrigin, Failing, none, firstOf, accessFailing, Memory, beyond, terminatorFailing}
+use Rattle.machine.specs.Machine.{value, lowerEnd, upperEnd, low, high, inOrigin, Failing, none}
+use Rattle.machine.specs.Machine.{firstOf, accessFailing, Memory, beyond, terminatorFailing}
 use Rattle.machine.specs.Good.{TrueOf, InObject}
 
 pub first-none : (b : Bool) (n : ℕ) (rest : Failing) → firstOf b n rest ≡ none → (b ≡ false) × (rest ≡ none)
@@ -105,7 +107,8 @@ module _ (E : Environment) (D : List ℕ) (objects : ℕ) (m : Memory) (p : ℕ)
   upper-within i = ends-inside _ _ (i .bounds) .1
 
   module _ (placed : (o : ℕ) → o < objects → 1 ≤ low D o) where
-    pub access-inside : (a : ℕ) (rest : Failing) → accessFailing E (m .values) p a rest ≡ none → TrueOf E D objects m p (declared E p) → Inside D objects (getD (m .origins) p 0) a
+    pub access-inside : (a : ℕ) (rest : Failing) → accessFailing E (m .values) p a rest ≡ none → TrueOf E D objects m p (declared E p)
+        → Inside D objects (getD (m .origins) p 0) a
     access-inside a rest e t = go t
       where
         w : Passed a rest
@@ -123,7 +126,13 @@ module _ (E : Environment) (D : List ℕ) (objects : ℕ) (m : Memory) (p : ℕ)
             }
           where
             by-kind : (s : Bool) → isString E p ≡ s → a < high D (i .object) + bias
-            by-kind true q = omega (arith, w .within, upper-within i, limit-terminated (isTerminated E (i .object)) (high D (i .object)) (i .ended q), placed (i .object) (i .exists))
+            by-kind true q = omega (
+              arith,
+              w .within,
+              upper-within i,
+              limit-terminated (isTerminated E (i .object)) (high D (i .object)) (i .ended q),
+              placed (i .object) (i .exists),
+            )
             by-kind false q = omega (arith, w .below q, upper-within i, limit-most (isTerminated E (i .object)) (high D (i .object)))
 
     -- THE TERMINATOR IS NOT REACHED BUT AT THE UPPER END: an access at the last cell of a terminated object is at the upper end of its pointer, since no upper

@@ -15,7 +15,8 @@ use Rattle.statements.specs.Statements.{statementAt}
 use Rattle.statements.specs.StatementLaws.{read-typed}
 use Rattle.statements.specs.Typed.{SimpleTyped}
 use Rattle.statements.specs.declared.Simple.{Simple}
-use Rattle.statements.specs.declared.Simple.the-variants.{Literal, AddConstant, Arithmetic, Null, Address, PointerOffset, PointerIndex, Load, Store, Check, Declare}
+use Rattle.statements.specs.declared.Simple.the-variants.{Literal, AddConstant, Arithmetic, Null, Address}
+use Rattle.statements.specs.declared.Simple.the-variants.{PointerOffset, PointerIndex, Load, Store, Check, Declare}
 use Rattle.statements.specs.declared.Statement.the-variants.{Plain, If, While}
 use Rattle.statements.specs.declared.StatementRead.{StatementRead}
 use Rattle.blocks.specs.Tree.{Block, nil, plain, branch, loop, bundle, unread, target, targets, assigned}
@@ -23,13 +24,16 @@ use Rattle.flow.specs.Flow.{Successors, successors, entry, lead}
 use Rattle.flow.specs.Shape.{size}
 use Rattle.rules.specs.States.{State}
 use Rattle.flow.specs.Targets.{targetsFrom}
-use Rattle.rules.specs.Stored.{loopFacts, effect, bundleBounds, bundleFaults, sidesJoined, blockFaults, boundsAfter, stateAfter, assumed, atHead, accessIn, unshownIn, declaredIn, bundleAfter, blockAfter}
+use Rattle.rules.specs.Stored.{loopFacts, effect, bundleBounds, bundleFaults, sidesJoined, blockFaults, boundsAfter}
+use Rattle.rules.specs.Stored.{stateAfter, assumed, atHead, accessIn, unshownIn, declaredIn, bundleAfter, blockAfter}
 use Rattle.rules.specs.FactsTrue.{Agree, among-left, among-right, loop-facts-hold}
 use Rattle.rules.specs.BoundsRules.{isPointer, known, inForce}
-use Rattle.rules.specs.RuleLaws.{no-first, no-rest, access-passed, bounds-passed, rows-passed}
+use Rattle.blocks.specs.LayoutLaws.{no-first, no-rest}
+use Rattle.rules.specs.RuleLaws.{access-passed, bounds-passed, rows-passed}
 use Rattle.rules.specs.declared.Bounds.{Bounds}
 use Rattle.rules.specs.declared.Environment.{Environment}
-use Rattle.machine.specs.Machine.{value, conditionHolds, Failing, none, fails, failing, Memory, Performed, done, no-step, performed, Point, memoryOf, moved, halted, afterChecks, branched, statementStep}
+use Rattle.machine.specs.Machine.{value, conditionHolds, Failing, none, fails, failing, Memory, Performed, done, no-step}
+use Rattle.machine.specs.Machine.{performed, Point, memoryOf, moved, halted, afterChecks, branched, statementStep}
 use Rattle.machine.specs.Good.{Setting, Good, with-facts, shown-true, redeclared, declared-true}
 use Rattle.machine.specs.ConditionSound.{condition-holds, negated-holds}
 use Rattle.machine.specs.AccessSound.{Ready}
@@ -66,7 +70,8 @@ module _ (T : List ℤ) (h : Sections) (E : Environment) (D : List ℕ) (room : 
   abbrev GoodOut : State FactSet → Memory → Type 0
   GoodOut F m = Good h E D room F (declaredIn E F) m
 
-  pub ready-inside : (s : Simple) (F : State FactSet) (K : List Bounds) (m : Memory) → SimpleTyped T h s → accessIn E F K s ≡ true → GoodAt F K m → Ready (inForce E (m .rows)) D (h .objects) s m
+  pub ready-inside : (s : Simple) (F : State FactSet) (K : List Bounds) (m : Memory) → SimpleTyped T h s → accessIn E F K s ≡ true → GoodAt F K m
+      → Ready (inForce E (m .rows)) D (h .objects) s m
   unfolding boundsRules.accessShown
   ready-inside (Literal x k) F K m t e g = tt
   ready-inside (AddConstant x y k) F K m t e g = tt
@@ -76,9 +81,11 @@ module _ (T : List ℤ) (h : Sections) (E : Environment) (D : List ℕ) (room : 
   ready-inside (PointerOffset p q k) F K m t e g = tt
   ready-inside (PointerIndex p q i) F K m t e g = tt
   ready-inside (Load x p i k) F K m t e g =
-      let q = S .declares .pointer p (t .pointer) in rw (g .rows) (shown-true T h E D room S (F .facts) (F .rows) m p (known K p) (g .named) q (g .steady) (g .facts) e (g .bounds p q))
+      let q = S .declares .pointer p (t .pointer) in
+      rw (g .rows) (shown-true T h E D room S (F .facts) (F .rows) m p (known K p) (g .named) q (g .steady) (g .facts) e (g .bounds p q))
   ready-inside (Store p i k x) F K m t e g =
-      let q = S .declares .pointer p (t .pointer) in rw (g .rows) (shown-true T h E D room S (F .facts) (F .rows) m p (known K p) (g .named) q (g .steady) (g .facts) e (g .bounds p q))
+      let q = S .declares .pointer p (t .pointer) in
+      rw (g .rows) (shown-true T h E D room S (F .facts) (F .rows) m p (known K p) (g .named) q (g .steady) (g .facts) e (g .bounds p q))
   ready-inside (Check c) F K m t e g = tt
   ready-inside (Declare p r) F K m t e g = tt
 
@@ -127,15 +134,18 @@ module _ (T : List ℤ) (h : Sections) (E : Environment) (D : List ℕ) (room : 
     step-at P a r s d e q = rw (d, e, q)
 
     abbrev Goal : Block → State FactSet → ℕ → Memory → ℕ → Memory → Type 0
-    Goal b F after m d n = (At T h E D room b F d n ⊎ StandsAt T h E D room after (blockAfter T h E b F) d n) × Agree (assigned b) (value (m .values)) (value (n .values))
+    Goal b F after m d n = (At T h E D room b F d n ⊎ StandsAt T h E D room after (blockAfter T h E b F) d n)
+        × Agree (assigned b) (value (m .values)) (value (n .values))
 
     abbrev GoalLine : ℕ → List Simple → State FactSet → List Bounds → ℕ → Memory → ℕ → Memory → Type 0
     GoalLine a ss F K after m d n =
-        (AtLine T h E D room a ss F K d n ⊎ Stands T h E D room after (bundleAfter ss F) (bundleBounds E ss F K) d n) × Agree (targets ss) (value (m .values)) (value (n .values))
+        (AtLine T h E D room a ss F K d n ⊎ Stands T h E D room after (bundleAfter ss F) (bundleBounds E ss F K) d n)
+        × Agree (targets ss) (value (m .values)) (value (n .values))
 
     -- ---- bundles
 
-    line-step : (a : ℕ) (ss : List Simple) (F : State FactSet) (K : List Bounds) (after : ℕ) (P : Point) → LinkedLine T h f a ss after → bundleFaults E a ss F K ≡ []
+    line-step : (a : ℕ) (ss : List Simple) (F : State FactSet) (K : List Bounds) (after : ℕ) (P : Point) → LinkedLine T h f a ss after
+        → bundleFaults E a ss F K ≡ []
         → AtLine T h E D room a ss F K (P .due) (memoryOf P) → Fine (GoalLine a ss F K after (memoryOf P)) P (step P)
     unfolding walkRules.bundleFaults walkRules.bundleAfter walkRules.bundleBounds targets statementStep
     line-step a [] F K after P l q i = absurd i
@@ -147,7 +157,10 @@ module _ (T : List ℤ) (h : Sections) (E : Environment) (D : List ℕ) (room : 
         (checked (GoalLine a (s ∷ ss) F K after (memoryOf P)) P next (failing (inForce E (P .rows)) (P .values) s) (performed E D s (memoryOf P))
         (λ e.
         done-map
-        (λ n w. (into (enter-line (a + 1) ss (stateAfter s F) (boundsAfter (effect E (F .facts) s) K) after next n refl (w .good)), λ z r. w .agree z (among-left z (target s) (targets ss) r)))
+        (λ n w. (
+          into (enter-line (a + 1) ss (stateAfter s F) (boundsAfter (effect E (F .facts) s) K) after next n refl (w .good)),
+          λ z r. w .agree z (among-left z (target s) (targets ss) r),
+        ))
         (performed E D s (memoryOf P)) (performed-good T h E D room S F K (memoryOf P) (i .1) s typed (ready-inside s F K (memoryOf P) typed shown (i .1)) e)))
     line-step a (s ∷ ss) F K after P l q (inr i) =
         fine-map (λ d n w. (into (w .0), λ z r. w .1 z (among-right z (target s) (targets ss) r)))
@@ -156,16 +169,19 @@ module _ (T : List ℤ) (h : Sections) (E : Environment) (D : List ℕ) (room : 
     -- The end of a bundle: all declared bounds are shown.
     bundle-out : (a : ℕ) (ss : List Simple) (r : Block) (F : State FactSet) (after d : ℕ) (m : Memory) → Linked T h f r after
         → unshownIn E (bundleAfter ss F) (bundleBounds E ss F (declaredIn E F)) ≡ []
-        → AtLine T h E D room (a + 1) ss F (declaredIn E F) d m ⊎ Stands T h E D room (entry r after) (bundleAfter ss F) (bundleBounds E ss F (declaredIn E F)) d m
+        → AtLine T h E D room (a + 1) ss F (declaredIn E F) d m
+        ⊎ Stands T h E D room (entry r after) (bundleAfter ss F) (bundleBounds E ss F (declaredIn E F)) d m
         → At T h E D room (bundle a ss r) F d m ⊎ StandsAt T h E D room after (blockAfter T h E (bundle a ss r) F) d m
     unfolding walkRules.blockAfter
     bundle-out a ss r F after d m l q (inl x) = inl (inr (inl x))
     bundle-out a ss r F after d m l q (inr x) =
-        into (into (enter r (bundleAfter ss F) after d m l (x .0) (redeclared T h E D room S (bundleAfter ss F) (bundleBounds E ss F (declaredIn E F)) m q (x .1))))
+        into (into (enter r (bundleAfter ss F) after d m l (x .0)
+        (redeclared T h E D room S (bundleAfter ss F) (bundleBounds E ss F (declaredIn E F)) m q (x .1))))
 
     -- ---- ifs
 
-    module _ (a : ℕ) (c : Condition) (t e r : Block) (F : State FactSet) (after : ℕ) (l : Linked T h f (branch a c t e r) after) (same : blockAfter T h E t (assumed F c) .rows ≡ blockAfter T h E e (assumed F (negatedOf c)) .rows) where
+    module _ (a : ℕ) (c : Condition) (t e r : Block) (F : State FactSet) (after : ℕ) (l : Linked T h f (branch a c t e r) after)
+        (same : blockAfter T h E t (assumed F c) .rows ≡ blockAfter T h E e (assumed F (negatedOf c)) .rows) where
       abbrev thenState : State FactSet
       thenState = blockAfter T h E t (assumed F c)
 
@@ -195,7 +211,8 @@ module _ (T : List ℤ) (h : Sections) (E : Environment) (D : List ℕ) (room : 
           join-out d m (
             x .0,
             rw same
-                (with-facts h E D room elseState (record { facts = sidesJoined T h E thenState elseState .facts; rows = elseState .rows }) (declaredIn E elseState) m (x .1) refl
+                (with-facts h E D room elseState (record { facts = sidesJoined T h E thenState elseState .facts; rows = elseState .rows })
+                (declaredIn E elseState) m (x .1) refl
                 (joined-right-holds (isPointer E) (thenState .facts) (elseState .facts) (value (m .values)) (x .1 .steady .range) (x .1 .facts))),
           )
 
@@ -205,7 +222,8 @@ module _ (T : List ℤ) (h : Sections) (E : Environment) (D : List ℕ) (room : 
           leads (entry t (entry r after)) (memoryOf P) (
             then-out (entry t (entry r after)) (memoryOf P)
                 (enter t (assumed F c) (entry r after) (entry t (entry r after)) (memoryOf P) (l .2) refl
-                (with-facts h E D room F (assumed F c) (declaredIn E F) (memoryOf P) g refl (condition-holds (F .facts) (P .values) (g .steady .range) (g .facts) c q))),
+                (with-facts h E D room F (assumed F c) (declaredIn E F) (memoryOf P) g refl
+                (condition-holds (F .facts) (P .values) (g .steady .range) (g .facts) c q))),
             λ z n. refl,
           )
       branch-head P g false q =
@@ -220,7 +238,8 @@ module _ (T : List ℤ) (h : Sections) (E : Environment) (D : List ℕ) (room : 
 
     -- ---- whiles
 
-    module _ (a : ℕ) (c : Condition) (k : ℕ) (t r : Block) (F : State FactSet) (after : ℕ) (l : Linked T h f (loop a c k t r) after) (same : F .rows ≡ blockAfter T h E t (assumed (headState T h E D room a k F) c) .rows) where
+    module _ (a : ℕ) (c : Condition) (k : ℕ) (t r : Block) (F : State FactSet) (after : ℕ) (l : Linked T h f (loop a c k t r) after)
+        (same : F .rows ≡ blockAfter T h E t (assumed (headState T h E D room a k F) c) .rows) where
       abbrev dropped : List ℕ
       dropped = targetsFrom T h (a + 1) k
 
@@ -237,7 +256,8 @@ module _ (T : List ℤ) (h : Sections) (E : Environment) (D : List ℕ) (room : 
             w,
             inl (
               x .0,
-              rw same (with-facts h E D room (blockAfter T h E t (assumed head c)) (record { facts = head .facts; rows = blockAfter T h E t (assumed head c) .rows })
+              rw same (with-facts h E D room (blockAfter T h E t (assumed head c))
+                  (record { facts = head .facts; rows = blockAfter T h E t (assumed head c) .rows })
                   (declaredIn E (blockAfter T h E t (assumed head c))) m (x .1) refl (framed-head dropped (F .facts) m w (x .1 .steady .range))),
             ),
           ))
@@ -249,7 +269,8 @@ module _ (T : List ℤ) (h : Sections) (E : Environment) (D : List ℕ) (room : 
           leads (entry t a) (memoryOf P) (
             loop-out (entry t a) (memoryOf P) w
                 (enter t (assumed head c) a (entry t a) (memoryOf P) (l .3) refl
-                (with-facts h E D room head (assumed head c) (declaredIn E F) (memoryOf P) g refl (condition-holds (head .facts) (P .values) (g .steady .range) (g .facts) c q))),
+                (with-facts h E D room head (assumed head c) (declaredIn E F) (memoryOf P) g refl
+                (condition-holds (head .facts) (P .values) (g .steady .range) (g .facts) c q))),
             λ z n. refl,
           )
       loop-head P w g false q =
@@ -262,7 +283,8 @@ module _ (T : List ℤ) (h : Sections) (E : Environment) (D : List ℕ) (room : 
           )
 
       -- A step in the body keeps what was dropped apart from what was not.
-      framed-step : (m n : Memory) → Framed T h E D room dropped (F .facts) m → Agree (assigned t) (value (m .values)) (value (n .values)) → Framed T h E D room dropped (F .facts) n
+      framed-step : (m n : Memory) → Framed T h E D room dropped (F .facts) m → Agree (assigned t) (value (m .values)) (value (n .values))
+          → Framed T h E D room dropped (F .facts) n
       framed-step m n w u =
           let same : assigned t ≡ dropped = l .2 in
           let v : Agree dropped (value (m .values)) (value (n .values)) = rw same at u in
@@ -281,7 +303,8 @@ module _ (T : List ℤ) (h : Sections) (E : Environment) (D : List ℕ) (room : 
     unfolding walkRules.blockFaults
     ends-same a c k t r F q = rows-passed a _ _ (no-first _ _ (no-rest _ _ q))
 
-    pub block-step : (b : Block) (F : State FactSet) (after : ℕ) (P : Point) → Linked T h f b after → blockFaults T h E b F ≡ [] → At T h E D room b F (P .due) (memoryOf P)
+    pub block-step : (b : Block) (F : State FactSet) (after : ℕ) (P : Point) → Linked T h f b after → blockFaults T h E b F ≡ []
+        → At T h E D room b F (P .due) (memoryOf P)
         → Fine (Goal b F after (memoryOf P)) P (step P)
     unfolding walkRules.blockFaults walkRules.blockAfter assigned statementStep
     block-step nil F after P l q i = absurd i
@@ -293,7 +316,8 @@ module _ (T : List ℤ) (h : Sections) (E : Environment) (D : List ℕ) (room : 
         (λ e.
         done-map
         (λ n w. (
-          into (enter r (stateAfter s F) after (entry r after) n (l .2) refl (redeclared T h E D room S (stateAfter s F) (boundsAfter (effect E (F .facts) s) (declaredIn E F)) n shown (w .good))),
+          into (enter r (stateAfter s F) after (entry r after) n (l .2) refl
+              (redeclared T h E D room S (stateAfter s F) (boundsAfter (effect E (F .facts) s) (declaredIn E F)) n shown (w .good))),
           λ z u. w .agree z (among-left z (target s) (assigned r) u),
         ))
         (performed E D s (memoryOf P))
@@ -304,18 +328,24 @@ module _ (T : List ℤ) (h : Sections) (E : Environment) (D : List ℕ) (room : 
     block-step (branch a c t e r) F after P l q (inl i) =
         rw (step-at P a _ _ (i .0) (l .0) (l .1)) (branch-head a c t e r F after l (sides-same a c t e r F q) P (i .1) (conditionHolds (P .values) c) refl)
     block-step (branch a c t e r) F after P l q (inr (inl i)) =
-        fine-map (λ d n w. (then-out a c t e r F after l (sides-same a c t e r F q) d n (w .0), λ z u. w .1 z (among-left z (assigned t) (assigned e ++ assigned r) u)))
+        fine-map (λ d n w. (
+          then-out a c t e r F after l (sides-same a c t e r F q) d n (w .0),
+          λ z u. w .1 z (among-left z (assigned t) (assigned e ++ assigned r) u),
+        ))
         (block-step t (assumed F c) (entry r after) P (l .2) (no-first _ _ q) i)
     block-step (branch a c t e r) F after P l q (inr (inr (inl i))) =
         fine-map
-        (λ d n w.
-        (else-out a c t e r F after l (sides-same a c t e r F q) d n (w .0), λ z u. w .1 z (among-left z (assigned e) (assigned r) (among-right z (assigned t) (assigned e ++ assigned r) u))))
+        (λ d n w. (
+          else-out a c t e r F after l (sides-same a c t e r F q) d n (w .0),
+          λ z u. w .1 z (among-left z (assigned e) (assigned r) (among-right z (assigned t) (assigned e ++ assigned r) u)),
+        ))
         (block-step e (assumed F (negatedOf c)) (entry r after) P (l .3) (no-first _ _ (no-rest _ _ q)) i)
     block-step (branch a c t e r) F after P l q (inr (inr (inr i))) =
         fine-map
         (λ d n w.
         (into (into (into (w .0))), λ z u. w .1 z (among-right z (assigned e) (assigned r) (among-right z (assigned t) (assigned e ++ assigned r) u))))
-        (block-step r (sidesJoined T h E (blockAfter T h E t (assumed F c)) (blockAfter T h E e (assumed F (negatedOf c)))) after P (l .4) (no-rest _ _ (no-rest _ _ (no-rest _ _ q))) i)
+        (block-step r (sidesJoined T h E (blockAfter T h E t (assumed F c)) (blockAfter T h E e (assumed F (negatedOf c)))) after P (l .4)
+        (no-rest _ _ (no-rest _ _ (no-rest _ _ q))) i)
     block-step (loop a c k t r) F after P l q (inl (w, inl i)) =
         rw (step-at P a _ _ (i .0) (l .0) (l .1)) (loop-head a c k t r F after l (ends-same a c k t r F q) P w (i .1) (conditionHolds (P .values) c) refl)
     block-step (loop a c k t r) F after P l q (inl (w, inr i)) =

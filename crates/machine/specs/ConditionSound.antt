@@ -53,4 +53,5 @@ module _ (f : FactSet) (vs : List ℕ) (g : InRange (value vs)) (h : Holds f (va
   pub negated-holds : c .relation < 6 → conditionHolds vs c ≡ false → Holds (conditionFacts f (negatedOf c)) (value vs)
   unfolding conditionHolds factRules.conditionFacts negatedOf
   negated-holds l e =
-      relation-holds f (value vs) g h (negation (c .relation)) (c .left) (c .right) (c .offset) (negation-decides (c .relation) (value vs (c .left)) (value vs (c .right) + c .offset) l ∙ ap not e)
+      relation-holds f (value vs) g h (negation (c .relation)) (c .left) (c .right) (c .offset)
+      (negation-decides (c .relation) (value vs (c .left)) (value vs (c .right) + c .offset) l ∙ ap not e)

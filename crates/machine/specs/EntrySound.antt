@@ -62,7 +62,8 @@ module _ (E : Environment) (D : List ℕ) (objects : ℕ) (pairs : length D ≡ 
           → TrueOf E D objects m p (declared E p)
       origin zero q t = absurd (false≢true t)
       origin (suc o) q t =
-          let a = both (isObject D o && takesFrom E p o && leb (low D o + bias) (lowerEnd E (m .values) p)) (leb (upperEnd E (m .values) p) (top E D o + bias)) t in
+          let a = both (isObject D o && takesFrom E p o && leb (low D o + bias) (lowerEnd E (m .values) p))
+          (leb (upperEnd E (m .values) p) (top E D o + bias)) t in
           let b = both (isObject D o && takesFrom E p o) (leb (low D o + bias) (lowerEnd E (m .values) p)) (a .0) in
           let c = both (isObject D o) (takesFrom E p o) (b .0) in
           inr (record {
@@ -83,7 +84,8 @@ module _ (E : Environment) (D : List ℕ) (objects : ℕ) (pairs : length D ≡ 
   true-test (inr i) =
       let b = ends-inside E D objects m p ends _ _ (i .bounds) in
       or-second (eqb (value (m .values) p) 0) (originHolds E D p (getD (m .origins) p 0) (lowerEnd E (m .values) p) (upperEnd E (m .values) p))
-      (rw (i .origin-is, is-object D objects (i .object) pairs (i .exists), implies (isString E p) (isTerminated E (i .object)) (i .ended), le-leb _ _ (b .0)) (le-leb _ _ (b .1)))
+      (rw (i .origin-is, is-object D objects (i .object) pairs (i .exists), implies (isString E p) (isTerminated E (i .object)) (i .ended), le-leb _ _ (b .0))
+      (le-leb _ _ (b .1)))
 
 -- The rows in force do not change the kinds of pointers and objects.
 origin-in-force : (E : Environment) (R D : List ℕ) (p o l u : ℕ) → originHolds (inForce E R) D p o l u ≡ originHolds E D p o l u
@@ -104,7 +106,10 @@ module _ (T : List ℤ) (h : Sections) (E : Environment) (D cs vs os : List ℕ)
   own-true : (p : ℕ) → isPointer E p ≡ true → boundsTrue (inForce E ownRows) D vs os p ≡ true
   unfolding boundsTrue
   own-true p t =
-      rw (own-declared E p (omega (arith, declares .few, declares .below p t)), origin-in-force E ownRows D p (getD os p 0) (lowerEnd E vs p) (upperEnd E vs p)) (b .bounds p t)
+      rw (
+        own-declared E p (omega (arith, declares .few, declares .below p t)),
+        origin-in-force E ownRows D p (getD os p 0) (lowerEnd E vs p) (upperEnd E vs p),
+      ) (b .bounds p t)
 
   pub begun-good : Good h E D (length cs) newState (inForce E ownRows .declared) (record { cells = cs; values = vs; origins = os; rows = ownRows })
   begun-good =
@@ -114,7 +119,8 @@ module _ (T : List ℤ) (h : Sections) (E : Environment) (D cs vs os : List ℕ)
         named = own-named;
         bounds =
             λ p t.
-            test-true (inForce E ownRows) D (h .objects) (b .pairs) (record { cells = cs; values = vs; origins = os; rows = ownRows }) p (declares .ends ownRows own-named p t) (own-true p t);
+            test-true (inForce E ownRows) D (h .objects) (b .pairs) (record { cells = cs; values = vs; origins = os; rows = ownRows }) p
+            (declares .ends ownRows own-named p t) (own-true p t);
         steady =
             record {
               range = begun-range;

@@ -16,14 +16,17 @@ use Rattle.sections.specs.declared.Sections.{Sections}
 use Rattle.statements.specs.Statements.{statementAt}
 use Rattle.statements.specs.StatementLaws.{read-typed}
 use Rattle.statements.specs.declared.Simple.{Simple}
-use Rattle.statements.specs.declared.Simple.the-variants.{Literal, AddConstant, Arithmetic, Null, Address, PointerOffset, PointerIndex, Load, Store, Check, Declare}
+use Rattle.statements.specs.declared.Simple.the-variants.{Literal, AddConstant, Arithmetic, Null, Address}
+use Rattle.statements.specs.declared.Simple.the-variants.{PointerOffset, PointerIndex, Load, Store, Check, Declare}
 use Rattle.statements.specs.declared.Statement.the-variants.{Plain, If, While, Bundle}
 use Rattle.statements.specs.declared.StatementRead.{StatementRead}
 use Rattle.statements.specs.declared.StatementRead.the-variants.{Read, Unread}
 use Rattle.flow.specs.Flow.{Successors}
 use Rattle.rules.specs.BoundsRules.{inForce}
 use Rattle.rules.specs.declared.Environment.{Environment}
-use Rattle.machine.specs.Machine.{value, low, high, inOrigin, address, Failing, none, fails, failing, conditionHolds, Status, going, stopped, stuck, Point, done, setInteger, stepIf, performed, memoryOf, moved, afterPerformed, afterChecks, branched, statementStep, stepIfDue, nextPoint, start, pointAfter}
+use Rattle.machine.specs.Machine.{value, low, high, inOrigin, address, Failing, none, fails, failing, conditionHolds, Status}
+use Rattle.machine.specs.Machine.{going, stopped, stuck, Point, done, setInteger, stepIf, performed, memoryOf, moved}
+use Rattle.machine.specs.Machine.{afterPerformed, afterChecks, branched, statementStep, stepIfDue, nextPoint, start, pointAfter}
 use Rattle.machine.specs.Points.{Outside}
 use Rattle.machine.specs.Frame.{Elsewhere, Names, Origins, SameCells, withCells, Alike, Framed, Own}
 use Rattle.machine.specs.Reach.{CellOf, Reachable}
@@ -63,7 +66,12 @@ module _ (D : List ℕ) (R : ℕ → Type 0) where
   origin-cell zero a r e = let z : _≡_ {A = ℕ} 0 1 = cc in absurd (omega arith)
   origin-cell (suc o) a r e =
       let t = both (leb (low D o + bias) a) (ltb a (high D o + bias)) e in
-      record { object = o; chosen = r o refl; above = omega (arith, leb-true (low D o + bias) a (t .0)); below = omega (arith, leb-true (low D o + bias) a (t .0), ltb-true a (high D o + bias) (t .1)) }
+      record {
+        object = o;
+        chosen = r o refl;
+        above = omega (arith, leb-true (low D o + bias) a (t .0));
+        below = omega (arith, leb-true (low D o + bias) a (t .0), ltb-true a (high D o + bias) (t .1));
+      }
 
   -- A store into a cell of R's objects leaves the others.
   set-elsewhere : (cs : List ℕ) (j v i : ℕ) → CellOf D R j → Elsewhere D R i → getD (set cs j v) i 0 ≡ getD cs i 0
@@ -115,7 +123,12 @@ module _ (D : List ℕ) (R : ℕ → Type 0) where
     simple-framed (Store p i k x) n named = go (inOrigin D (getD (P .origins) p 0) (address E (P .values) p i k)) refl
       where
         go : (b : Bool) → inOrigin D (getD (P .origins) p 0) (address E (P .values) p i k) ≡ b
-            → Framed D R P (afterPerformed P n (stepIf b (done (record { cells = set (P .cells) (address E (P .values) p i k - bias) (value (P .values) x); values = P .values; origins = P .origins; rows = P .rows }))))
+            → Framed D R P (afterPerformed P n (stepIf b (done (record {
+              cells = set (P .cells) (address E (P .values) p i k - bias) (value (P .values) x);
+              values = P .values;
+              origins = P .origins;
+              rows = P .rows;
+            }))))
         go true e = record {
           origins = origins;
           long = length-set (P .cells) _ _;
@@ -135,7 +148,8 @@ module _ (D : List ℕ) (R : ℕ → Type 0) where
 
     step-framed : (r : StatementRead) (n : Successors) → ((p o : ℕ) → r ≡ Read (Plain (Address p o)) → R o) → Framed D R P (statementStep E D r n P)
     unfolding statementStep
-    step-framed (Read (Plain s)) n named = checked-framed (failing (inForce E (P .rows)) (P .values) s) s (n .next) (λ p o e. named p o (ap (λ (q : Simple). Read (Plain q)) e))
+    step-framed (Read (Plain s)) n named =
+        checked-framed (failing (inForce E (P .rows)) (P .values) s) s (n .next) (λ p o e. named p o (ap (λ (q : Simple). Read (Plain q)) e))
     step-framed (Read (If c x y)) n named = branched-framed (conditionHolds (P .values) c) n
     step-framed (Read (While c x)) n named = branched-framed (conditionHolds (P .values) c) n
     step-framed (Read (Bundle x)) n named = framed-none P _ origins refl refl
@@ -166,9 +180,19 @@ module _ (D : List ℕ) (R : ℕ → Type 0) where
       simple-alike (Store p i k x) n = go (inOrigin D (getD (P .origins) p 0) (address E (P .values) p i k))
         where
           go : (b : Bool)
-              → Alike D R (afterPerformed P n (stepIf b (done (record { cells = set (P .cells) (address E (P .values) p i k - bias) (value (P .values) x); values = P .values; origins = P .origins; rows = P .rows }))))
+              → Alike D R (afterPerformed P n (stepIf b (done (record {
+                cells = set (P .cells) (address E (P .values) p i k - bias) (value (P .values) x);
+                values = P .values;
+                origins = P .origins;
+                rows = P .rows;
+              }))))
               (afterPerformed other n
-              (stepIf b (done (record { cells = set ds (address E (P .values) p i k - bias) (value (P .values) x); values = P .values; origins = P .origins; rows = P .rows }))))
+              (stepIf b (done (record {
+                cells = set ds (address E (P .values) p i k - bias) (value (P .values) x);
+                values = P .values;
+                origins = P .origins;
+                rows = P .rows;
+              }))))
           go true = alike-with _ _ (set-same D R (P .cells) ds _ _ same)
           go false = alike-with _ ds same
       simple-alike (Check c) n = alike-with _ ds same
@@ -206,7 +230,8 @@ module _ (T : List ℤ) (h : Sections) (E : Environment) (D : List ℕ) (R : ℕ
   next-framed stuck P r = framed-none D R P P r refl refl
 
   -- A step reads only cells of R's objects: points alike step to points alike.
-  with-next : (s : Status) (P : Point) (ds : List ℕ) → Origins R (P .origins) → SameCells D R (P .cells) ds → Alike D R (nextPoint T h E D s P) (nextPoint T h E D s (withCells P ds))
+  with-next : (s : Status) (P : Point) (ds : List ℕ) → Origins R (P .origins) → SameCells D R (P .cells) ds
+      → Alike D R (nextPoint T h E D s P) (nextPoint T h E D s (withCells P ds))
   unfolding nextPoint
   with-next going P ds r same = go (ltb (P .due) (h .statements))
     where
@@ -218,7 +243,8 @@ module _ (T : List ℤ) (h : Sections) (E : Environment) (D : List ℕ) (R : ℕ
 
   pub next-alike : (P Q : Point) → Origins R (P .origins) → Alike D R P Q → Alike D R (nextPoint T h E D (P .status) P) (nextPoint T h E D (Q .status) Q)
   next-alike P Q r a =
-      subst (λ (S : Point). Alike D R (nextPoint T h E D (P .status) P) (nextPoint T h E D (S .status) S)) (a .rest) (with-next (P .status) P (Q .cells) r (a .memory))
+      subst (λ (S : Point). Alike D R (nextPoint T h E D (P .status) P) (nextPoint T h E D (S .status) S)) (a .rest)
+      (with-next (P .status) P (Q .cells) r (a .memory))
 
   -- ---- runs
 
@@ -273,7 +299,8 @@ module _ (T : List ℤ) (h : Sections) (E : Environment) (D vs os : List ℕ) wh
   start-cells cs = refl
 
   -- Point 12, of the plain machine: "They give equal answers, steps, values and reachable cells"
-  pub two-alike : (t : ℕ) (cs ds : List ℕ) → SameCells D Reach cs ds → Alike D Reach (pointAfter T h E D t (start T h E D cs vs os)) (pointAfter T h E D t (start T h E D ds vs os))
+  pub two-alike : (t : ℕ) (cs ds : List ℕ) → SameCells D Reach cs ds
+      → Alike D Reach (pointAfter T h E D t (start T h E D cs vs os)) (pointAfter T h E D t (start T h E D ds vs os))
   two-alike t cs ds s = run-alike T h E D Reach (reachable-names T h os) t _ _ (start-origins cs) (start-alike cs ds s)
 
   -- "and leave the other cells untouched."

@@ -71,7 +71,8 @@ module _ (h : Sections) (E : Environment) (D : List ℕ) (room : ℕ) where
     pub last-zero : LastZero E D (h .objects) (m .cells)
 
   pub with-facts : (W U : State FactSet) (K : List Bounds) (m : Memory) → Good W K m → U .rows ≡ W .rows → Holds (U .facts) (value (m .values)) → Good U K m
-  with-facts W U K m g e f = record { facts = f; rows = g .rows ∙ sym e; named = rw e (g .named); bounds = g .bounds; steady = g .steady; last-zero = g .last-zero }
+  with-facts W U K m g e f =
+      record { facts = f; rows = g .rows ∙ sym e; named = rw e (g .named); bounds = g .bounds; steady = g .steady; last-zero = g .last-zero }
 
 -- True bounds of q before a statement make true bounds of p after it.
 pub carry : (E : Environment) (D : List ℕ) (objects : ℕ) (m n : Memory) (q p : ℕ) (b c : Bounds) → TrueOf E D objects m q b
@@ -152,15 +153,18 @@ module _ (T : List ℤ) (h : Sections) (E : Environment) (D : List ℕ) (room : 
         true-of r t true q = let p : r ≡ x = eqb-true r x q in rw p (own is (rw p at t))
         true-of r t false q =
             let p : r ≢ x = eqb-false r x q in
-            carry E D (h .objects) m memoryAfter r r (known K r) (effectOn e K r) (g .bounds r t) (λ z. is .except r p ∙ z) (same r p) (λ l u b. others is r l u p b) (λ s. s)
+            carry E D (h .objects) m memoryAfter r r (known K r) (effectOn e K r) (g .bounds r t) (λ z. is .except r p ∙ z) (same r p)
+            (λ l u b. others is r l u p b) (λ s. s)
 
 -- ---- all declared bounds are shown, and become the known ones
 
 module _ (T : List ℤ) (h : Sections) (E : Environment) (D : List ℕ) (room : ℕ) (S : Setting T h E D room) where
-  pub shown-true : (F : FactSet) (R : List ℕ) (m : Memory) (p : ℕ) (b : Bounds) → Named h R → isPointer E p ≡ true → Steady h room m → Holds F (value (m .values))
+  pub shown-true : (F : FactSet) (R : List ℕ) (m : Memory) (p : ℕ) (b : Bounds) → Named h R → isPointer E p ≡ true → Steady h room m
+      → Holds F (value (m .values))
       → boundsShown F p b (declared (inForce E R) p) ≡ true → TrueOf E D (h .objects) m p b → TrueOf E D (h .objects) m p (declared (inForce E R) p)
   shown-true F R m p b n t s f q (inl z) = inl z
-  shown-true F R m p b n t s f q (inr i) = go (shown-holds F (value (m .values)) f (s .range) _ _ p b (declared (inForce E R) p) below lower upper q (i .bounds))
+  shown-true F R m p b n t s f q (inr i) =
+      go (shown-holds F (value (m .values)) f (s .range) _ _ p b (declared (inForce E R) p) below lower upper q (i .bounds))
     where
       ends : DeclaredEnds (inForce E R) p
       ends = S .declares .ends R n p t
@@ -174,7 +178,8 @@ module _ (T : List ℤ) (h : Sections) (E : Environment) (D : List ℕ) (room : 
       upper : ProperEnd (declared (inForce E R) p .upper)
       upper = rw (ends .bounds) (ends .high-proper)
 
-      go : (value (m .values) p ≡ 0) ⊎ BoundsHold (low D (i .object) + bias) (upperLimit (getD (E .terminated) (i .object) false) (high D (i .object)) + bias) (declared (inForce E R) p) (value (m .values)) → TrueOf E D (h .objects) m p (declared (inForce E R) p)
+      go : (value (m .values) p ≡ 0) ⊎ BoundsHold (low D (i .object) + bias) (upperLimit (getD (E .terminated) (i .object) false) (high D (i .object)) + bias)
+          (declared (inForce E R) p) (value (m .values)) → TrueOf E D (h .objects) m p (declared (inForce E R) p)
       go (inl z) = inl z
       go (inr d) = inr (record { object = i .object; origin-is = i .origin-is; exists = i .exists; ended = i .ended; bounds = d })
 
@@ -193,5 +198,6 @@ module _ (T : List ℤ) (h : Sections) (E : Environment) (D : List ℕ) (room : 
       }
 
   -- Outside a bundle the known bounds are the declared ones.
-  pub declared-true : (W : State FactSet) (m : Memory) (p : ℕ) → isPointer E p ≡ true → Good h E D room W (declaredIn E W) m → TrueOf E D (h .objects) m p (declared (inForce E (m .rows)) p)
+  pub declared-true : (W : State FactSet) (m : Memory) (p : ℕ) → isPointer E p ≡ true → Good h E D room W (declaredIn E W) m
+      → TrueOf E D (h .objects) m p (declared (inForce E (m .rows)) p)
   declared-true W m p t g = rw (g .rows) (g .bounds p t)

@@ -27,7 +27,8 @@ use Rattle.machine.specs.Places.{AtLine, At}
 module _ (T : List ℤ) (h : Sections) (E : Environment) (D : List ℕ) (room : ℕ) where
   -- ---- the statement due is one of the block
 
-  line-range : (a : ℕ) (ss : List Simple) (W : State FactSet) (K : List Bounds) (d : ℕ) (m : Memory) → AtLine T h E D room a ss W K d m → (a ≤ d) × (d < a + length ss)
+  line-range : (a : ℕ) (ss : List Simple) (W : State FactSet) (K : List Bounds) (d : ℕ) (m : Memory) → AtLine T h E D room a ss W K d m
+      → (a ≤ d) × (d < a + length ss)
   line-range a [] W K d m i = absurd i
   line-range a (s ∷ ss) W K d m (inl i) = (omega (arith, i .0), omega (arith, i .0))
   line-range a (s ∷ ss) W K d m (inr i) = let r = line-range (a + 1) ss _ _ d m i in (omega (arith, r .0), omega (arith, r .1))
@@ -39,7 +40,8 @@ module _ (T : List ℤ) (h : Sections) (E : Environment) (D : List ℕ) (room : 
   at-range (plain a s r) lo W d m n (inr i) = let w = at-range r (a + 1) _ d m (n .1) i in (omega (arith, n .0, w .0), omega (arith, n .0, w .1))
   at-range (branch a c t e r) lo W d m n (inl i) = (omega (arith, n .0, i .0), omega (arith, n .0, i .0))
   at-range (branch a c t e r) lo W d m n (inr (inl i)) = let w = at-range t (a + 1) _ d m (n .1) i in (omega (arith, n .0, w .0), omega (arith, n .0, w .1))
-  at-range (branch a c t e r) lo W d m n (inr (inr (inl i))) = let w = at-range e (a + 1 + size t) _ d m (n .2) i in (omega (arith, n .0, w .0), omega (arith, n .0, w .1))
+  at-range (branch a c t e r) lo W d m n (inr (inr (inl i))) = let w = at-range e (a + 1 + size t) _ d m (n .2) i in
+      (omega (arith, n .0, w .0), omega (arith, n .0, w .1))
   at-range (branch a c t e r) lo W d m n (inr (inr (inr i))) =
       let w = at-range r (a + 1 + size t + size e) _ d m (n .3) i in
       (omega (arith, n .0, w .0), omega (arith, n .0, w .1))
@@ -48,7 +50,8 @@ module _ (T : List ℤ) (h : Sections) (E : Environment) (D : List ℕ) (room : 
   at-range (loop a c k t r) lo W d m n (inr i) = let w = at-range r (a + 1 + size t) _ d m (n .2) i in (omega (arith, n .0, w .0), omega (arith, n .0, w .1))
   at-range (bundle a ss r) lo W d m n (inl i) = (omega (arith, n .0, i .0), omega (arith, n .0, i .0))
   at-range (bundle a ss r) lo W d m n (inr (inl i)) = let w = line-range (a + 1) ss _ _ d m i in (omega (arith, n .0, w .0), omega (arith, n .0, w .1))
-  at-range (bundle a ss r) lo W d m n (inr (inr i)) = let w = at-range r (a + 1 + length ss) _ d m (n .1) i in (omega (arith, n .0, w .0), omega (arith, n .0, w .1))
+  at-range (bundle a ss r) lo W d m n (inr (inr i)) = let w = at-range r (a + 1 + length ss) _ d m (n .1) i in
+      (omega (arith, n .0, w .0), omega (arith, n .0, w .1))
   at-range (unread a) lo W d m n i = absurd i
 
   -- ---- its facts do not contradict
@@ -62,7 +65,8 @@ module _ (T : List ℤ) (h : Sections) (E : Environment) (D : List ℕ) (room : 
       let r = line-range (a + 1) ss _ _ d m i in
       rw (ne-eqb d a (λ (e : d ≡ a). omega (arith, r .0))) (line-consistent (a + 1) ss _ _ d m i)
 
-  pub consistent : (b : Block) (lo : ℕ) (W : State FactSet) (d : ℕ) (m : Memory) → Numbered b lo → At T h E D room b W d m → contradictory (stateBefore store T h E b W d .facts) ≡ false
+  pub consistent : (b : Block) (lo : ℕ) (W : State FactSet) (d : ℕ) (m : Memory) → Numbered b lo → At T h E D room b W d m
+      → contradictory (stateBefore store T h E b W d .facts) ≡ false
   unfolding stateBefore
   consistent nil lo W d m n i = absurd i
   consistent (plain a s r) lo W d m n (inl i) = rw (eq-eqb d a (i .0)) (holds-clear _ _ (i .1 .facts))
@@ -75,11 +79,13 @@ module _ (T : List ℤ) (h : Sections) (E : Environment) (D : List ℕ) (room : 
       rw (ne-eqb d a (λ (e : d ≡ a). omega (arith, w .0)), lt-ltb d (a + 1 + size t) (w .1)) (consistent t (a + 1) _ d m (n .1) i)
   consistent (branch a c t e r) lo W d m n (inr (inr (inl i))) =
       let w = at-range e (a + 1 + size t) _ d m (n .2) i in
-      rw (ne-eqb d a (λ (e : d ≡ a). omega (arith, w .0)), le-ltb d (a + 1 + size t) (w .0), lt-ltb d (a + 1 + size t + size e) (w .1)) (consistent e (a + 1 + size t) _ d m (n .2) i)
+      rw (ne-eqb d a (λ (e : d ≡ a). omega (arith, w .0)), le-ltb d (a + 1 + size t) (w .0), lt-ltb d (a + 1 + size t + size e) (w .1))
+      (consistent e (a + 1 + size t) _ d m (n .2) i)
   consistent (branch a c t e r) lo W d m n (inr (inr (inr i))) =
       let w = at-range r (a + 1 + size t + size e) _ d m (n .3) i in
       let l : a + 1 + size t ≤ d = omega (arith, w .0) in
-      rw (ne-eqb d a (λ (e : d ≡ a). omega (arith, w .0)), le-ltb d (a + 1 + size t) l, le-ltb d (a + 1 + size t + size e) (w .0)) (consistent r (a + 1 + size t + size e) _ d m (n .3) i)
+      rw (ne-eqb d a (λ (e : d ≡ a). omega (arith, w .0)), le-ltb d (a + 1 + size t) l, le-ltb d (a + 1 + size t + size e) (w .0))
+      (consistent r (a + 1 + size t + size e) _ d m (n .3) i)
   -- Before a loop the facts were true of some values, though these may be others by now.
   consistent (loop a c k t r) lo W d m n (inl (w, inl i)) = rw (eq-eqb d a (i .0)) (holds-clear _ _ (w .held))
   consistent (loop a c k t r) lo W d m n (inl (w, inr i)) =

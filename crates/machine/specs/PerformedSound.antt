@@ -20,7 +20,8 @@ use Rattle.sections.specs.Typed.{IsPointer}
 use Rattle.sections.specs.declared.Sections.{Sections}
 use Rattle.statements.specs.Typed.{SimpleTyped}
 use Rattle.statements.specs.declared.Simple.{Simple}
-use Rattle.statements.specs.declared.Simple.the-variants.{Literal, AddConstant, Arithmetic, Null, Address, PointerOffset, PointerIndex, Load, Store, Check, Declare}
+use Rattle.statements.specs.declared.Simple.the-variants.{Literal, AddConstant, Arithmetic, Null, Address}
+use Rattle.statements.specs.declared.Simple.the-variants.{PointerOffset, PointerIndex, Load, Store, Check, Declare}
 use Rattle.blocks.specs.Tree.{target}
 use Rattle.rules.specs.States.{State}
 use Rattle.rules.specs.Stored.{conditionFacts, effectOn, boundsAfter}
@@ -31,12 +32,14 @@ use Rattle.rules.specs.EnvironmentLaws.{DeclaredEnds}
 use Rattle.rules.specs.declared.Bounds.{Bounds}
 use Rattle.rules.specs.declared.Effect.the-variants.{Keep}
 use Rattle.rules.specs.declared.Environment.{Environment}
-use Rattle.machine.specs.Machine.{value, low, conditionHolds, none, firstOf, firstUnless, address, arithmeticFailing, accessFailing, failing, Memory, combined, performed, indexed, high, Failing, terminatorFailing}
+use Rattle.machine.specs.Machine.{value, low, conditionHolds, none, firstOf, firstUnless, address, arithmeticFailing}
+use Rattle.machine.specs.Machine.{accessFailing, failing, Memory, combined, performed, indexed, high, Failing, terminatorFailing}
 use Rattle.machine.specs.Points.{LastZero}
 use Rattle.machine.specs.Good.{Setting, TrueOf, Steady, Good}
 use Rattle.machine.specs.ConditionSound.{condition-holds}
 use Rattle.machine.specs.AccessSound.{Inside, Ready, inside-origin, access-inside, first-none, passed, access-last, stored-zero}
-use Rattle.machine.specs.SimpleSound.{Done, Left, remainder-small, combined-small, derivedSet, integer-agree, integer-dropped, literal-left, sum-left, pointer-agree, null-left, address-left, index-left, offset-left}
+use Rattle.machine.specs.SimpleSound.{Done, Left, remainder-small, combined-small, derivedSet, integer-agree, integer-dropped}
+use Rattle.machine.specs.SimpleSound.{literal-left, sum-left, pointer-agree, null-left, address-left, index-left, offset-left}
 use Rattle.rules.specs.FactRules as factRules
 use Rattle.rules.specs.BoundsRules as boundsRules
 
@@ -61,13 +64,23 @@ set-below top (x ∷ l) zero a (suc j) p q = q
 set-below top (x ∷ l) (suc i) a zero p q = q
 set-below top (x ∷ l) (suc i) a (suc j) p q = set-below top l i a j p q
 
-module _ (T : List ℤ) (h : Sections) (E : Environment) (D : List ℕ) (room : ℕ) (S : Setting T h E D room) (W : State FactSet) (K : List Bounds) (m : Memory) (g : Good h E D room W K m) where
+module _ (T : List ℤ) (h : Sections) (E : Environment) (D : List ℕ) (room : ℕ) (S : Setting T h E D room) (W : State FactSet) (K : List Bounds)
+    (m : Memory) (g : Good h E D room W K m) where
   -- Values and origins stay.
-  keep-good : (G : FactSet) (cells : List ℕ) → Holds G (value (m .values)) → Steady h room (record { cells = cells; values = m .values; origins = m .origins; rows = m .rows })
-      → LastZero E D (h .objects) cells → Good h E D room (record { facts = G; rows = W .rows }) (boundsAfter Keep K) (record { cells = cells; values = m .values; origins = m .origins; rows = m .rows })
+  keep-good : (G : FactSet) (cells : List ℕ) → Holds G (value (m .values))
+      → Steady h room (record { cells = cells; values = m .values; origins = m .origins; rows = m .rows })
+      → LastZero E D (h .objects) cells → Good h E D room (record { facts = G; rows = W .rows }) (boundsAfter Keep K)
+      (record { cells = cells; values = m .values; origins = m .origins; rows = m .rows })
   unfolding boundsRules.effectOn
   keep-good G cells f s z =
-      record { facts = f; rows = g .rows; named = g .named; bounds = λ p t. rw (known-after Keep K p (omega (arith, S .declares .few, S .declares .below p t))) (g .bounds p t); steady = s; last-zero = z }
+      record {
+        facts = f;
+        rows = g .rows;
+        named = g .named;
+        bounds = λ p t. rw (known-after Keep K p (omega (arith, S .declares .few, S .declares .below p t))) (g .bounds p t);
+        steady = s;
+        last-zero = z;
+      }
 
   module _ (p : ℕ) (i : IsPointer T h p) where
     abbrev E′ : Environment
@@ -79,7 +92,8 @@ module _ (T : List ℤ) (h : Sections) (E : Environment) (D : List ℕ) (room : 
     first : (o : ℕ) → o < h .objects → 1 ≤ low D o
     first o l = S .placed o l .first
 
-    pointer-inside : (a : ℕ) (rest : Failing) → accessFailing E′ (m .values) p a rest ≡ none → TrueOf E D (h .objects) m p (declared E′ p) → Inside D (h .objects) (getD (m .origins) p 0) a
+    pointer-inside : (a : ℕ) (rest : Failing) → accessFailing E′ (m .values) p a rest ≡ none → TrueOf E D (h .objects) m p (declared E′ p)
+        → Inside D (h .objects) (getD (m .origins) p 0) a
     pointer-inside a rest e t = access-inside E′ D (h .objects) m p ends first a rest e t
 
     -- WHY NO STORE BREAKS A TERMINATOR. A store is inside the origin object of its pointer, and no cell is in two objects; so a store at the last cell of a
@@ -101,11 +115,13 @@ module _ (T : List ℤ) (h : Sections) (E : Environment) (D : List ℕ) (room : 
         go (no n) = getD-set-other (m .cells) (a - bias) (high D o - 1) x 0 n ∙ g .last-zero o l z
         go (yes q) =
             let same : inside .object ≡ o =
-            S .apart (inside .object) o (a - bias) (inside .exists) l (omega (arith, inside .above)) (omega (arith, inside .above, inside .below)) (omega (arith, long, q)) (omega (arith, long, q)) in
+            S .apart (inside .object) o (a - bias) (inside .exists) l (omega (arith, inside .above)) (omega (arith, inside .above, inside .below))
+            (omega (arith, long, q)) (omega (arith, long, q)) in
             let there : getD (m .origins) p 0 ≡ suc o = inside .origin-is ∙ ap suc same in
             let upper = access-last E′ D (h .objects) m p ends first a rest e t o there z (omega (arith, long, q, inside .above)) in
             let zero-is : x ≡ 0 = stored-zero E′ D (h .objects) m p ends a x (passed E′ D (h .objects) m p ends a rest e .then) upper in
-            rw q (getD-set-same (m .cells) (a - bias) x 0 (omega (arith, inside .below, inside .above, S .placed (inside .object) (inside .exists) .inside, g .steady .cells-long)) ∙ zero-is)
+            rw q (getD-set-same (m .cells) (a - bias) x 0
+            (omega (arith, inside .below, inside .above, S .placed (inside .object) (inside .exists) .inside, g .steady .cells-long)) ∙ zero-is)
 
   store-steady : (a x : ℕ) (origin : ℕ) → Inside D (h .objects) origin a
       → Steady h room (record { cells = set (m .cells) (a - bias) (value (m .values) x); values = m .values; origins = m .origins; rows = m .rows })
@@ -123,7 +139,8 @@ module _ (T : List ℤ) (h : Sections) (E : Environment) (D : List ℕ) (room : 
   string-fits : (p q : ℕ) → IsPointer T h p → IsPointer T h q → (stringAt T h p ≡ true → stringAt T h q ≡ true) → isString E p ≡ true → isString E q ≡ true
   string-fits p q i j f e = S .declares .string q (j .below) ∙ f (sym (S .declares .string p (i .below)) ∙ e)
 
-  object-fits : (p o : ℕ) → IsPointer T h p → o < h .objects → (stringAt T h p ≡ true → objectTerminated T h o ≡ true) → isString E p ≡ true → isTerminated E o ≡ true
+  object-fits : (p o : ℕ) → IsPointer T h p → o < h .objects → (stringAt T h p ≡ true → objectTerminated T h o ≡ true) → isString E p ≡ true
+      → isTerminated E o ≡ true
   object-fits p o i l f e = S .declares .ended o l ∙ f (sym (S .declares .string p (i .below)) ∙ e)
 
   -- p := q + k, by whether it is a plain copy.
@@ -136,7 +153,8 @@ module _ (T : List ℤ) (h : Sections) (E : Environment) (D : List ℕ) (room : 
       let small : value (m .values) q + k - bias ≤ maxValue = omega (arith, g .steady .range .below q) in
       record {
         good =
-            offset-left T h E D room S W K m g p q (value (m .values) q + k - bias) (t .target) (t .source) small (string-fits p q (t .target) (t .source) (t .fits)) (λ z. omega arith) k (omega arith)
+            offset-left T h E D room S W K m g p q (value (m .values) q + k - bias) (t .target) (t .source) small
+            (string-fits p q (t .target) (t .source) (t .fits)) (λ z. omega arith) k (omega arith)
             (λ n. absurd (false≢true (sym n ∙ c))) (eqb p q) (eqb k bias) refl refl;
         agree = pointer-agree T h E D room S W K m g p (value (m .values) q + k - bias) (getD (m .origins) q 0) (t .target) small;
       }
@@ -147,7 +165,8 @@ module _ (T : List ℤ) (h : Sections) (E : Environment) (D : List ℕ) (room : 
       let small : value (m .values) q + k - bias ≤ maxValue = omega arith in
       record {
         good =
-            offset-left T h E D room S W K m g p q (value (m .values) q + k - bias) (t .target) (t .source) small (string-fits p q (t .target) (t .source) (t .fits)) (λ z. absurd (r .some z)) k (omega arith) (λ n. omega arith) (eqb p q)
+            offset-left T h E D room S W K m g p q (value (m .values) q + k - bias) (t .target) (t .source) small
+            (string-fits p q (t .target) (t .source) (t .fits)) (λ z. absurd (r .some z)) k (omega arith) (λ n. omega arith) (eqb p q)
             (eqb k bias) refl refl;
         agree = pointer-agree T h E D room S W K m g p (value (m .values) q + k - bias) (getD (m .origins) q 0) (t .target) small;
       }
@@ -162,7 +181,8 @@ module _ (T : List ℤ) (h : Sections) (E : Environment) (D : List ℕ) (room : 
       let small : indexed E (m .values) q i ≤ maxValue = omega arith in
       record {
         good =
-            index-left T h E D room S W K m g p q (indexed E (m .values) q i) (t .target) (t .source) small (string-fits p q (t .target) (t .source) (t .fits)) (λ z. absurd (r .some z)) (omega arith)
+            index-left T h E D room S W K m g p q (indexed E (m .values) q i) (t .target) (t .source) small (string-fits p q (t .target) (t .source) (t .fits))
+            (λ z. absurd (r .some z)) (omega arith)
             (eqb p q) refl;
         agree = pointer-agree T h E D room S W K m g p (indexed E (m .values) q i) (getD (m .origins) q 0) (t .target) small;
       }
@@ -186,7 +206,10 @@ module _ (T : List ℤ) (h : Sections) (E : Environment) (D : List ℕ) (room : 
   performed-good (Null p) t r e = record { good = null-left T h E D room S W K m g p t; agree = pointer-agree T h E D room S W K m g p 0 0 t (omega arith) }
   performed-good (Address p o) t r e =
       let small : low D o ≤ maxValue = omega (arith, S .placed o (t .object) .inside, S .memory) in
-      record { good = address-left T h E D room S W K m g p o (t .target) (t .object) (object-fits p o (t .target) (t .object) (t .fits)); agree = pointer-agree T h E D room S W K m g p (low D o) (o + 1) (t .target) small }
+      record {
+        good = address-left T h E D room S W K m g p o (t .target) (t .object) (object-fits p o (t .target) (t .object) (t .fits));
+        agree = pointer-agree T h E D room S W K m g p (low D o) (o + 1) (t .target) small;
+      }
   performed-good (PointerOffset p q k) t r e = offset-done p q k t (eqb k bias) refl e
   performed-good (PointerIndex p q i) t r e = index-done p q i t e
   performed-good (Load x p i k) t r e =
@@ -199,10 +222,18 @@ module _ (T : List ℤ) (h : Sections) (E : Environment) (D : List ℕ) (room : 
       let a = address E (m .values) p i k in
       let inside = pointer-inside p (t .pointer) a (terminatorFailing (inForce E (m .rows)) (m .values) p a (value (m .values) x)) e r in
       rw (inside-origin D (h .objects) (getD (m .origins) p 0) a inside)
-      (record { good = keep-good (W .facts) (set (m .cells) (a - bias) (value (m .values) x)) (g .facts) (store-steady a x (getD (m .origins) p 0) inside) (store-last p (t .pointer) a (value (m .values) x) e r); agree = λ z n. refl })
+      (record {
+        good = keep-good (W .facts) (set (m .cells) (a - bias) (value (m .values) x)) (g .facts) (store-steady a x (getD (m .origins) p 0) inside)
+            (store-last p (t .pointer) a (value (m .values) x) e r);
+        agree = λ z n. refl;
+      })
   performed-good (Check c) t r e =
       let c₁ : conditionHolds (m .values) c ≡ true = not-false (conditionHolds (m .values) c) (first-none (not (conditionHolds (m .values) c)) 1 none e .0) in
-      record { good = keep-good (conditionFacts (W .facts) c) (m .cells) (condition-holds (W .facts) (m .values) (g .steady .range) (g .facts) c c₁) (g .steady) (g .last-zero); agree = λ z n. refl }
+      record {
+        good = keep-good (conditionFacts (W .facts) c) (m .cells) (condition-holds (W .facts) (m .values) (g .steady .range) (g .facts) c c₁)
+            (g .steady) (g .last-zero);
+        agree = λ z n. refl;
+      }
   performed-good (Declare p r) t q e =
       record {
         good = record {

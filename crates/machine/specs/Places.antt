@@ -32,7 +32,8 @@ module _ (T : List ℤ) (h : Sections) (f : ℕ → Successors) where
   abbrev pub LinkedLine : ℕ → List Simple → ℕ → Type 0
   LinkedLine a [] after = Unit {0}
   LinkedLine a (s ∷ ss) after =
-      (statementAt T h a ≡ Read (Plain s)) × (f a ≡ successors a (lead (a + 1) (length ss) after) (lead (a + 1) (length ss) after)) × LinkedLine (a + 1) ss after
+      (statementAt T h a ≡ Read (Plain s)) × (f a ≡ successors a (lead (a + 1) (length ss) after) (lead (a + 1) (length ss) after))
+      × LinkedLine (a + 1) ss after
 
   abbrev pub Linked : Block → ℕ → Type 0
   Linked nil after = Unit {0}

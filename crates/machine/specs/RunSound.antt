@@ -19,7 +19,8 @@ use Rattle.sections.specs.declared.Sections.{Sections}
 use Rattle.statements.specs.Statements.{statementAt}
 use Rattle.statements.specs.StatementLaws.{read-typed, read-within}
 use Rattle.statements.specs.declared.Simple.{Simple}
-use Rattle.statements.specs.declared.Simple.the-variants.{Literal, AddConstant, Arithmetic, Null, Address, PointerOffset, PointerIndex, Load, Store, Check, Declare}
+use Rattle.statements.specs.declared.Simple.the-variants.{Literal, AddConstant, Arithmetic, Null, Address}
+use Rattle.statements.specs.declared.Simple.the-variants.{PointerOffset, PointerIndex, Load, Store, Check, Declare}
 use Rattle.statements.specs.declared.Statement.the-variants.{Plain, If, While, Bundle}
 use Rattle.statements.specs.declared.StatementRead.{StatementRead}
 use Rattle.statements.specs.declared.StatementRead.the-variants.{Read, Unread}
@@ -42,7 +43,8 @@ use Rattle.rules.specs.ByChains.{Decider, byChains, variables, DecidesTable}
 use Rattle.rules.specs.Verdict.{environmentOf}
 use Rattle.rules.specs.AcceptedLaws.{clear}
 use Rattle.rules.specs.declared.Environment.{Environment}
-use Rattle.machine.specs.Machine.{value, boundsTrue, Failing, none, fails, failing, Memory, Status, going, stopped, stuck, Point, memoryOf, statementStep, successorsOf, stepIfDue, nextPoint, start, pointAfter}
+use Rattle.machine.specs.Machine.{value, boundsTrue, Failing, none, fails, failing, Memory, Status, going, stopped, stuck}
+use Rattle.machine.specs.Machine.{Point, memoryOf, statementStep, successorsOf, stepIfDue, nextPoint, start, pointAfter}
 use Rattle.machine.specs.Points.{inBundle, simpleAccess, unlessFailing, statementAccess, accessIf, accessFrom, LastZero}
 use Rattle.machine.specs.Soundness.{AccessRight, AccessAllowed, Begun, Sound}
 use Rattle.machine.specs.Good.{Setting, Steady, Good, declared-true}
@@ -82,7 +84,8 @@ module _ (T : List ℤ) (h : Sections) (E : Environment) (D : List ℕ) (room : 
     due-kept P i false q = i
     due-kept P i true q = go (i .place)
       where
-        go : At T h E D room (tree T h) newState (P .due) (memoryOf P) ⊎ StandsAt T h E D room (h .statements) (blockAfter T h E (tree T h) newState) (P .due) (memoryOf P)
+        go : At T h E D room (tree T h) newState (P .due) (memoryOf P)
+            ⊎ StandsAt T h E D room (h .statements) (blockAfter T h E (tree T h) newState) (P .due) (memoryOf P)
             → Invariant (statementStep E D (statementAt T h (P .due)) (successorsOf T h E D (P .due)) P)
         go (inl x) = fine-kept P _ i (block-step T h E D room S (successorsOf T h E D) (tree T h) newState (h .statements) P links (S .walked) x)
         go (inr x) = absurd (omega (arith, ltb-true (P .due) (h .statements) q, x .0))
@@ -99,23 +102,27 @@ module _ (T : List ℤ) (h : Sections) (E : Environment) (D : List ℕ) (room : 
     point-kept zero P i = i
     point-kept (suc t) P i = next-kept (pointAfter T h E D t P) (pointAfter T h E D t P .status) (point-kept t P i)
 
-    pub start-kept : (cs vs os : List ℕ) → Good h E D room newState (declaredIn E newState) (record { cells = cs; values = vs; origins = os; rows = ownRows }) → Invariant (start T h E D cs vs os)
+    pub start-kept : (cs vs os : List ℕ) → Good h E D room newState (declaredIn E newState) (record { cells = cs; values = vs; origins = os; rows = ownRows })
+        → Invariant (start T h E D cs vs os)
     unfolding start tableEntry
     start-kept cs vs os g =
         record {
           has-step = λ e. let z : _≡_ {A = ℕ} 0 1 = cc in omega arith;
-          place = enter T h E D room S (successorsOf T h E D) (tree T h) newState (h .statements) _ (record { cells = cs; values = vs; origins = os; rows = ownRows }) links refl g;
+          place = enter T h E D room S (successorsOf T h E D) (tree T h) newState (h .statements) _
+              (record { cells = cs; values = vs; origins = os; rows = ownRows }) links refl g;
         }
 
     -- ---- what the invariant says
 
     abbrev Somewhere : Point → Type 0
-    Somewhere P = Standing T h E D room (tree T h) (P .due) (memoryOf P) ⊎ ((P .due ≡ h .statements) × Good h E D room (blockAfter T h E (tree T h) newState) (declaredIn E (blockAfter T h E (tree T h) newState)) (memoryOf P))
+    Somewhere P = Standing T h E D room (tree T h) (P .due) (memoryOf P)
+        ⊎ ((P .due ≡ h .statements) × Good h E D room (blockAfter T h E (tree T h) newState) (declaredIn E (blockAfter T h E (tree T h) newState)) (memoryOf P))
 
     somewhere : (P : Point) → Invariant P → Somewhere P
     somewhere P i = go (i .place)
       where
-        go : At T h E D room (tree T h) newState (P .due) (memoryOf P) ⊎ StandsAt T h E D room (h .statements) (blockAfter T h E (tree T h) newState) (P .due) (memoryOf P)
+        go : At T h E D room (tree T h) newState (P .due) (memoryOf P)
+            ⊎ StandsAt T h E D room (h .statements) (blockAfter T h E (tree T h) newState) (P .due) (memoryOf P)
             → Somewhere P
         go (inl x) = inl (standing T h E D room S (successorsOf T h E D) (tree T h) newState (h .statements) (P .due) (memoryOf P) links (S .walked) x)
         go (inr x) = inr x
@@ -132,10 +139,13 @@ module _ (T : List ℤ) (h : Sections) (E : Environment) (D : List ℕ) (room : 
     due-of P (inl w) = omega (arith, w .within)
     due-of P (inr w) = omega (arith, w .0)
 
-    bounds-at : (W : State FactSet) (m : Memory) (p : ℕ) → isPointer E p ≡ true → Good h E D room W (declaredIn E W) m → boundsTrue (inForce E (m .rows)) D (m .values) (m .origins) p ≡ true
-    bounds-at W m p t g = true-test (inForce E (m .rows)) D (h .objects) (S .pairs) m p (S .declares .ends (m .rows) (rw (g .rows) (g .named)) p t) (declared-true T h E D room S W m p t g)
+    bounds-at : (W : State FactSet) (m : Memory) (p : ℕ) → isPointer E p ≡ true → Good h E D room W (declaredIn E W) m
+        → boundsTrue (inForce E (m .rows)) D (m .values) (m .origins) p ≡ true
+    bounds-at W m p t g = true-test (inForce E (m .rows)) D (h .objects) (S .pairs) m p (S .declares .ends (m .rows) (rw (g .rows) (g .named)) p t)
+        (declared-true T h E D room S W m p t g)
 
-    bounds-of : (P : Point) → Somewhere P → inBundle (tree T h) (P .due) ≡ false → (p : ℕ) → isPointer E p ≡ true → boundsTrue (inForce E (P .rows)) D (P .values) (P .origins) p ≡ true
+    bounds-of : (P : Point) → Somewhere P → inBundle (tree T h) (P .due) ≡ false → (p : ℕ) → isPointer E p ≡ true
+        → boundsTrue (inForce E (P .rows)) D (P .values) (P .origins) p ≡ true
     bounds-of P (inl w) e p t = bounds-at (w .state) (memoryOf P) p t (w .declared e)
     bounds-of P (inr w) e p t = bounds-at (blockAfter T h E (tree T h) newState) (memoryOf P) p t (w .1)
 
@@ -149,7 +159,8 @@ module _ (T : List ℤ) (h : Sections) (E : Environment) (D : List ℕ) (room : 
           last = omega (arith, placed .inside, i .below, s .cells-long);
         }
 
-    simple-allowed : (s : Simple) (a : ℕ) (m : Memory) → Steady h room m → Named h (m .rows) → statementAt T h a ≡ Read (Plain s) → Ready (inForce E (m .rows)) D (h .objects) s m → failing (inForce E (m .rows)) (m .values) s ≡ none
+    simple-allowed : (s : Simple) (a : ℕ) (m : Memory) → Steady h room m → Named h (m .rows) → statementAt T h a ≡ Read (Plain s)
+        → Ready (inForce E (m .rows)) D (h .objects) s m → failing (inForce E (m .rows)) (m .values) s ≡ none
         → AccessAllowed D (length (m .cells)) (simpleAccess E s m)
     unfolding failing
     simple-allowed (Literal x k) a m w n r y e = tt
@@ -161,10 +172,12 @@ module _ (T : List ℤ) (h : Sections) (E : Environment) (D : List ℕ) (room : 
     simple-allowed (PointerIndex p q i) a m w n r y e = tt
     simple-allowed (Load x p i k) a m w n r y e =
         let typed = read-typed T h a (Plain (Load x p i k)) r in
-        access-right m _ _ w (access-inside (inForce E (m .rows)) D (h .objects) m p (S .declares .ends (m .rows) n p (S .declares .pointer p (typed .pointer))) (λ o l. S .placed o l .first) _ _ e y)
+        access-right m _ _ w (access-inside (inForce E (m .rows)) D (h .objects) m p (S .declares .ends (m .rows) n p (S .declares .pointer p (typed .pointer)))
+        (λ o l. S .placed o l .first) _ _ e y)
     simple-allowed (Store p i k x) a m w n r y e =
         let typed = read-typed T h a (Plain (Store p i k x)) r in
-        access-right m _ _ w (access-inside (inForce E (m .rows)) D (h .objects) m p (S .declares .ends (m .rows) n p (S .declares .pointer p (typed .pointer))) (λ o l. S .placed o l .first) _ _ e y)
+        access-right m _ _ w (access-inside (inForce E (m .rows)) D (h .objects) m p (S .declares .ends (m .rows) n p (S .declares .pointer p (typed .pointer)))
+        (λ o l. S .placed o l .first) _ _ e y)
     simple-allowed (Check c) a m w n r y e = tt
     simple-allowed (Declare p i) a m w n r y e = tt
 
@@ -223,14 +236,23 @@ module _ (T : List ℤ) (h : Sections) (E : Environment) (D : List ℕ) (room : 
 
 -- ---- the theorem
 
-module _ (T : List ℤ) (h : Sections) (formed : formOf T ≡ WellFormed h) (accepts : faults T ≡ []) (D cs vs os : List ℕ) (begun : Begun h (environmentOf T h) D cs vs os) where
+module _ (T : List ℤ) (h : Sections) (formed : formOf T ≡ WellFormed h) (accepts : faults T ≡ []) (D cs vs os : List ℕ)
+    (begun : Begun h (environmentOf T h) D cs vs os) where
   declares : Declares T h (environmentOf T h)
   declares = environment-declares T h (well-formed T h formed)
 
   pub begun-setting : Setting T h (environmentOf T h) D (length cs)
   begun-setting =
       let a = clear T h formed accepts in
-      record { laid = a .laid; walked = a .walked; declares = declares; pairs = begun .pairs; placed = begun .placed; apart = begun .apart; memory = begun .memory }
+      record {
+        laid = a .laid;
+        walked = a .walked;
+        declares = declares;
+        pairs = begun .pairs;
+        placed = begun .placed;
+        apart = begun .apart;
+        memory = begun .memory;
+      }
 
   -- The invariant holds at the start.
   pub begun-invariant : Invariant T h (environmentOf T h) D (length cs) (start T h (environmentOf T h) D cs vs os)
@@ -251,7 +273,8 @@ module _ (T : List ℤ) (h : Sections) (formed : formOf T ≡ WellFormed h) (acc
   due-consistent t l = go (point-kept T h E D (length cs) begun-setting t (start T h E D cs vs os) begun-invariant .place)
     where
       go : At T h E D (length cs) (tree T h) newState (point t .due) (memoryOf (point t))
-          ⊎ Stands T h E D (length cs) (h .statements) (blockAfter T h E (tree T h) newState) (declaredIn E (blockAfter T h E (tree T h) newState)) (point t .due) (memoryOf (point t))
+          ⊎ Stands T h E D (length cs) (h .statements) (blockAfter T h E (tree T h) newState) (declaredIn E (blockAfter T h E (tree T h) newState))
+          (point t .due) (memoryOf (point t))
           → contradictory (stateBefore store T h E (tree T h) newState (point t .due) .facts) ≡ false
       go (inl x) = consistent T h E D (length cs) (tree T h) 0 newState (point t .due) (memoryOf (point t)) (table-laid T h (begun-setting .laid) .numbered) x
       go (inr x) = absurd (omega (arith, x .0))
@@ -260,9 +283,12 @@ module _ (T : List ℤ) (h : Sections) (formed : formOf T ≡ WellFormed h) (acc
   vars = variables T h (well-formed T h formed .limits)
 
   -- A statement whose facts contradict is never due, by the paper's chains. (Point 11 walks it like any other, and no run comes to it.)
-  pub never-due : (d : Decider) → DecidesTable T d → (t : ℕ) → point t .due < h .statements → Contradiction (known vars (stateBefore (byChains d) T h E (tree T h) (walkRules.newState (byChains d)) (point t .due) .facts)) → ⊥
+  pub never-due : (d : Decider) → DecidesTable T d → (t : ℕ) → point t .due < h .statements
+      → Contradiction (known vars (stateBefore (byChains d) T h E (tree T h) (walkRules.newState (byChains d)) (point t .due) .facts)) → ⊥
   never-due d decides t l c =
       let w = well-formed T h formed .limits in
-      let r = before-represented T h w d (decides h w formed) (tree T h) (point t .due) (table-laid T h (begun-setting .laid) .reads) (new-represented vars d) in
-      let m = contradicts-exactly vars (stateBefore (byChains d) T h E (tree T h) (walkRules.newState (byChains d)) (point t .due) .facts) (r .represents .legal) .1 c in
+      let r = before-represented T h w d (decides h w formed) (tree T h) (point t .due) (table-laid T h (begun-setting .laid) .reads)
+      (new-represented vars d) in
+      let m = contradicts-exactly vars (stateBefore (byChains d) T h E (tree T h) (walkRules.newState (byChains d)) (point t .due) .facts)
+      (r .represents .legal) .1 c in
       false≢true (sym (due-consistent t l) ∙ (ap (λ (f : FactSet). f .contradiction) (sym (r .represents .same)) ∙ m))

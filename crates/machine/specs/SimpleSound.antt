@@ -80,7 +80,8 @@ module _ (T : List ℤ) (h : Sections) (E : Environment) (D : List ℕ) (room : 
     pub good : Good h E D room (stateAfter s W) (boundsAfter (effect E (W .facts) s) K) n
     pub agree : Agree (target s) (value (m .values)) (value (n .values))
 
-  others-forget : (K : List Bounds) (v w : ℕ → ℕ) (x a : ℕ) → Assigned v w x a → (r l u : ℕ) → r ≢ x → BoundsHold l u (known K r) v → BoundsHold l u (effectOn (Forget x) K r) w
+  others-forget : (K : List Bounds) (v w : ℕ → ℕ) (x a : ℕ) → Assigned v w x a → (r l u : ℕ) → r ≢ x → BoundsHold l u (known K r) v
+      → BoundsHold l u (effectOn (Forget x) K r) w
   unfolding boundsRules.effectOn
   others-forget K v w x a is r l u n b = forget-holds v w x (is .except) l u (known K r) b
 
@@ -89,7 +90,8 @@ module _ (T : List ℤ) (h : Sections) (E : Environment) (D : List ℕ) (room : 
   unfolding boundsRules.effectOn
   others-shift K v w x k a e is r l u n b = shift-holds v w x (is .except) k e l u (known K r) b
 
-  others-copy : (K : List Bounds) (v w : ℕ → ℕ) (x q a : ℕ) → Assigned v w x a → (r l u : ℕ) → r ≢ x → BoundsHold l u (known K r) v → BoundsHold l u (effectOn (Copy x q) K r) w
+  others-copy : (K : List Bounds) (v w : ℕ → ℕ) (x q a : ℕ) → Assigned v w x a → (r l u : ℕ) → r ≢ x → BoundsHold l u (known K r) v
+      → BoundsHold l u (effectOn (Copy x q) K r) w
   unfolding boundsRules.effectOn
   others-copy K v w x q a is r l u n b = rw (ne-eqb r x n) (forget-holds v w x (is .except) l u (known K r) b)
 
@@ -127,7 +129,8 @@ module _ (T : List ℤ) (h : Sections) (E : Environment) (D : List ℕ) (room : 
 
       pub integer-dropped : GoodAfter (dropped F x) (boundsAfter (Forget x) K) (integerSet m x a)
       integer-dropped =
-          integer-good (dropped F x) (Forget x) (λ is. dropped-holds F v w (g .steady .range) (is .range) (g .facts) x (variable-small x (i .below)) (is .except))
+          integer-good (dropped F x) (Forget x)
+          (λ is. dropped-holds F v w (g .steady .range) (is .range) (g .facts) x (variable-small x (i .below)) (is .except))
           (others-forget K v w x a)
 
       pub integer-agree : Agree (x ∷ []) v w
@@ -136,7 +139,8 @@ module _ (T : List ℤ) (h : Sections) (E : Environment) (D : List ℕ) (room : 
     pub literal-left : (x k : ℕ) → IsInteger T h x → k ≤ maxValue → GoodAfter (ranged F x k k) (boundsAfter (Forget x) K) (integerSet m x k)
     literal-left x k i l =
         integer-good x k i l (ranged F x k k) (Forget x)
-        (λ is. ranged-holds F v (valuesSet m x k) (g .steady .range) (is .range) (g .facts) x (variable-small x (i .below)) (is .except) k k (omega (arith, is .value-is)) (omega (arith, is .value-is)))
+        (λ is. ranged-holds F v (valuesSet m x k) (g .steady .range) (is .range) (g .facts) x (variable-small x (i .below)) (is .except) k k
+        (omega (arith, is .value-is)) (omega (arith, is .value-is)))
         (others-forget K v (valuesSet m x k) x k)
 
     module _ (x y k : ℕ) (i : IsInteger T h x) (j : IsInteger T h y) where
@@ -156,7 +160,8 @@ module _ (T : List ℤ) (h : Sections) (E : Environment) (D : List ℕ) (room : 
               let raised : sum + bias ≡ v x + k = omega (arith, remainder-same (v y + k) (r .0) (r .1)) in
               integer-good x sum i (remainder-small (v y + k)) (shifted F x k) (Shift x k)
               (λ is.
-              shifted-holds F v (valuesSet m x sum) (g .steady .range) (is .range) (g .facts) x (variable-small x (i .below)) (is .except) k (omega (arith, is .value-is)))
+              shifted-holds F v (valuesSet m x sum) (g .steady .range) (is .range) (g .facts) x (variable-small x (i .below)) (is .except) k
+              (omega (arith, is .value-is)))
               (λ is. others-shift K v (valuesSet m x sum) x k sum (omega (arith, is .value-is)) is)
           in-range false q r =
               integer-good x sum i (remainder-small (v y + k)) (equated (dropped F x) x y k) (Forget x)
@@ -184,7 +189,8 @@ module _ (T : List ℤ) (h : Sections) (E : Environment) (D : List ℕ) (room : 
       -- p in a range.
       ranged-fact : (bottom top : ℕ) → bottom ≤ a → a ≤ top → Assigned v (valuesSet m p a) p a → Holds (ranged F p bottom top) (valuesSet m p a)
       ranged-fact bottom top l u is =
-          ranged-holds F v (valuesSet m p a) (g .steady .range) (is .range) (g .facts) p (variable-small p (i .below)) (is .except) bottom top (omega (arith, is .value-is)) (omega (arith, is .value-is))
+          ranged-holds F v (valuesSet m p a) (g .steady .range) (is .range) (g .facts) p (variable-small p (i .below)) (is .except) bottom top
+          (omega (arith, is .value-is)) (omega (arith, is .value-is))
 
     pub null-left : (p : ℕ) → IsPointer T h p → GoodAfter (ranged F p 0 0) (boundsAfter (Forget p) K) (pointerSet m p 0 0)
     null-left p i =
@@ -224,10 +230,12 @@ module _ (T : List ℤ) (h : Sections) (E : Environment) (D : List ℕ) (room : 
             rw (eq-eqb p p refl, ← (span-top o l)) b
 
     -- p becomes q moved to the address a, with the origin of q.
-    module _ (p q a : ℕ) (i : IsPointer T h p) (j : IsPointer T h q) (small : a ≤ maxValue) (fits : isString E p ≡ true → isString E q ≡ true) (null : v q ≡ 0 → a ≡ 0) where
+    module _ (p q a : ℕ) (i : IsPointer T h p) (j : IsPointer T h q) (small : a ≤ maxValue)
+        (fits : isString E p ≡ true → isString E q ≡ true) (null : v q ≡ 0 → a ≡ 0) where
       derived-own : (b : Bounds) → Assigned v (valuesSet m p a) p a → getD (set (m .origins) p (getD (m .origins) q 0)) p 0 ≡ getD (m .origins) q 0
           → ((l u : ℕ) → BoundsHold l u (known K q) v → BoundsHold l u b (valuesSet m p a)) → TrueOf E D (h .objects) (derivedSet m p q a) p b
-      derived-own b is e k = carry E D (h .objects) m (derivedSet m p q a) q p (known K q) b (g .bounds q (S .declares .pointer q j)) (λ z. is .value-is ∙ null z) e k fits
+      derived-own b is e k = carry E D (h .objects) m (derivedSet m p q a) q p (known K q) b (g .bounds q (S .declares .pointer q j))
+          (λ z. is .value-is ∙ null z) e k fits
 
       copy-good : (G : FactSet) → (Assigned v (valuesSet m p a) p a → Holds G (valuesSet m p a))
           → GoodAfter G (boundsAfter (Copy p q) K) (derivedSet m p q a)
@@ -258,10 +266,12 @@ module _ (T : List ℤ) (h : Sections) (E : Environment) (D : List ℕ) (room : 
       index-left l false e = copy-good (ranged F p 1 maxValue) (ranged-fact p a (getD (m .origins) q 0) i small 1 maxValue l small)
 
       module _ (k : ℕ) (moved : a + bias ≡ v q + k) (some : eqb k bias ≡ false → 1 ≤ a) where
-        moved-facts : (s : Bool) → eqb p q ≡ s → Assigned v (valuesSet m p a) p a → Holds (cond s (shifted F p k) (equated (dropped F p) p q k)) (valuesSet m p a)
+        moved-facts : (s : Bool) → eqb p q ≡ s → Assigned v (valuesSet m p a) p a
+            → Holds (cond s (shifted F p k) (equated (dropped F p) p q k)) (valuesSet m p a)
         moved-facts true e is =
             let same : v p ≡ v q = ap v (eqb-true p q e) in
-            shifted-holds F v (valuesSet m p a) (g .steady .range) (is .range) (g .facts) p (variable-small p (i .below)) (is .except) k (omega (arith, is .value-is))
+            shifted-holds F v (valuesSet m p a) (g .steady .range) (is .range) (g .facts) p (variable-small p (i .below)) (is .except) k
+            (omega (arith, is .value-is))
         moved-facts false e is =
             equated-holds (dropped F p) (valuesSet m p a) (is .range)
             (dropped-holds F v (valuesSet m p a) (g .steady .range) (is .range) (g .facts) p (variable-small p (i .below)) (is .except)) p q k
@@ -271,8 +281,10 @@ module _ (T : List ℤ) (h : Sections) (E : Environment) (D : List ℕ) (room : 
         unfolding factRules.offsetFacts
         offset-facts s true e d is = moved-facts s e is
         offset-facts s false e d is =
-            positive-holds (cond s (shifted F p k) (equated (dropped F p) p q k)) (valuesSet m p a) (is .range) (moved-facts s e is) p (omega (arith, is .value-is, some d))
+            positive-holds (cond s (shifted F p k) (equated (dropped F p) p q k)) (valuesSet m p a) (is .range) (moved-facts s e is) p
+            (omega (arith, is .value-is, some d))
 
-        pub offset-left : (s z : Bool) → eqb p q ≡ s → eqb k bias ≡ z → GoodAfter (offsetFacts s z F p q k) (boundsAfter (cond s (Shift p k) (Copy p q)) K) (derivedSet m p q a)
+        pub offset-left : (s z : Bool) → eqb p q ≡ s → eqb k bias ≡ z
+            → GoodAfter (offsetFacts s z F p q k) (boundsAfter (cond s (Shift p k) (Copy p q)) K) (derivedSet m p q a)
         offset-left true z e d = shift-good k (offsetFacts true z F p q k) (eqb-true p q e) moved (offset-facts true z e d)
         offset-left false z e d = copy-good (offsetFacts false z F p q k) (offset-facts false z e d)

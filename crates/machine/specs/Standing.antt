@@ -1,4 +1,5 @@
--- What holds at every place of an accepted routine: the memory is steady, and the statement due may make its access; outside a bundle the declared bounds are true.
+-- What holds at every place of an accepted routine: the memory is steady, and the statement due may make its access; outside a bundle the declared bounds are
+-- true.
 use Prim.Native.Nat.{ℕ, _+_, _≤_, _<_}
 use mathlib.Core.Path.{_≡_, sym, _∙_, ap}
 use mathlib.Core.Logic.{inl, inr}
@@ -25,7 +26,8 @@ use Rattle.rules.specs.States.{State}
 use Rattle.rules.specs.Stored.{effect, bundleFaults, sidesJoined, blockFaults, boundsAfter, stateAfter, assumed, accessIn, declaredIn, bundleAfter, blockAfter}
 use Rattle.rules.specs.FactsTrue.{neither}
 use Rattle.rules.specs.BoundsRules.{inForce}
-use Rattle.rules.specs.RuleLaws.{no-first, no-rest, access-passed}
+use Rattle.blocks.specs.LayoutLaws.{no-first, no-rest}
+use Rattle.rules.specs.RuleLaws.{access-passed}
 use Rattle.rules.specs.declared.Bounds.{Bounds}
 use Rattle.rules.specs.declared.Environment.{Environment}
 use Rattle.machine.specs.Machine.{Memory}
@@ -51,7 +53,8 @@ module _ (T : List ℤ) (h : Sections) (E : Environment) (D : List ℕ) (room : 
 
   module _ (S : Setting T h E D room) (f : ℕ → Successors) where
     -- Outside a bundle.
-    standing-here : (b : Block) (a d : ℕ) (s : Statement) (F : State FactSet) (m : Memory) → statementAt T h a ≡ Read s → d ≡ a → Good h E D room F (declaredIn E F) m → Standing b d m
+    standing-here : (b : Block) (a d : ℕ) (s : Statement) (F : State FactSet) (m : Memory) → statementAt T h a ≡ Read s → d ≡ a
+        → Good h E D room F (declaredIn E F) m → Standing b d m
     standing-here b a d s F m r e g =
         record {
           state = F;
@@ -71,7 +74,8 @@ module _ (T : List ℤ) (h : Sections) (E : Environment) (D : List ℕ) (room : 
       pub first : a ≤ d
       pub last : d < a + n
 
-    standing-line : (a : ℕ) (ss : List Simple) (F : State FactSet) (K : List Bounds) (after d : ℕ) (m : Memory) → LinkedLine T h f a ss after → bundleFaults E a ss F K ≡ []
+    standing-line : (a : ℕ) (ss : List Simple) (F : State FactSet) (K : List Bounds) (after d : ℕ) (m : Memory) → LinkedLine T h f a ss after
+        → bundleFaults E a ss F K ≡ []
         → AtLine T h E D room a ss F K d m → StandingLine a (length ss) d m
     unfolding walkRules.bundleFaults
     standing-line a [] F K after d m l q i = absurd i
@@ -90,7 +94,15 @@ module _ (T : List ℤ) (h : Sections) (E : Environment) (D : List ℕ) (room : 
         }
     standing-line a (s ∷ ss) F K after d m l q (inr i) =
         let w = standing-line (a + 1) ss (stateAfter s F) (boundsAfter (effect E (F .facts) s) K) after d m (l .2) (no-rest _ _ (no-rest _ _ q)) i in
-        record { state = w .state; bounds = w .bounds; good = w .good; within = w .within; ready = w .ready; first = omega (arith, w .first); last = omega (arith, w .last) }
+        record {
+          state = w .state;
+          bounds = w .bounds;
+          good = w .good;
+          within = w .within;
+          ready = w .ready;
+          first = omega (arith, w .first);
+          last = omega (arith, w .last);
+        }
 
     -- Inside a bundle.
     standing-inside : (a : ℕ) (ss : List Simple) (r : Block) (d : ℕ) (m : Memory) → StandingLine (a + 1) (length ss) d m → Standing (bundle a ss r) d m
@@ -108,11 +120,13 @@ module _ (T : List ℤ) (h : Sections) (E : Environment) (D : List ℕ) (room : 
               absurd (false≢true (sym t));
         }
 
-    pub standing : (b : Block) (F : State FactSet) (after d : ℕ) (m : Memory) → Linked T h f b after → blockFaults T h E b F ≡ [] → At T h E D room b F d m → Standing b d m
+    pub standing : (b : Block) (F : State FactSet) (after d : ℕ) (m : Memory) → Linked T h f b after → blockFaults T h E b F ≡ [] → At T h E D room b F d m
+        → Standing b d m
     unfolding walkRules.blockFaults inBundle
     standing nil F after d m l q i = absurd i
     standing (plain a s r) F after d m l q (inl i) = standing-here (plain a s r) a d (Plain s) F m (l .0) (i .0) (i .1)
-    standing (plain a s r) F after d m l q (inr i) = widened r (plain a s r) d m (λ e. e) (standing r (stateAfter s F) after d m (l .2) (no-rest _ _ (no-rest _ _ q)) i)
+    standing (plain a s r) F after d m l q (inr i) =
+        widened r (plain a s r) d m (λ e. e) (standing r (stateAfter s F) after d m (l .2) (no-rest _ _ (no-rest _ _ q)) i)
     standing (branch a c t e r) F after d m l q (inl i) = standing-here (branch a c t e r) a d (If c (size t) (size e)) F m (l .0) (i .0) (i .1)
     standing (branch a c t e r) F after d m l q (inr (inl i)) =
         widened t (branch a c t e r) d m (λ u. neither (inBundle t d) (inBundle e d || inBundle r d) u .0)

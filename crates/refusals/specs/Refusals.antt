@@ -1,7 +1,8 @@
 -- The paper's number and place of each refusal (document 01, "Causes of refusal").
 use Prim.Native.Nat.{ℕ}
 use Rattle.refusals.specs.declared.Refusal.{Refusal}
-use Rattle.refusals.specs.declared.Refusal.the-variants.{Length, Directory, ObjectLength, VariableRecord, StatementRecord, BlockLayout, BoundsNotShown, BundleAccess, MemorySize, DirectoryPair, EntryLengths, EntryValue, RowsDiffer, LastCell}
+use Rattle.refusals.specs.declared.Refusal.the-variants.{Length, Directory, ObjectLength, VariableRecord, StatementRecord, BlockLayout, BoundsNotShown}
+use Rattle.refusals.specs.declared.Refusal.the-variants.{BundleAccess, MemorySize, DirectoryPair, EntryLengths, EntryValue, RowsDiffer, LastCell}
 
 -- "Causes of refusal", the column "No." Point 11: "Refusal 7 no longer occurs."
 abbrev pub number : Refusal → ℕ

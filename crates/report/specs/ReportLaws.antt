@@ -60,7 +60,8 @@ module _ {t : Text} (fits : t .len ≤ 120) where
   unfolding rowLine
   free-row row {boat} e g = record { text = rw (eq-eqb boat 0 e) (g .text); fits = fits }
 
-  pub taken-row : (row : ℕ) {boat : ℕ} → (boat ≡ 0 → ⊥) → Grown [] ((bytesOf "row " ++ numeral row) ++ ((bytesOf " holds boat " ++ numeral boat) ++ bytesOf "\n")) 0 t
+  pub taken-row : (row : ℕ) {boat : ℕ} → (boat ≡ 0 → ⊥)
+      → Grown [] ((bytesOf "row " ++ numeral row) ++ ((bytesOf " holds boat " ++ numeral boat) ++ bytesOf "\n")) 0 t
       → Line (rowLine row boat) t
   unfolding rowLine
   taken-row row {boat} e g = record { text = rw (ne-eqb boat 0 e) (g .text); fits = fits }

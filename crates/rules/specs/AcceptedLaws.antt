@@ -13,7 +13,7 @@ use Rattle.blocks.specs.Tree.{tree}
 use Rattle.blocks.specs.Layout.{layout}
 use Rattle.rules.specs.Stored.{blockFaults, sectionFaults, formFaults, faults, newState}
 use Rattle.rules.specs.Verdict.{environmentOf, verdictOf}
-use Rattle.rules.specs.RuleLaws.{no-first, no-rest}
+use Rattle.blocks.specs.LayoutLaws.{no-first, no-rest}
 use Rattle.rules.specs.declared.Verdict.{Verdict}
 use Rattle.rules.specs.declared.Verdict.the-variants.{Accepted}
 use Rattle.rules.specs.Verdict as verdictRules

@@ -22,7 +22,8 @@ use Rattle.conditions.specs.declared.Condition.{Condition}
 use Rattle.statements.specs.StatementLaws.{read-typed}
 use Rattle.statements.specs.Typed.{SimpleTyped}
 use Rattle.statements.specs.declared.Simple.{Simple}
-use Rattle.statements.specs.declared.Simple.the-variants.{Literal, AddConstant, Arithmetic, Null, Address, PointerOffset, PointerIndex, Load, Store, Check, Declare}
+use Rattle.statements.specs.declared.Simple.the-variants.{Literal, AddConstant, Arithmetic, Null, Address}
+use Rattle.statements.specs.declared.Simple.the-variants.{PointerOffset, PointerIndex, Load, Store, Check, Declare}
 use Rattle.statements.specs.declared.Statement.the-variants.{Plain, If, While}
 use Rattle.table.specs.Form.{formOf}
 use Rattle.table.specs.FormLaws.{Formed, well-formed}
@@ -33,16 +34,19 @@ use Rattle.blocks.specs.Tree.{Block, nil, plain, branch, loop, bundle, unread, 
 use Rattle.flow.specs.Shape.{size, ReadsLine, Reads, Formed as Shaped}
 use Rattle.flow.specs.ShapeLaws.{table-laid}
 use Rattle.rules.specs.States.{State}
-use Rattle.rules.specs.BoundsRules.{isPointer, declared, known, names, weight, comparableEnds, consIf, shiftEnd, shiftBounds, effectOn, boundsAfter, effect, endAtMost, knownAtMost, boundsShown, unshownFrom, unshown, accessShown, rowBound, inForce, rowUnshown}
-use Rattle.rules.specs.Rules.{accessAt, boundsAt, bundleBounds, bundleFaults, blockFaults, rowsAt, stateAfter, assumed, unshownIn, accessIn, declaredIn, bundleAfter, blockAfter}
+use Rattle.rules.specs.BoundsRules.{isPointer, declared, known, names, weight, comparableEnds, consIf, shiftEnd, shiftBounds, effectOn, boundsAfter}
+use Rattle.rules.specs.BoundsRules.{effect, endAtMost, knownAtMost, boundsShown, unshownFrom, unshown, accessShown, rowBound, inForce, rowUnshown}
+use Rattle.rules.specs.Rules.{accessAt, boundsAt, bundleBounds, bundleFaults, blockFaults, rowsAt, stateAfter}
+use Rattle.rules.specs.Rules.{assumed, unshownIn, accessIn, declaredIn, bundleAfter, blockAfter}
 use Rattle.rules.specs.Verdict.{environmentOf, sectionFaults, formFaults, faults, verdictOf}
-use Rattle.rules.specs.RuleLaws.{no-first, no-rest}
+use Rattle.blocks.specs.LayoutLaws.{no-first, no-rest}
 use Rattle.rules.specs.EnvironmentLaws.{environment-declares}
 use Rattle.rules.specs.Stored.{store}
 use Rattle.rules.specs.ByChains.{Decider, Decides, byChains, variables, DecidesTable}
 use Rattle.rules.specs.Representation.{Represents, shown-represented, end-represented, range-represented}
 use Rattle.rules.specs.StateRepresentation.{StateRepresents, new-represented, meets, state-after, state-assumed, state-negated, state-at-head}
-use Rattle.rules.specs.Fair.{weight-small, FairKnown, FairBounds, FairAll, FairEffect, later, constant-moved, after-fair, declared-fair, statement-fair, number-fair}
+use Rattle.rules.specs.Fair.{weight-small, FairKnown, FairBounds, FairAll, FairEffect, later}
+use Rattle.rules.specs.Fair.{constant-moved, after-fair, declared-fair, statement-fair, number-fair}
 use Rattle.rules.specs.declared.KnownEnd.{KnownEnd}
 use Rattle.rules.specs.declared.KnownEnd.the-variants.{Known, Unknown}
 use Rattle.rules.specs.declared.Bounds.{Bounds}
@@ -105,7 +109,8 @@ module _ (T : List ℤ) (h : Sections) (w : Formed T h) (q : Decider) (right : D
   shift-agrees n s v k (Known e) l m i a =
       ap (λ (g : KnownEnd). cond (names e v) g (Known e)) (sym (constant-moved vars n (weight s v e) k e l (weight-small s v e m) a i))
 
-  on-agrees : (n : ℕ) (e : Effect) (K : List Bounds) → n ≤ 16 → FairEffect vars e → FairAll vars n K → (p : ℕ) → effectOn (byChains q) e K p ≡ effectOn store e K p
+  on-agrees : (n : ℕ) (e : Effect) (K : List Bounds) → n ≤ 16 → FairEffect vars e → FairAll vars n K → (p : ℕ)
+      → effectOn (byChains q) e K p ≡ effectOn store e K p
   unfolding effectOn shiftBounds
   on-agrees n Keep K l g a p = refl
   on-agrees n (Forget v) K l g a p = refl
@@ -131,7 +136,8 @@ module _ (T : List ℤ) (h : Sections) (w : Formed T h) (q : Decider) (right : D
         (end-represented vars q right t s (e .pointer) (e .integer) (e .constant) (g .pointer) (g .integer) (g .constant) m (a .pointer) (a .integer)
         (b .pointer) (b .integer) (omega (arith, a .high)) (omega (arith, b .high)))
 
-    bounds-agree : (n p : ℕ) (k d : Bounds) → n ≤ 16 → p < h .variables → FairBounds vars n k → FairBounds vars n d → boundsShown store f p k d ≡ boundsShown (byChains q) H p k d
+    bounds-agree : (n p : ℕ) (k d : Bounds) → n ≤ 16 → p < h .variables → FairBounds vars n k → FairBounds vars n d
+        → boundsShown store f p k d ≡ boundsShown (byChains q) H p k d
     unfolding boundsShown
     bounds-agree n p k d l i a b =
         three (shown-represented vars q right t p zeroVar bias (inr i) (inl refl))
@@ -141,14 +147,17 @@ module _ (T : List ℤ) (h : Sections) (w : Formed T h) (q : Decider) (right : D
     -- The row of a kind 14.
     number-agrees : (n p m : ℕ) (K : List Bounds) → n ≤ 16 → p < h .variables → FairAll vars n K
         → boundsShown store f p (known K p) (rowBound E m p) ≡ boundsShown (byChains q) H p (known K p) (rowBound E m p)
-    number-agrees n p m K l i a = bounds-agree n p (known K p) (rowBound E m p) l i (a p) (later vars 0 n (rowBound E m p) (omega arith) (number-fair T h w m p))
+    number-agrees n p m K l i a =
+        bounds-agree n p (known K p) (rowBound E m p) l i (a p) (later vars 0 n (rowBound E m p) (omega arith) (number-fair T h w m p))
 
     -- What is declared, with the rows R in force.
     declared-agree : (R : List ℕ) (n p : ℕ) (K : List Bounds) → n ≤ 16 → p < h .variables → FairAll vars n K
         → boundsShown store f p (known K p) (declared (inForce E R) p) ≡ boundsShown (byChains q) H p (known K p) (declared (inForce E R) p)
-    declared-agree R n p K l i a = bounds-agree n p (known K p) (declared (inForce E R) p) l i (a p) (later vars 0 n (declared (inForce E R) p) (omega arith) (declared-fair T h w R p))
+    declared-agree R n p K l i a =
+        bounds-agree n p (known K p) (declared (inForce E R) p) l i (a p) (later vars 0 n (declared (inForce E R) p) (omega arith) (declared-fair T h w R p))
 
-    unshown-from : (R : List ℕ) (n m p : ℕ) (K : List Bounds) → n ≤ 16 → FairAll vars n K → unshownFrom store (inForce E R) f K m p ≡ unshownFrom (byChains q) (inForce E R) H K m p
+    unshown-from : (R : List ℕ) (n m p : ℕ) (K : List Bounds) → n ≤ 16 → FairAll vars n K
+        → unshownFrom store (inForce E R) f K m p ≡ unshownFrom (byChains q) (inForce E R) H K m p
     unfolding unshownFrom
     unshown-from R n zero p K l a = refl
     unshown-from R n (suc m) p K l a = go (isPointer E p) refl (unshown-from R n m (p + 1) K l a)
@@ -162,7 +171,8 @@ module _ (T : List ℤ) (h : Sections) (w : Formed T h) (q : Decider) (right : D
     effect-agrees : (s : Simple) → SimpleTyped T h s → effect (byChains q) E H s ≡ effect store E f s
     unfolding effect
     effect-agrees (Literal x k) s = refl
-    effect-agrees (AddConstant x y k) s = ap (λ (b : Bool). cond (b && eqb x y) (Shift x k) (Forget x)) (sym (range-represented vars q right t y k (inr (s .source .below))))
+    effect-agrees (AddConstant x y k) s =
+        ap (λ (b : Bool). cond (b && eqb x y) (Shift x k) (Forget x)) (sym (range-represented vars q right t y k (inr (s .source .below))))
     effect-agrees (Arithmetic x y z op) s = refl
     effect-agrees (Null p) s = refl
     effect-agrees (Address p o) s = refl
@@ -175,7 +185,8 @@ module _ (T : List ℤ) (h : Sections) (w : Formed T h) (q : Decider) (right : D
 
     after-agrees : (n : ℕ) (K : List Bounds) (s : Simple) → n ≤ 16 → FairAll vars n K → SimpleTyped T h s
         → boundsAfter (byChains q) (effect (byChains q) E H s) K ≡ boundsAfter store (effect store E f s) K
-    after-agrees n K s l g y = ap (λ (e : Effect). boundsAfter (byChains q) e K) (effect-agrees s y) ∙ moved-agree n (effect store E f s) K l (statement-fair T h w f s y) g
+    after-agrees n K s l g y = ap (λ (e : Effect). boundsAfter (byChains q) e K) (effect-agrees s y)
+        ∙ moved-agree n (effect store E f s) K l (statement-fair T h w f s y) g
 
     access-same : (R : List ℕ) (n : ℕ) (K : List Bounds) (s : Simple) → n ≤ 16 → FairAll vars n K → SimpleTyped T h s
         → accessShown store (inForce E R) f K s ≡ accessShown (byChains q) (inForce E R) H K s
@@ -212,12 +223,16 @@ module _ (T : List ℤ) (h : Sections) (w : Formed T h) (q : Decider) (right : D
   module _ {U : State History} {W : State FactSet} (t : StateRepresents vars U W) where
     unshown-agrees : (n : ℕ) (K : List Bounds) → n ≤ 16 → FairAll vars n K → unshownIn store E W K ≡ unshownIn (byChains q) E U K
     unfolding unshown
-    unshown-agrees n K l a = unshown-from (t .represents) (W .rows) n 16 0 K l a ∙ ap (λ (R : List ℕ). unshownFrom (byChains q) (inForce E R) (U .facts) K 16 0) (sym (t .rows))
+    unshown-agrees n K l a = unshown-from (t .represents) (W .rows) n 16 0 K l a
+        ∙ ap (λ (R : List ℕ). unshownFrom (byChains q) (inForce E R) (U .facts) K 16 0) (sym (t .rows))
 
-    access-agrees : (n : ℕ) (K : List Bounds) (s : Simple) → n ≤ 16 → FairAll vars n K → SimpleTyped T h s → accessIn store E W K s ≡ accessIn (byChains q) E U K s
-    access-agrees n K s l a y = access-same (t .represents) (W .rows) n K s l a y ∙ ap (λ (R : List ℕ). accessShown (byChains q) (inForce E R) (U .facts) K s) (sym (t .rows))
+    access-agrees : (n : ℕ) (K : List Bounds) (s : Simple) → n ≤ 16 → FairAll vars n K → SimpleTyped T h s
+        → accessIn store E W K s ≡ accessIn (byChains q) E U K s
+    access-agrees n K s l a y = access-same (t .represents) (W .rows) n K s l a y
+        ∙ ap (λ (R : List ℕ). accessShown (byChains q) (inForce E R) (U .facts) K s) (sym (t .rows))
 
-    row-agrees : (n : ℕ) (K : List Bounds) (s : Simple) → n ≤ 16 → FairAll vars n K → SimpleTyped T h s → rowUnshown store E (W .facts) K s ≡ rowUnshown (byChains q) E (U .facts) K s
+    row-agrees : (n : ℕ) (K : List Bounds) (s : Simple) → n ≤ 16 → FairAll vars n K → SimpleTyped T h s
+        → rowUnshown store E (W .facts) K s ≡ rowUnshown (byChains q) E (U .facts) K s
     row-agrees n K s l a y = row-same (t .represents) n K s l a y
 
   -- ---- a bundle, after n of its statements
@@ -228,7 +243,8 @@ module _ (T : List ℤ) (h : Sections) (w : Formed T h) (q : Decider) (right : D
     bounds : bundleFaults store E a ss W K ≡ [] → bundleBounds (byChains q) E ss U K ≡ bundleBounds store E ss W K
     fair : bundleFaults store E a ss W K ≡ [] → FairAll vars (n + length ss) (bundleBounds store E ss W K)
 
-  line-step : (n a : ℕ) (s : Simple) (ss : List Simple) {U : State History} {W : State FactSet} (K : List Bounds) → n ≤ 16 → SimpleTyped T h s → FairAll vars n K → StateRepresents vars U W
+  line-step : (n a : ℕ) (s : Simple) (ss : List Simple) {U : State History} {W : State FactSet} (K : List Bounds) → n ≤ 16 → SimpleTyped T h s
+      → FairAll vars n K → StateRepresents vars U W
       → LineAgrees (n + 1) (a + 1) ss (stateAfter (byChains q) s U) (stateAfter store s W) (boundsAfter store (effect store E (W .facts) s) K)
       → LineAgrees n a (s ∷ ss) U W K
   unfolding bundleFaults bundleAfter bundleBounds
@@ -245,7 +261,8 @@ module _ (T : List ℤ) (h : Sections) (w : Formed T h) (q : Decider) (right : D
         fair = λ z. rw m (rest .fair (no-rest _ _ (no-rest _ _ z)));
       }
 
-  line-agrees : (n a : ℕ) (ss : List Simple) {U : State History} {W : State FactSet} (K : List Bounds) → n + length ss ≤ 16 → ReadsLine T h a ss → FairAll vars n K → StateRepresents vars U W → LineAgrees n a ss U W K
+  line-agrees : (n a : ℕ) (ss : List Simple) {U : State History} {W : State FactSet} (K : List Bounds) → n + length ss ≤ 16 → ReadsLine T h a ss
+      → FairAll vars n K → StateRepresents vars U W → LineAgrees n a ss U W K
   unfolding bundleFaults bundleAfter bundleBounds
   line-agrees n a [] K l r g t = let e : n + 0 ≡ n = omega arith in record { faults = tt; represents = λ z. t; bounds = λ z. refl; fair = λ z. rw e g }
   line-agrees n a (s ∷ ss) {U} {W} K l r g t =
@@ -268,26 +285,31 @@ module _ (T : List ℤ) (h : Sections) (w : Formed T h) (q : Decider) (right : D
   unfolding blockFaults blockAfter
   plain-agrees a s r {U} {W} y t rest =
       let k : declaredIn (byChains q) E U ≡ declaredIn store E W = ap (λ (R : List ℕ). inForce E R .declared) (t .rows) in
-      let e : boundsAfter (byChains q) (effect (byChains q) E (U .facts) s) (declaredIn store E W) ≡ boundsAfter store (effect store E (W .facts) s) (declaredIn store E W) =
+      let e : boundsAfter (byChains q) (effect (byChains q) E (U .facts) s) (declaredIn store E W) ≡ boundsAfter store (effect store E (W .facts) s)
+      (declaredIn store E W) =
       after-agrees (t .represents) 0 (declaredIn store E W) s (omega arith) (declared-fair T h w (W .rows)) y in
       record {
         faults = same-also _ _ _ _ (rw k (bounds-fault a (row-agrees t 0 _ s (omega arith) (declared-fair T h w (W .rows)) y)))
             (λ o. same-also _ _ _ _
             (rw (k, e) (bounds-fault a (unshown-agrees (state-after T h (w .limits) q right t s y) 1 _ (omega arith)
-            (after-fair vars 0 (effect store E (W .facts) s) (declaredIn store E W) (omega arith) (statement-fair T h w (W .facts) s y) (declared-fair T h w (W .rows))))))
+            (after-fair vars 0 (effect store E (W .facts) s) (declaredIn store E W) (omega arith) (statement-fair T h w (W .facts) s y)
+            (declared-fair T h w (W .rows))))))
             (λ u. rest .faults));
         represents = λ z. rest .represents (no-rest _ _ (no-rest _ _ z));
       }
 
-  bundle-agrees : (a : ℕ) (ss : List Simple) (r : Block) {U : State History} {W : State FactSet} → length ss ≤ 16 → LineAgrees 0 (a + 1) ss U W (declaredIn store E W) → StateRepresents vars U W
-      → (StateRepresents vars (bundleAfter (byChains q) ss U) (bundleAfter store ss W) → BlockAgrees r (bundleAfter (byChains q) ss U) (bundleAfter store ss W)) → BlockAgrees (bundle a ss r) U W
+  bundle-agrees : (a : ℕ) (ss : List Simple) (r : Block) {U : State History} {W : State FactSet} → length ss ≤ 16
+      → LineAgrees 0 (a + 1) ss U W (declaredIn store E W) → StateRepresents vars U W
+      → (StateRepresents vars (bundleAfter (byChains q) ss U) (bundleAfter store ss W) → BlockAgrees r (bundleAfter (byChains q) ss U) (bundleAfter store ss W))
+      → BlockAgrees (bundle a ss r) U W
   unfolding blockFaults blockAfter
   bundle-agrees a ss r {U} {W} l i t rest =
       let k : declaredIn (byChains q) E U ≡ declaredIn store E W = ap (λ (R : List ℕ). inForce E R .declared) (t .rows) in
       record {
         faults = same-also _ _ _ _ (rw k (i .faults)) (λ u.
             let b = i .bounds u in
-            same-also _ _ _ _ (rw (k, b) (bounds-fault a (unshown-agrees (i .represents u) (0 + length ss) _ (omega arith) (i .fair u)))) (λ v. rest (i .represents u) .faults));
+            same-also _ _ _ _ (rw (k, b) (bounds-fault a (unshown-agrees (i .represents u) (0 + length ss) _ (omega arith) (i .fair u))))
+            (λ v. rest (i .represents u) .faults));
         represents = λ z. rest (i .represents (no-first _ _ z)) .represents (no-rest _ _ (no-rest _ _ z));
       }
 
@@ -300,11 +322,14 @@ module _ (T : List ℤ) (h : Sections) (w : Formed T h) (q : Decider) (right : D
         faults = same-also _ _ _ _ (i .faults) (λ z₁. same-also _ _ _ _ (j .faults) (λ z₂.
             same-also _ _ _ _ (same-of _ _ (ap₂ (rowsAt a) (sym (i .represents z₁ .rows)) (sym (j .represents z₂ .rows))))
             (λ z₃. rest _ _ (meets T h (w .limits) q right (i .represents z₁) (j .represents z₂)) .faults)));
-        represents = λ z. let e = no-rest _ _ z in rest _ _ (meets T h (w .limits) q right (i .represents (no-first _ _ z)) (j .represents (no-first _ _ e))) .represents (no-rest _ _ (no-rest _ _ e));
+        represents = λ z. let e = no-rest _ _ z in rest _ _
+            (meets T h (w .limits) q right (i .represents (no-first _ _ z)) (j .represents (no-first _ _ e))) .represents (no-rest _ _ (no-rest _ _ e));
       }
 
-  loop-agrees : (a : ℕ) (c : Condition) (n : ℕ) (x u : Block) {U : State History} {W : State FactSet} → StateRepresents vars U W → Sides T h (c .left) (c .right) (c .offset)
-      → ((U : State History) (W : State FactSet) → StateRepresents vars U W → BlockAgrees x U W) → ((U : State History) (W : State FactSet) → StateRepresents vars U W → BlockAgrees u U W) → BlockAgrees (loop a c n x u) U W
+  loop-agrees : (a : ℕ) (c : Condition) (n : ℕ) (x u : Block) {U : State History} {W : State FactSet} → StateRepresents vars U W
+      → Sides T h (c .left) (c .right) (c .offset)
+      → ((U : State History) (W : State FactSet) → StateRepresents vars U W → BlockAgrees x U W)
+      → ((U : State History) (W : State FactSet) → StateRepresents vars U W → BlockAgrees u U W) → BlockAgrees (loop a c n x u) U W
   unfolding blockFaults blockAfter
   loop-agrees a c n x u {U} {W} t s body rest =
       let l = state-at-head T h (w .limits) q right t (a + 1) n in
@@ -327,14 +352,17 @@ module _ (T : List ℤ) (h : Sections) (w : Formed T h) (q : Decider) (right : D
       branch-agrees a c x y u t (block-agrees (d + 1) x (o .1) (r .1) (state-assumed T h (w .limits) q right t c s))
       (block-agrees (d + 1) y (o .2) (r .2) (state-negated T h (w .limits) q right t c s)) (λ U W t′. block-agrees d u (o .3) (r .3) t′)
   block-agrees d (loop a c n x u) o r t =
-      loop-agrees a c n x u t (read-typed T h a (While c (size x)) (r .0) .condition .sides) (λ U W t′. block-agrees (d + 1) x (o .2) (r .1) t′) (λ U W t′. block-agrees d u (o .3) (r .2) t′)
+      loop-agrees a c n x u t (read-typed T h a (While c (size x)) (r .0) .condition .sides) (λ U W t′. block-agrees (d + 1) x (o .2) (r .1) t′)
+      (λ U W t′. block-agrees d u (o .3) (r .2) t′)
   block-agrees d (bundle a ss u) {U} {W} o r t =
-      bundle-agrees a ss u (o .2) (line-agrees 0 (a + 1) ss (declaredIn store E W) (omega (arith, o .2)) (r .1) (declared-fair T h w (W .rows)) t) t (λ t′. block-agrees d u (o .3) (r .2) t′)
+      bundle-agrees a ss u (o .2) (line-agrees 0 (a + 1) ss (declaredIn store E W) (omega (arith, o .2)) (r .1) (declared-fair T h w (W .rows)) t) t
+      (λ t′. block-agrees d u (o .3) (r .2) t′)
   block-agrees d (unread a) o r t = absurd o
 
 -- ---- the whole table
 
-section-agrees : (T : List ℤ) (h : Sections) (w : Formed T h) (q : Decider) → Decides (variables T h (w .limits)) q → SameFirst (sectionFaults store T h) (sectionFaults (byChains q) T h)
+section-agrees : (T : List ℤ) (h : Sections) (w : Formed T h) (q : Decider) → Decides (variables T h (w .limits)) q
+    → SameFirst (sectionFaults store T h) (sectionFaults (byChains q) T h)
 unfolding sectionFaults
 section-agrees T h w q right =
     same-also _ _ _ _ (same-self (layout T h))

@@ -32,12 +32,14 @@ module _ (T : List ℤ) (h : Sections) (w : Limits h) (q : Decider) (right : Dec
 
   -- ---- after a bundle and after a block
 
-  line-represented : (a : ℕ) (ss : List Simple) {U : State History} {W : State FactSet} → ReadsLine T h a ss → StateRepresents vars U W → StateRepresents vars (bundleAfter (byChains q) ss U) (bundleAfter store ss W)
+  line-represented : (a : ℕ) (ss : List Simple) {U : State History} {W : State FactSet} → ReadsLine T h a ss → StateRepresents vars U W
+      → StateRepresents vars (bundleAfter (byChains q) ss U) (bundleAfter store ss W)
   unfolding bundleAfter
   line-represented a [] r t = t
   line-represented a (s ∷ ss) r t = line-represented (a + 1) ss (r .1) (state-after T h w q right t s (read-typed T h a (Plain s) (r .0)))
 
-  block-represented : (b : Block) {U : State History} {W : State FactSet} → Reads T h b → StateRepresents vars U W → StateRepresents vars (blockAfter (byChains q) T h E b U) (blockAfter store T h E b W)
+  block-represented : (b : Block) {U : State History} {W : State FactSet} → Reads T h b → StateRepresents vars U W
+      → StateRepresents vars (blockAfter (byChains q) T h E b U) (blockAfter store T h E b W)
   unfolding blockAfter
   block-represented nil r t = t
   block-represented (plain a s u) r t = block-represented u (r .1) (state-after T h w q right t s (read-typed T h a (Plain s) (r .0)))

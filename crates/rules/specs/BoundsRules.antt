@@ -7,7 +7,8 @@ use lib.ListN.{getD, set}
 use Rattle.sums.specs.Numbers.{bias, zeroVar}
 use Rattle.arrays.specs.Tabulate.{tabulate}
 use Rattle.statements.specs.declared.Simple.{Simple}
-use Rattle.statements.specs.declared.Simple.the-variants.{Literal, AddConstant, Arithmetic, Null, Address, PointerOffset, PointerIndex, Load, Store, Check, Declare}
+use Rattle.statements.specs.declared.Simple.the-variants.{Literal, AddConstant, Arithmetic, Null, Address}
+use Rattle.statements.specs.declared.Simple.the-variants.{PointerOffset, PointerIndex, Load, Store, Check, Declare}
 use Rattle.variables.specs.declared.End.{End}
 use Rattle.rules.specs.FactSets.{FactSets}
 use Rattle.rules.specs.FactRules.{inRange}
@@ -114,7 +115,8 @@ weight s v e = cond (eqb (e .pointer) v) 1 s
 unfoldable pub forgetBounds : ℕ → Bounds → Bounds
 forgetBounds v b = record { size = b .size; lower = forgetEnd v (b .lower); upper = forgetEnd v (b .upper) }
 
--- "Kind 5 then gives (p, p + length)"; point 7: of a terminated object "(p, p + length - 1)". Point 10: "Known bounds carry the size they came with, those of kind 5 the size of p."
+-- "Kind 5 then gives (p, p + length)"; point 7: of a terminated object "(p, p + length - 1)". Point 10: "Known bounds carry the size they came with, those of
+-- kind 5 the size of p."
 unfoldable pub objectBounds : ℕ → ℕ → ℕ → Bounds
 objectBounds p s n = record {
   size = s;

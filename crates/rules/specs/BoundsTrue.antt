@@ -19,8 +19,10 @@ use Rattle.sections.specs.SectionsLaws.{both}
 use Rattle.sections.specs.NameLaws.{either}
 use Rattle.variables.specs.declared.End.{End}
 use Rattle.rules.specs.FactsTrue.{neither}
-use Rattle.rules.specs.BoundsRules.{nothingKnown, isPointer, declared, known, names, forgetEnd, forgetBounds, objectBounds, consIf, ownRows, rowBound, inForce, sized, elementSize, weight, comparableEnds}
-use Rattle.rules.specs.Stored.{sameEnd, endAtMost, knownAtMost, boundsShown, unshownFrom, unshown, shiftConstant, shiftEnd, shiftBounds, effectOn, boundsAfter, store}
+use Rattle.rules.specs.BoundsRules.{nothingKnown, isPointer, declared, known, names, forgetEnd, forgetBounds, objectBounds}
+use Rattle.rules.specs.BoundsRules.{consIf, ownRows, rowBound, inForce, sized, elementSize, weight, comparableEnds}
+use Rattle.rules.specs.Stored.{sameEnd, endAtMost, knownAtMost, boundsShown, unshownFrom, unshown}
+use Rattle.rules.specs.Stored.{shiftConstant, shiftEnd, shiftBounds, effectOn, boundsAfter, store}
 use Rattle.rules.specs.declared.KnownEnd.{KnownEnd}
 use Rattle.rules.specs.declared.KnownEnd.the-variants.{Known, Unknown}
 use Rattle.rules.specs.declared.Bounds.{Bounds}
@@ -127,7 +129,8 @@ module _ (v w : ℕ → ℕ) (x : ℕ) (same : Except x v w) where
         go (leb (weight s x e) 8 && ltb k (2 ^ 40) && ltb (e .constant) (2 ^ 40)) (leb (weight s x e * k) (e .constant + weight s x e * bias)) refl
       where
         go : (a b : Bool) → leb (weight s x e * k) (e .constant + weight s x e * bias) ≡ b
-            → Kept v w s e (cond (a && b) (Known (record { pointer = e .pointer; integer = e .integer; constant = e .constant + weight s x e * bias - weight s x e * k })) Unknown)
+            → Kept v w s e (cond (a && b)
+            (Known (record { pointer = e .pointer; integer = e .integer; constant = e .constant + weight s x e * bias - weight s x e * k })) Unknown)
         go false b z = tt
         go true false z = tt
         go true true z = (
@@ -240,13 +243,19 @@ module _ (f : FactSet) (v : ℕ → ℕ) (h : Holds f v) (range : InRange v) whe
   pub shown-holds : (low high p : ℕ) (k d : Bounds) → p < 17 → ProperEnd (d .lower) → ProperEnd (d .upper) → boundsShown f p k d ≡ true
       → BoundsHold low high k v → (v p ≡ 0) ⊎ BoundsHold low high d v
   unfolding boundsRules.boundsShown
-  shown-holds low high p k d hp r s t l = go (either (shown f p zeroVar bias) (knownAtMost f (k .size) (k .lower) (d .size) (d .lower) && knownAtMost f (d .size) (d .upper) (k .size) (k .upper)) t)
+  shown-holds low high p k d hp r s t l = go
+      (either (shown f p zeroVar bias) (knownAtMost f (k .size) (k .lower) (d .size) (d .lower) && knownAtMost f (d .size) (d .upper) (k .size) (k .upper)) t)
     where
-      go : (shown f p zeroVar bias ≡ true) ⊎ ((knownAtMost f (k .size) (k .lower) (d .size) (d .lower) && knownAtMost f (d .size) (d .upper) (k .size) (k .upper)) ≡ true) → (v p ≡ 0) ⊎ BoundsHold low high d v
+      go : (shown f p zeroVar bias ≡ true)
+          ⊎ ((knownAtMost f (k .size) (k .lower) (d .size) (d .lower) && knownAtMost f (d .size) (d .upper) (k .size) (k .upper)) ≡ true)
+          → (v p ≡ 0) ⊎ BoundsHold low high d v
       go (inl q) = inl (omega (arith, h p zeroVar bias hp (omega arith) q, range .zero-is))
       go (inr q) =
           let b = both (knownAtMost f (k .size) (k .lower) (d .size) (d .lower)) (knownAtMost f (d .size) (d .upper) (k .size) (k .upper)) q in
-          inr (record { lower = lower-shown low (k .size) (d .size) (k .lower) (d .lower) (b .0) r (l .lower); upper = upper-shown high (d .size) (k .size) (d .upper) (k .upper) (b .1) s (l .upper) })
+          inr (record {
+            lower = lower-shown low (k .size) (d .size) (k .lower) (d .lower) (b .0) r (l .lower);
+            upper = upper-shown high (d .size) (k .size) (d .upper) (k .upper) (b .1) s (l .upper);
+          })
 
 -- Where no pointer is listed, the declared bounds of each are shown.
 module _ (E : Environment) (f : FactSet) (K : List Bounds) where

@@ -25,7 +25,8 @@ use Rattle.variables.specs.declared.VariableRead.{VariableRead}
 use Rattle.variables.specs.declared.VariableRead.the-variants.{Read, Unread}
 use Rattle.variables.specs.declared.RowRead.{RowRead}
 use Rattle.table.specs.FormLaws.{Formed}
-use Rattle.rules.specs.BoundsRules.{nothingKnown, isPointer, declared, rowBound, inForce, elementSize, sized, isString, isTerminated, objectLength, objectSpan, upperLimit}
+use Rattle.rules.specs.BoundsRules.{nothingKnown, isPointer, declared, rowBound, inForce, elementSize}
+use Rattle.rules.specs.BoundsRules.{sized, isString, isTerminated, objectLength, objectSpan, upperLimit}
 use Rattle.rules.specs.BoundsTrue.{Proper, declared-in-force}
 use Rattle.rules.specs.Verdict.{boundsOf, environmentOf, rowBounds, variableSize}
 use Rattle.rules.specs.declared.KnownEnd.the-variants.{Known}
@@ -81,7 +82,8 @@ module _ (T : List ℤ) (h : Sections) where
 
   span-at : (o : ℕ) → o < 16 → objectSpan (environmentOf T h) o ≡ upperLimit (isTerminated (environmentOf T h) o) (objectLength (environmentOf T h) o)
   unfolding environmentOf
-  span-at o l = getD-tabulate 16 (λ x. upperLimit (objectTerminated T h x) (objectAt T h x)) o 0 l ∙ rw (getD-tabulate 16 (objectTerminated T h) o false l, getD-tabulate 16 (objectAt T h) o 0 l)
+  span-at o l = getD-tabulate 16 (λ x. upperLimit (objectTerminated T h x) (objectAt T h x)) o 0 l
+      ∙ rw (getD-tabulate 16 (objectTerminated T h) o false l, getD-tabulate 16 (objectAt T h) o 0 l)
 
   declared-at : (p : ℕ) → p < 16 → rowBound (environmentOf T h) 0 p ≡ boundsOf (variableAt T h p)
   unfolding environmentOf rowBound
@@ -191,5 +193,6 @@ environment-declares T h f =
       ended = λ o l. ended-at T h o (omega (arith, f .limits .objects));
       long = λ o l. rw (length-at T h o (omega (arith, f .limits .objects))) (f .objects o l .0);
       span = λ o l. span-at T h o (omega (arith, f .limits .objects));
-      ends = λ R n p e. rw (declared-in-force (environmentOf T h) R p (omega (arith, few, pointer-limits T h p (pointer-kind T h p e) .1))) (number-ends T h f p e (getD R p 0) (n p));
+      ends = λ R n p e. rw (declared-in-force (environmentOf T h) R p (omega (arith, few, pointer-limits T h p (pointer-kind T h p e) .1)))
+          (number-ends T h f p e (getD R p 0) (n p));
     }

@@ -68,7 +68,8 @@ module _ (f : FactSet) (v : ℕ → ℕ) (g : InRange v) (h : Holds f v) where
   pub sum-in-range : (y k : ℕ) → y < 17 → inRange f y k ≡ true → (bias ≤ v y + k) × (v y + k ≤ bias + maxValue)
   sum-in-range y k hy e = go (either (eqb k bias) (shown f zeroVar y k && shown f y zeroVar (bias + maxValue + bias - k)) e)
     where
-      go : (eqb k bias ≡ true) ⊎ ((shown f zeroVar y k && shown f y zeroVar (bias + maxValue + bias - k)) ≡ true) → (bias ≤ v y + k) × (v y + k ≤ bias + maxValue)
+      go : (eqb k bias ≡ true) ⊎ ((shown f zeroVar y k && shown f y zeroVar (bias + maxValue + bias - k)) ≡ true)
+          → (bias ≤ v y + k) × (v y + k ≤ bias + maxValue)
       go (inl t) = let z : k ≡ bias = eqb-true k bias t in (omega arith, omega (arith, g .below y))
       go (inr t) =
           let p = both (shown f zeroVar y k) (shown f y zeroVar (bias + maxValue + bias - k)) t in
@@ -119,14 +120,16 @@ module _ (lost : ℕ → Bool) (v w : ℕ → ℕ) (g : InRange v) (g′ : InRan
     where
       go : (b : Bool) → lost n ≡ b → Holds (droppedEach n lost f) (mixed lost v w n)
           → Holds (cond b (dropped (droppedEach n lost f) n) (droppedEach n lost f)) (mixed lost v w (suc n))
-      go true e i = dropped-holds (droppedEach n lost f) (mixed lost v w n) (mixed lost v w (suc n)) (mixed-range n) (mixed-range (suc n)) i n (omega arith) (mixed-except n)
+      go true e i = dropped-holds (droppedEach n lost f) (mixed lost v w n) (mixed lost v w (suc n)) (mixed-range n) (mixed-range (suc n)) i n
+          (omega arith) (mixed-except n)
       go false e i = holds-same (droppedEach n lost f) (mixed lost v w n) (mixed lost v w (suc n)) i (λ x hx. mixed-kept n e x)
 
 -- The facts at a loop's head are true of any values that differ from those before the loop only at what the body assigns.
 pub loop-facts-hold : (A : List ℕ) (f : FactSet) (v w : ℕ → ℕ) → InRange v → InRange w → Holds f v → Agree A v w → Holds (loopFacts A f) w
 unfolding factRules.loopFacts
 loop-facts-hold A f v w g g′ h a =
-    holds-same (droppedEach 16 (λ x. among x A) f) (mixed (λ x. among x A) v w 16) w (dropped-each-holds (λ x. among x A) v w g g′ f h 16 (omega arith)) (λ x hx. same x hx (among x A) refl)
+    holds-same (droppedEach 16 (λ x. among x A) f) (mixed (λ x. among x A) v w 16) w (dropped-each-holds (λ x. among x A) v w g g′ f h 16 (omega arith))
+    (λ x hx. same x hx (among x A) refl)
   where
     at-zero : (x : ℕ) → zeroVar ≡ x → w x ≡ cond (ltb x 16 && true) (w x) (v x)
     at-zero x e =

@@ -23,7 +23,8 @@ use Rattle.sections.specs.Typed.{IsIndex, missing, given, IsSmall}
 use Rattle.sections.specs.declared.Sections.{Sections}
 use Rattle.statements.specs.Typed.{SimpleTyped}
 use Rattle.statements.specs.declared.Simple.{Simple}
-use Rattle.statements.specs.declared.Simple.the-variants.{Literal, AddConstant, Arithmetic, Null, Address, PointerOffset, PointerIndex, Load, Store, Check, Declare}
+use Rattle.statements.specs.declared.Simple.the-variants.{Literal, AddConstant, Arithmetic, Null, Address}
+use Rattle.statements.specs.declared.Simple.the-variants.{PointerOffset, PointerIndex, Load, Store, Check, Declare}
 use Rattle.variables.specs.Variables.{variableAt, objectAt, rowAt}
 use Rattle.variables.specs.VariableLaws.{variable-read-typed, row-read-typed}
 use Rattle.variables.specs.Typed.{EndTyped}
@@ -33,7 +34,8 @@ use Rattle.variables.specs.declared.VariableRead.{VariableRead}
 use Rattle.variables.specs.declared.VariableRead.the-variants.{Read, Unread}
 use Rattle.variables.specs.declared.RowRead.{RowRead}
 use Rattle.table.specs.FormLaws.{Formed}
-use Rattle.rules.specs.BoundsRules.{nothingKnown, known, names, forgetEnd, forgetBounds, objectBounds, effect, rowBound, declared, inForce, weight, objectSpan, upperLimit}
+use Rattle.rules.specs.BoundsRules.{nothingKnown, known, names, forgetEnd, forgetBounds, objectBounds}
+use Rattle.rules.specs.BoundsRules.{effect, rowBound, declared, inForce, weight, objectSpan, upperLimit}
 use Rattle.rules.specs.Verdict.{boundsOf, environmentOf, rowBounds}
 use Rattle.rules.specs.EnvironmentLaws.{sizes-small}
 use Rattle.rules.specs.Stored.{store, shiftConstant, shiftEnd, shiftBounds, effectOn, boundsAfter}
@@ -107,7 +109,12 @@ module _ (vars : Variables) where
   constant-moved n w k e l m p s =
       let small : k < 2 ^ 40 = omega (arith, s .high) in
       let moved : w * k ≤ w * (bias + 65536) = scale w (omega (arith, s .high)) in
-      rw (le-leb w 8 m, lt-ltb k (2 ^ 40) small, lt-ltb (e .constant) (2 ^ 40) (omega (arith, p .high)), le-leb (w * k) (e .constant + w * bias) (omega (arith, p .low)))
+      rw (
+        le-leb w 8 m,
+        lt-ltb k (2 ^ 40) small,
+        lt-ltb (e .constant) (2 ^ 40) (omega (arith, p .high)),
+        le-leb (w * k) (e .constant + w * bias) (omega (arith, p .low)),
+      )
 
   moved : (n s v k : ℕ) (e : KnownEnd) → n ≤ 16 → s ≤ 8 → IsSmall k → FairKnown vars n e → FairKnown vars (n + 1) (shiftEnd s v k e)
   unfolding boundsRules.shiftEnd
@@ -183,7 +190,12 @@ module _ (T : List ℤ) (h : Sections) (w : Formed T h) where
   index-node (given i) = inr (i .below)
 
   end-fair : {e : End} → EndTyped T h e → FairEnd vars 0 e
-  end-fair t = record { pointer = inr (t .pointer .below); integer = index-node (t .integer); low = omega (arith, t .constant .low); high = omega (arith, t .constant .high) }
+  end-fair t = record {
+    pointer = inr (t .pointer .below);
+    integer = index-node (t .integer);
+    low = omega (arith, t .constant .low);
+    high = omega (arith, t .constant .high);
+  }
 
   read-fair : (v : ℕ) (r : VariableRead) → variableAt T h v ≡ r → FairBounds vars 0 (boundsOf r)
   read-fair v (Read (Pointer s l u)) e =
@@ -198,7 +210,8 @@ module _ (T : List ℤ) (h : Sections) (w : Formed T h) where
       go : (b : Bool) → ltb p 16 ≡ b → FairBounds vars 0 (getD (tabulate 16 (λ v. boundsOf (variableAt T h v))) p nothingKnown)
       go true q = rw (getD-tabulate 16 (λ v. boundsOf (variableAt T h v)) p nothingKnown (ltb-true p 16 q)) (read-fair p (variableAt T h p) refl)
       go false q =
-          let i : length (tabulate 16 (λ v. boundsOf (variableAt T h v))) ≤ p = omega (arith, length-tabulate 16 (λ v. boundsOf (variableAt T h v)), ltb-false p 16 q) in
+          let i : length (tabulate 16 (λ v. boundsOf (variableAt T h v))) ≤ p =
+          omega (arith, length-tabulate 16 (λ v. boundsOf (variableAt T h v)), ltb-false p 16 q) in
           rw (List·getD-eq-default (tabulate 16 (λ v. boundsOf (variableAt T h v))) nothingKnown {n = p} i) (nothing-fair vars 0)
 
   row-read-fair : (r : ℕ) (x : RowRead) → rowAt T h r ≡ x → FairBounds vars 0 (rowBounds x)
@@ -213,7 +226,8 @@ module _ (T : List ℤ) (h : Sections) (w : Formed T h) where
       go : (b : Bool) → ltb r 64 ≡ b → FairBounds vars 0 (getD (tabulate 64 (λ v. rowBounds (rowAt T h v))) r nothingKnown)
       go true q = rw (getD-tabulate 64 (λ v. rowBounds (rowAt T h v)) r nothingKnown (ltb-true r 64 q)) (row-read-fair r (rowAt T h r) refl)
       go false q =
-          let i : length (tabulate 64 (λ v. rowBounds (rowAt T h v))) ≤ r = omega (arith, length-tabulate 64 (λ v. rowBounds (rowAt T h v)), ltb-false r 64 q) in
+          let i : length (tabulate 64 (λ v. rowBounds (rowAt T h v))) ≤ r =
+          omega (arith, length-tabulate 64 (λ v. rowBounds (rowAt T h v)), ltb-false r 64 q) in
           rw (List·getD-eq-default (tabulate 64 (λ v. rowBounds (rowAt T h v))) nothingKnown {n = r} i) (nothing-fair vars 0)
 
   -- The bounds that a number stands for, and those in force, whatever the rows.
@@ -228,7 +242,8 @@ module _ (T : List ℤ) (h : Sections) (w : Formed T h) where
       go : (b : Bool) → ltb p 16 ≡ b → FairBounds vars 0 (getD (tabulate 16 (λ q. rowBound (environmentOf T h) (getD R q 0) q)) p nothingKnown)
       go true q = rw (getD-tabulate 16 (λ q. rowBound (environmentOf T h) (getD R q 0) q) p nothingKnown (ltb-true p 16 q)) (number-fair (getD R p 0) p)
       go false q =
-          let i : length (tabulate 16 (λ q. rowBound (environmentOf T h) (getD R q 0) q)) ≤ p = omega (arith, length-tabulate 16 (λ q. rowBound (environmentOf T h) (getD R q 0) q), ltb-false p 16 q) in
+          let i : length (tabulate 16 (λ q. rowBound (environmentOf T h) (getD R q 0) q)) ≤ p =
+          omega (arith, length-tabulate 16 (λ q. rowBound (environmentOf T h) (getD R q 0) q), ltb-false p 16 q) in
           rw (List·getD-eq-default (tabulate 16 (λ q. rowBound (environmentOf T h) (getD R q 0) q)) nothingKnown {n = p} i) (nothing-fair vars 0)
 
   limit-small : (b : Bool) (n : ℕ) → n ≤ 1000000 → upperLimit b n ≤ 1000000
@@ -239,7 +254,8 @@ module _ (T : List ℤ) (h : Sections) (w : Formed T h) where
   span-fair : (o : ℕ) → o < h .objects → objectSpan (environmentOf T h) o ≤ 1000000
   unfolding environmentOf
   span-fair o l =
-      rw (getD-tabulate 16 (λ x. upperLimit (objectTerminated T h x) (objectAt T h x)) o 0 (omega (arith, w .limits .objects))) (limit-small (objectTerminated T h o) (objectAt T h o) (w .objects o l .1))
+      rw (getD-tabulate 16 (λ x. upperLimit (objectTerminated T h x) (objectAt T h x)) o 0 (omega (arith, w .limits .objects)))
+      (limit-small (objectTerminated T h o) (objectAt T h o) (w .objects o l .1))
 
   pub statement-fair : (f : FactSet) (s : Simple) → SimpleTyped T h s → FairEffect vars (effect store (environmentOf T h) f s)
   unfolding effect

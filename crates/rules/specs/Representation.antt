@@ -1,4 +1,5 @@
--- Each rule does to the store what it tells of the paper's facts: the fact set of the store is made by the history that the rule tells, and its operations are legal.
+-- Each rule does to the store what it tells of the paper's facts: the fact set of the store is made by the history that the rule tells, and its operations are
+-- legal.
 use Prim.Native.Nat.{ℕ, zero, suc, _+_, _-_, _^_, _≤_, _<_}
 use mathlib.Core.Path.{_≡_, refl, sym, ap, ap₂, _∙_}
 use mathlib.Core.Logic.{_⊎_, inl, inr, ⊎-elim, _↔_}
@@ -30,13 +31,15 @@ use Rattle.statements.specs.Statements.{statementAt}
 use Rattle.statements.specs.StatementLaws.{read-typed}
 use Rattle.statements.specs.Typed.{SimpleTyped}
 use Rattle.statements.specs.declared.Simple.{Simple}
-use Rattle.statements.specs.declared.Simple.the-variants.{Literal, AddConstant, Arithmetic, Null, Address, PointerOffset, PointerIndex, Load, Store, Check, Declare}
+use Rattle.statements.specs.declared.Simple.the-variants.{Literal, AddConstant, Arithmetic, Null, Address}
+use Rattle.statements.specs.declared.Simple.the-variants.{PointerOffset, PointerIndex, Load, Store, Check, Declare}
 use Rattle.statements.specs.declared.Statement.the-variants.{Plain, If, While, Bundle}
 use Rattle.statements.specs.declared.StatementRead.{StatementRead}
 use Rattle.statements.specs.declared.StatementRead.the-variants.{Read, Unread}
 use Rattle.flow.specs.Targets.{targetOf, targetsFrom}
 use Rattle.blocks.specs.Tree.{target}
-use Rattle.rules.specs.FactRules.{among, inRange, equated, positive, differs, relationFacts, conditionFacts, sumFacts, offsetFacts, factsAfter, droppedEach, loopFacts}
+use Rattle.rules.specs.FactRules.{among, inRange, equated, positive, differs, relationFacts, conditionFacts}
+use Rattle.rules.specs.FactRules.{sumFacts, offsetFacts, factsAfter, droppedEach, loopFacts}
 use Rattle.rules.specs.Stored.{store}
 use Rattle.rules.specs.ByChains.{Decider, Decides, byChains, variables}
 use Rattle.rules.specs.Verdict.{environmentOf}
@@ -110,7 +113,8 @@ module _ (vars : Variables) where
       pub shown-represented : (x y k : ℕ) → Node vars x → Node vars y → shown f x y k ≡ q .shown H x y k
       shown-represented x y k hx hy =
           let e = t .same in
-          rw e at (same-test (shown (made (vars .pointer) H) x y k) (q .shown H x y k) (shows-exactly vars H (t .legal) x y k hx hy) (right .shown H (t .legal) x y k hx hy))
+          rw e at (same-test (shown (made (vars .pointer) H) x y k) (q .shown H x y k) (shows-exactly vars H (t .legal) x y k hx hy)
+          (right .shown H (t .legal) x y k hx hy))
 
       pub end-represented : (z p n k r m j : ℕ) → z ≤ 8 → Node vars p → Node vars n → Node vars r → Node vars m → k < 2 ^ 40 → j < 2 ^ 40
           → store .endShown f z p n k r m j ≡ q .endShown H z p n k r m j
@@ -124,11 +128,13 @@ module _ (vars : Variables) where
           ap₂ (λ (a b : Bool). eqb k bias || a && b) (shown-represented zeroVar y k (inl refl) h) (shown-represented y zeroVar (roomAbove k) h (inl refl))
 
     -- x = y + k
-    represents-equated : {H : History} {f : FactSet} → Represents vars H f → (x y k : ℕ) → Comparable vars x y → Comparable vars y x → Represents vars (equated (byChains q) H x y k) (equated store f x y k)
+    represents-equated : {H : History} {f : FactSet} → Represents vars H f → (x y k : ℕ) → Comparable vars x y → Comparable vars y x
+        → Represents vars (equated (byChains q) H x y k) (equated store f x y k)
     unfolding equated
     represents-equated t x y k r s = represents-add (represents-add t x y k r) y x (bias + bias - k) s
 
-    represents-positive : {H : History} {f : FactSet} → Represents vars H f → (x : ℕ) → x < vars .count → Represents vars (positive (byChains q) H x) (positive store f x)
+    represents-positive : {H : History} {f : FactSet} → Represents vars H f → (x : ℕ) → x < vars .count
+        → Represents vars (positive (byChains q) H x) (positive store f x)
     unfolding positive
     represents-positive t x h = represents-add t zeroVar x (bias - 1) (from-zero h)
 
@@ -153,16 +159,19 @@ module _ (vars : Variables) where
           rw (← e₁, ← e₂) (represents-differs (shown f x y (bias + k)) (shown f y x (bias - k)))
 
     -- Variables dropped before a loop.
-    represents-dropped : (b : Bool) {H : History} {f : FactSet} (n : ℕ) → (b ≡ true → n < vars .count) → Represents vars H f → Represents vars (cond b (drop H n) H) (cond b (dropped f n) f)
+    represents-dropped : (b : Bool) {H : History} {f : FactSet} (n : ℕ) → (b ≡ true → n < vars .count) → Represents vars H f
+        → Represents vars (cond b (drop H n) H) (cond b (dropped f n) f)
     represents-dropped true n h t = represents-drop t n (h refl)
     represents-dropped false n h t = t
 
-    represents-each : (n : ℕ) (lost : ℕ → Bool) {H : History} {f : FactSet} → ((v : ℕ) → lost v ≡ true → v < vars .count) → Represents vars H f → Represents vars (droppedEach (byChains q) n lost H) (droppedEach store n lost f)
+    represents-each : (n : ℕ) (lost : ℕ → Bool) {H : History} {f : FactSet} → ((v : ℕ) → lost v ≡ true → v < vars .count) → Represents vars H f
+        → Represents vars (droppedEach (byChains q) n lost H) (droppedEach store n lost f)
     unfolding droppedEach
     represents-each zero lost h t = t
     represents-each (suc n) lost h t = represents-dropped (lost n) n (h n) (represents-each n lost h t)
 
-    represents-loop : {H : History} {f : FactSet} (xs : List ℕ) → ((v : ℕ) → among v xs ≡ true → v < vars .count) → Represents vars H f → Represents vars (loopFacts (byChains q) xs H) (loopFacts store xs f)
+    represents-loop : {H : History} {f : FactSet} (xs : List ℕ) → ((v : ℕ) → among v xs ≡ true → v < vars .count) → Represents vars H f
+        → Represents vars (loopFacts (byChains q) xs H) (loopFacts store xs f)
     unfolding loopFacts
     represents-loop xs h t = represents-each 16 (λ v. among v xs) h t
 
@@ -213,7 +222,8 @@ module _ (T : List ℤ) (h : Sections) (w : Limits h) where
   among-append v [] ys e = inr e
   among-append v (x ∷ xs) ys e = go (eqb v x) e (λ p. among-append v xs ys p)
     where
-      go : (b : Bool) → (b || among v (xs ++ ys)) ≡ true → (among v (xs ++ ys) ≡ true → (among v xs ≡ true) ⊎ (among v ys ≡ true)) → ((b || among v xs) ≡ true) ⊎ (among v ys ≡ true)
+      go : (b : Bool) → (b || among v (xs ++ ys)) ≡ true → (among v (xs ++ ys) ≡ true → (among v xs ≡ true) ⊎ (among v ys ≡ true))
+          → ((b || among v xs) ≡ true) ⊎ (among v ys ≡ true)
       go true e ih = inl refl
       go false e ih = ih e
 
@@ -260,7 +270,8 @@ module _ (T : List ℤ) (h : Sections) (w : Limits h) where
   -- ---- conditions and statements
 
   module _ (q : Decider) (right : Decides vars q) where
-    pub condition-represented : {H : History} {f : FactSet} → Represents vars H f → (c : Condition) → Sides T h (c .left) (c .right) (c .offset) → Represents vars (conditionFacts (byChains q) H c) (conditionFacts store f c)
+    pub condition-represented : {H : History} {f : FactSet} → Represents vars H f → (c : Condition) → Sides T h (c .left) (c .right) (c .offset)
+        → Represents vars (conditionFacts (byChains q) H c) (conditionFacts store f c)
     unfolding conditionFacts
     condition-represented t c s = let p = compared s in represents-relation vars q right t (c .left) (c .right) (c .offset) (p .there) (p .back) (c .relation)
 
@@ -269,7 +280,8 @@ module _ (T : List ℤ) (h : Sections) (w : Limits h) where
     unfolding negatedOf
     negated-represented t c s = condition-represented t (negatedOf c) s
 
-    pub after-represented : {H : History} {f : FactSet} → Represents vars H f → (s : Simple) → SimpleTyped T h s → Represents vars (factsAfter (byChains q) s H) (factsAfter store s f)
+    pub after-represented : {H : History} {f : FactSet} → Represents vars H f → (s : Simple) → SimpleTyped T h s
+        → Represents vars (factsAfter (byChains q) s H) (factsAfter store s f)
     unfolding factsAfter sumFacts offsetFacts
     after-represented t (Literal x k) s = represents-range vars t x k k (s .target .below) (omega arith) (omega (arith, s .value))
     after-represented {H} {f} t (AddConstant x y k) s =
@@ -284,7 +296,8 @@ module _ (T : List ℤ) (h : Sections) (w : Limits h) where
     after-represented t (Address p o) s = represents-range vars t p 1 maxValue (s .target .below) (omega arith) (omega arith)
     after-represented t (PointerOffset p r k) s =
         let moved = represents-cond vars (eqb p r) (represents-shift vars t p k (s .target .below) (slight (s .constant)))
-        (represents-equated vars q right (represents-drop vars t p (s .target .below)) p r k (two-pointers (s .target) (s .source)) (two-pointers (s .source) (s .target))) in
+        (represents-equated vars q right (represents-drop vars t p (s .target .below)) p r k (two-pointers (s .target) (s .source))
+        (two-pointers (s .source) (s .target))) in
         represents-cond vars (eqb k bias) moved (represents-positive vars q right moved p (s .target .below))
     after-represented t (PointerIndex p r i) s = represents-range vars t p 1 maxValue (s .target .below) (omega arith) (omega arith)
     after-represented t (Load x p i k) s = represents-drop vars t x (s .value .below)

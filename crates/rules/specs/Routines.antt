@@ -3,22 +3,29 @@ use mathlib.Core.Path.{_≡_, refl, sym, _∙_}
 use mathlib.Core.List.{List, [], _∷_, map}
 use lib.IntN.{ℤ, pos, negsuc}
 use Rattle.sums.specs.Sums.{concatenated}
-use Rattle.facts.specs.Store.{leastSum, shown, endShown, newRow, newSet, loweredRow, lowered, marked, added, ownRow, reroutedRow, reassigned, ranged, dropped, shifted, joinedSum, joinedRow, joined, withinEnd}
+use Rattle.facts.specs.Store.{leastSum, shown, endShown, newRow, newSet, loweredRow, lowered, marked, added, ownRow}
+use Rattle.facts.specs.Store.{reroutedRow, reassigned, ranged, dropped, shifted, joinedSum, joinedRow, joined, withinEnd}
 use Rattle.arrays.specs.Tabulate.{tabulate}
 use Rattle.words.specs.Words.{fieldsAt, biased, word}
 use Rattle.fields.specs.Fields.{indexOf, isBelow, literalValue, isConstant}
-use Rattle.sections.specs.Sections.{inLimits, isVariable, kindAt, integerAt, pointerAt, namesInteger, namesPointer, namesIndex, startRight, kindOf, kindIs, arrayAt, stringAt, objectTerminated, takesPointer, takesObject, namesArray, namesString}
+use Rattle.sections.specs.Sections.{inLimits, isVariable, kindAt, integerAt, pointerAt, namesInteger, namesPointer, namesIndex, startRight}
+use Rattle.sections.specs.Sections.{kindOf, kindIs, arrayAt, stringAt, objectTerminated, takesPointer, takesObject, namesArray, namesString}
 use Rattle.conditions.specs.Negation.{negation, negatedOf}
 use Rattle.conditions.specs.Conditions.{sameKind, besideLiteral, conditionRight, rightOf, offsetOf, conditionOf}
-use Rattle.statements.specs.Statements.{unusedFrom, literalRead, addConstantRead, arithmeticRead, nullRead, addressRead, pointerOffsetRead, pointerIndexRead, loadRead, storeRead, bundleRead, checkRead, ifRead, whileRead, kindRead, statementAt, declareRead}
-use Rattle.variables.specs.Variables.{endWordsAt, variableWordsAt, endRight, endZero, endOf, integerRecord, pointerRecord, variableOf, variableAt, objectAt, rowWordsAt, rowOf, rowAt, isSize, sizeOf, objectCells}
-use Rattle.table.specs.Form.{lengthRight, isNumber, sectionsOf, directoryRight, objectRight, variableReads, statementReads, lowestFrom, lowestObject, lowestVariable, lowestStatement, itemsForm, formOf, fourPairs, fourthRight, rowReads, lowestRow}
+use Rattle.statements.specs.Statements.{unusedFrom, literalRead, addConstantRead, arithmeticRead, nullRead, addressRead, pointerOffsetRead}
+use Rattle.statements.specs.Statements.{pointerIndexRead, loadRead, storeRead, bundleRead, checkRead, ifRead, whileRead, kindRead, statementAt, declareRead}
+use Rattle.variables.specs.Variables.{endWordsAt, variableWordsAt, endRight, endZero, endOf, integerRecord, pointerRecord}
+use Rattle.variables.specs.Variables.{variableOf, variableAt, objectAt, rowWordsAt, rowOf, rowAt, isSize, sizeOf, objectCells}
+use Rattle.table.specs.Form.{lengthRight, isNumber, sectionsOf, directoryRight, objectRight, variableReads, statementReads, lowestFrom}
+use Rattle.table.specs.Form.{lowestObject, lowestVariable, lowestStatement, itemsForm, formOf, fourPairs, fourthRight, rowReads, lowestRow}
 use Rattle.blocks.specs.Layout.{also, when, contents, bundleLayout, blockLayout, layout, verdict}
 use Rattle.flow.specs.Shape.{size}
 use Rattle.flow.specs.Targets.{targetsFrom}
 use Rattle.blocks.specs.Tree.{simples, parse, tree, targets, assigned}
 use Rattle.rules.specs.BoundsRules.{forgetEnd, forgetBounds, objectBounds, rowBound, rowsAfter, weight, upperLimit}
-use Rattle.rules.specs.Stored.{effect, endAtMost, knownAtMost, boundsShown, unshownFrom, unshown, accessShown, equated, positive, differs, relationFacts, conditionFacts, sumFacts, offsetFacts, factsAfter, droppedEach, loopFacts, bundleBounds, bundleFaults, blockFaults, sectionFaults, faults, shiftConstant, shiftEnd, shiftBounds, effectOn, boundsAfter, bundleAfter, blockAfter}
+use Rattle.rules.specs.Stored.{effect, endAtMost, knownAtMost, boundsShown, unshownFrom, unshown, accessShown, equated, positive, differs}
+use Rattle.rules.specs.Stored.{relationFacts, conditionFacts, sumFacts, offsetFacts, factsAfter, droppedEach, loopFacts, bundleBounds, bundleFaults}
+use Rattle.rules.specs.Stored.{blockFaults, sectionFaults, faults, shiftConstant, shiftEnd, shiftBounds, effectOn, boundsAfter, bundleAfter, blockAfter}
 use Rattle.rules.specs.FactRules.{among}
 use Rattle.rules.specs.Rules.{accessAt, boundsAt, sameRows, rowsAt}
 use Rattle.rules.specs.Verdict.{environmentOf, verdictOf}
@@ -43,45 +50,118 @@ routine t v = record { table = t; verdict = v }
 pub routines : List Routine
 routines =
     -- (a) n := n - 1
-    routine (pos 6 ∷ pos 0 ∷ pos 6 ∷ pos 16 ∷ pos 22 ∷ pos 7 ∷ pos 1 ∷ pos 0 ∷ pos 0 ∷ negsuc 0 ∷ pos 0 ∷ pos 0 ∷ pos 1 ∷ pos 0 ∷ pos 0 ∷ pos 0 ∷ pos 0 ∷ pos 0 ∷ pos 0 ∷ pos 0 ∷ pos 0 ∷ pos 0 ∷ pos 2 ∷ pos 1 ∷ pos 1 ∷ negsuc 0 ∷ pos 0 ∷ pos 0 ∷ pos 0 ∷ [])
+    routine (pos 6 ∷ pos 0 ∷ pos 6 ∷ pos 16 ∷ pos 22 ∷ pos 7
+    ∷ pos 1 ∷ pos 0 ∷ pos 0 ∷ negsuc 0 ∷ pos 0 ∷ pos 0 ∷ pos 1 ∷ pos 0
+    ∷ pos 0 ∷ pos 0 ∷ pos 0 ∷ pos 0 ∷ pos 0 ∷ pos 0 ∷ pos 0 ∷ pos 0
+    ∷ pos 2 ∷ pos 1 ∷ pos 1 ∷ negsuc 0 ∷ pos 0 ∷ pos 0 ∷ pos 0 ∷ [])
     (Refused (BoundsNotShown 0 0)) ∷
     -- (b) dynamic check n > 0 first
-    routine (pos 6 ∷ pos 0 ∷ pos 6 ∷ pos 16 ∷ pos 22 ∷ pos 14 ∷ pos 1 ∷ pos 0 ∷ pos 0 ∷ negsuc 0 ∷ pos 0 ∷ pos 0 ∷ pos 1 ∷ pos 0 ∷ pos 0 ∷ pos 0 ∷ pos 0 ∷ pos 0 ∷ pos 0 ∷ pos 0 ∷ pos 0 ∷ pos 0 ∷ pos 10 ∷ pos 1 ∷ pos 2 ∷ pos 1 ∷ pos 0 ∷ pos 0 ∷ pos 0 ∷ pos 2 ∷ pos 1 ∷ pos 1 ∷ negsuc 0 ∷ pos 0 ∷ pos 0 ∷ pos 0 ∷ [])
+    routine (pos 6 ∷ pos 0 ∷ pos 6 ∷ pos 16 ∷ pos 22 ∷ pos 14
+    ∷ pos 1 ∷ pos 0 ∷ pos 0 ∷ negsuc 0 ∷ pos 0 ∷ pos 0 ∷ pos 1 ∷ pos 0
+    ∷ pos 0 ∷ pos 0 ∷ pos 0 ∷ pos 0 ∷ pos 0 ∷ pos 0 ∷ pos 0 ∷ pos 0
+    ∷ pos 10 ∷ pos 1 ∷ pos 2 ∷ pos 1 ∷ pos 0 ∷ pos 0 ∷ pos 0
+    ∷ pos 2 ∷ pos 1 ∷ pos 1 ∷ negsuc 0 ∷ pos 0 ∷ pos 0 ∷ pos 0 ∷ [])
     (Accepted) ∷
     -- (c) check n < 10, n := n + 1
-    routine (pos 6 ∷ pos 0 ∷ pos 6 ∷ pos 16 ∷ pos 22 ∷ pos 14 ∷ pos 1 ∷ pos 0 ∷ pos 0 ∷ negsuc 0 ∷ pos 0 ∷ pos 0 ∷ pos 1 ∷ pos 0 ∷ pos 0 ∷ pos 0 ∷ pos 0 ∷ pos 0 ∷ pos 0 ∷ pos 0 ∷ pos 0 ∷ pos 0 ∷ pos 10 ∷ pos 1 ∷ pos 0 ∷ pos 1 ∷ pos 10 ∷ pos 0 ∷ pos 0 ∷ pos 2 ∷ pos 1 ∷ pos 1 ∷ pos 1 ∷ pos 0 ∷ pos 0 ∷ pos 0 ∷ [])
+    routine (pos 6 ∷ pos 0 ∷ pos 6 ∷ pos 16 ∷ pos 22 ∷ pos 14
+    ∷ pos 1 ∷ pos 0 ∷ pos 0 ∷ negsuc 0 ∷ pos 0 ∷ pos 0 ∷ pos 1 ∷ pos 0
+    ∷ pos 0 ∷ pos 0 ∷ pos 0 ∷ pos 0 ∷ pos 0 ∷ pos 0 ∷ pos 0 ∷ pos 0
+    ∷ pos 10 ∷ pos 1 ∷ pos 0 ∷ pos 1 ∷ pos 10 ∷ pos 0 ∷ pos 0
+    ∷ pos 2 ∷ pos 1 ∷ pos 1 ∷ pos 1 ∷ pos 0 ∷ pos 0 ∷ pos 0 ∷ [])
     (Refused (BoundsNotShown 1 0)) ∷
     -- (d) p := p + 1
-    routine (pos 6 ∷ pos 0 ∷ pos 6 ∷ pos 16 ∷ pos 22 ∷ pos 7 ∷ pos 1 ∷ pos 0 ∷ pos 0 ∷ negsuc 0 ∷ pos 0 ∷ pos 0 ∷ pos 1 ∷ pos 0 ∷ pos 0 ∷ pos 0 ∷ pos 0 ∷ pos 0 ∷ pos 0 ∷ pos 0 ∷ pos 0 ∷ pos 0 ∷ pos 6 ∷ pos 0 ∷ pos 0 ∷ pos 1 ∷ pos 0 ∷ pos 0 ∷ pos 0 ∷ [])
+    routine (pos 6 ∷ pos 0 ∷ pos 6 ∷ pos 16 ∷ pos 22 ∷ pos 7
+    ∷ pos 1 ∷ pos 0 ∷ pos 0 ∷ negsuc 0 ∷ pos 0 ∷ pos 0 ∷ pos 1 ∷ pos 0
+    ∷ pos 0 ∷ pos 0 ∷ pos 0 ∷ pos 0 ∷ pos 0 ∷ pos 0 ∷ pos 0 ∷ pos 0
+    ∷ pos 6 ∷ pos 0 ∷ pos 0 ∷ pos 1 ∷ pos 0 ∷ pos 0 ∷ pos 0 ∷ [])
     (Refused (BoundsNotShown 0 0)) ∷
     -- (e) check n > 0, bundle p := p + 1, n := n - 1
-    routine (pos 6 ∷ pos 0 ∷ pos 6 ∷ pos 16 ∷ pos 22 ∷ pos 28 ∷ pos 1 ∷ pos 0 ∷ pos 0 ∷ negsuc 0 ∷ pos 0 ∷ pos 0 ∷ pos 1 ∷ pos 0 ∷ pos 0 ∷ pos 0 ∷ pos 0 ∷ pos 0 ∷ pos 0 ∷ pos 0 ∷ pos 0 ∷ pos 0 ∷ pos 10 ∷ pos 1 ∷ pos 2 ∷ pos 1 ∷ pos 0 ∷ pos 0 ∷ pos 0 ∷ pos 13 ∷ pos 2 ∷ pos 0 ∷ pos 0 ∷ pos 0 ∷ pos 0 ∷ pos 0 ∷ pos 6 ∷ pos 0 ∷ pos 0 ∷ pos 1 ∷ pos 0 ∷ pos 0 ∷ pos 0 ∷ pos 2 ∷ pos 1 ∷ pos 1 ∷ negsuc 0 ∷ pos 0 ∷ pos 0 ∷ pos 0 ∷ [])
+    routine (pos 6 ∷ pos 0 ∷ pos 6 ∷ pos 16 ∷ pos 22 ∷ pos 28
+    ∷ pos 1 ∷ pos 0 ∷ pos 0 ∷ negsuc 0 ∷ pos 0 ∷ pos 0 ∷ pos 1 ∷ pos 0
+    ∷ pos 0 ∷ pos 0 ∷ pos 0 ∷ pos 0 ∷ pos 0 ∷ pos 0 ∷ pos 0 ∷ pos 0
+    ∷ pos 10 ∷ pos 1 ∷ pos 2 ∷ pos 1 ∷ pos 0 ∷ pos 0 ∷ pos 0
+    ∷ pos 13 ∷ pos 2 ∷ pos 0 ∷ pos 0 ∷ pos 0 ∷ pos 0 ∷ pos 0
+    ∷ pos 6 ∷ pos 0 ∷ pos 0 ∷ pos 1 ∷ pos 0 ∷ pos 0 ∷ pos 0
+    ∷ pos 2 ∷ pos 1 ∷ pos 1 ∷ negsuc 0 ∷ pos 0 ∷ pos 0 ∷ pos 0 ∷ [])
     (Accepted) ∷
     -- (f) as e with p[0] read into x between
-    routine (pos 6 ∷ pos 0 ∷ pos 6 ∷ pos 24 ∷ pos 30 ∷ pos 35 ∷ pos 1 ∷ pos 0 ∷ pos 0 ∷ negsuc 0 ∷ pos 0 ∷ pos 0 ∷ pos 1 ∷ pos 0 ∷ pos 0 ∷ pos 0 ∷ pos 0 ∷ pos 0 ∷ pos 0 ∷ pos 0 ∷ pos 0 ∷ pos 0 ∷ pos 0 ∷ pos 0 ∷ pos 0 ∷ pos 0 ∷ pos 0 ∷ pos 0 ∷ pos 0 ∷ pos 0 ∷ pos 10 ∷ pos 1 ∷ pos 2 ∷ pos 1 ∷ pos 0 ∷ pos 0 ∷ pos 0 ∷ pos 13 ∷ pos 3 ∷ pos 0 ∷ pos 0 ∷ pos 0 ∷ pos 0 ∷ pos 0 ∷ pos 6 ∷ pos 0 ∷ pos 0 ∷ pos 1 ∷ pos 0 ∷ pos 0 ∷ pos 0 ∷ pos 8 ∷ pos 2 ∷ pos 0 ∷ negsuc 0 ∷ pos 0 ∷ pos 0 ∷ pos 0 ∷ pos 2 ∷ pos 1 ∷ pos 1 ∷ negsuc 0 ∷ pos 0 ∷ pos 0 ∷ pos 0 ∷ [])
+    routine (pos 6 ∷ pos 0 ∷ pos 6 ∷ pos 24 ∷ pos 30 ∷ pos 35
+    ∷ pos 1 ∷ pos 0 ∷ pos 0 ∷ negsuc 0 ∷ pos 0 ∷ pos 0 ∷ pos 1 ∷ pos 0
+    ∷ pos 0 ∷ pos 0 ∷ pos 0 ∷ pos 0 ∷ pos 0 ∷ pos 0 ∷ pos 0 ∷ pos 0
+    ∷ pos 0 ∷ pos 0 ∷ pos 0 ∷ pos 0 ∷ pos 0 ∷ pos 0 ∷ pos 0 ∷ pos 0
+    ∷ pos 10 ∷ pos 1 ∷ pos 2 ∷ pos 1 ∷ pos 0 ∷ pos 0 ∷ pos 0
+    ∷ pos 13 ∷ pos 3 ∷ pos 0 ∷ pos 0 ∷ pos 0 ∷ pos 0 ∷ pos 0
+    ∷ pos 6 ∷ pos 0 ∷ pos 0 ∷ pos 1 ∷ pos 0 ∷ pos 0 ∷ pos 0
+    ∷ pos 8 ∷ pos 2 ∷ pos 0 ∷ negsuc 0 ∷ pos 0 ∷ pos 0 ∷ pos 0
+    ∷ pos 2 ∷ pos 1 ∷ pos 1 ∷ negsuc 0 ∷ pos 0 ∷ pos 0 ∷ pos 0 ∷ [])
     (Refused (BundleAccess 3)) ∷
     -- (g) as f, n lowered first and p raised last
-    routine (pos 6 ∷ pos 0 ∷ pos 6 ∷ pos 24 ∷ pos 30 ∷ pos 35 ∷ pos 1 ∷ pos 0 ∷ pos 0 ∷ negsuc 0 ∷ pos 0 ∷ pos 0 ∷ pos 1 ∷ pos 0 ∷ pos 0 ∷ pos 0 ∷ pos 0 ∷ pos 0 ∷ pos 0 ∷ pos 0 ∷ pos 0 ∷ pos 0 ∷ pos 0 ∷ pos 0 ∷ pos 0 ∷ pos 0 ∷ pos 0 ∷ pos 0 ∷ pos 0 ∷ pos 0 ∷ pos 10 ∷ pos 1 ∷ pos 2 ∷ pos 1 ∷ pos 0 ∷ pos 0 ∷ pos 0 ∷ pos 13 ∷ pos 3 ∷ pos 0 ∷ pos 0 ∷ pos 0 ∷ pos 0 ∷ pos 0 ∷ pos 2 ∷ pos 1 ∷ pos 1 ∷ negsuc 0 ∷ pos 0 ∷ pos 0 ∷ pos 0 ∷ pos 8 ∷ pos 2 ∷ pos 0 ∷ negsuc 0 ∷ pos 0 ∷ pos 0 ∷ pos 0 ∷ pos 6 ∷ pos 0 ∷ pos 0 ∷ pos 1 ∷ pos 0 ∷ pos 0 ∷ pos 0 ∷ [])
+    routine (pos 6 ∷ pos 0 ∷ pos 6 ∷ pos 24 ∷ pos 30 ∷ pos 35
+    ∷ pos 1 ∷ pos 0 ∷ pos 0 ∷ negsuc 0 ∷ pos 0 ∷ pos 0 ∷ pos 1 ∷ pos 0
+    ∷ pos 0 ∷ pos 0 ∷ pos 0 ∷ pos 0 ∷ pos 0 ∷ pos 0 ∷ pos 0 ∷ pos 0
+    ∷ pos 0 ∷ pos 0 ∷ pos 0 ∷ pos 0 ∷ pos 0 ∷ pos 0 ∷ pos 0 ∷ pos 0
+    ∷ pos 10 ∷ pos 1 ∷ pos 2 ∷ pos 1 ∷ pos 0 ∷ pos 0 ∷ pos 0
+    ∷ pos 13 ∷ pos 3 ∷ pos 0 ∷ pos 0 ∷ pos 0 ∷ pos 0 ∷ pos 0
+    ∷ pos 2 ∷ pos 1 ∷ pos 1 ∷ negsuc 0 ∷ pos 0 ∷ pos 0 ∷ pos 0
+    ∷ pos 8 ∷ pos 2 ∷ pos 0 ∷ negsuc 0 ∷ pos 0 ∷ pos 0 ∷ pos 0
+    ∷ pos 6 ∷ pos 0 ∷ pos 0 ∷ pos 1 ∷ pos 0 ∷ pos 0 ∷ pos 0 ∷ [])
     (Accepted) ∷
     -- (h) bundle p := object 0, n := 10
-    routine (pos 6 ∷ pos 1 ∷ pos 7 ∷ pos 16 ∷ pos 23 ∷ pos 21 ∷ pos 10 ∷ pos 1 ∷ pos 0 ∷ pos 0 ∷ negsuc 0 ∷ pos 0 ∷ pos 0 ∷ pos 1 ∷ pos 0 ∷ pos 0 ∷ pos 0 ∷ pos 0 ∷ pos 0 ∷ pos 0 ∷ pos 0 ∷ pos 0 ∷ pos 0 ∷ pos 13 ∷ pos 2 ∷ pos 0 ∷ pos 0 ∷ pos 0 ∷ pos 0 ∷ pos 0 ∷ pos 5 ∷ pos 0 ∷ pos 0 ∷ pos 0 ∷ pos 0 ∷ pos 0 ∷ pos 0 ∷ pos 1 ∷ pos 1 ∷ pos 10 ∷ pos 0 ∷ pos 0 ∷ pos 0 ∷ pos 0 ∷ [])
+    routine (pos 6 ∷ pos 1 ∷ pos 7 ∷ pos 16 ∷ pos 23 ∷ pos 21
+    ∷ pos 10
+    ∷ pos 1 ∷ pos 0 ∷ pos 0 ∷ negsuc 0 ∷ pos 0 ∷ pos 0 ∷ pos 1 ∷ pos 0
+    ∷ pos 0 ∷ pos 0 ∷ pos 0 ∷ pos 0 ∷ pos 0 ∷ pos 0 ∷ pos 0 ∷ pos 0
+    ∷ pos 13 ∷ pos 2 ∷ pos 0 ∷ pos 0 ∷ pos 0 ∷ pos 0 ∷ pos 0
+    ∷ pos 5 ∷ pos 0 ∷ pos 0 ∷ pos 0 ∷ pos 0 ∷ pos 0 ∷ pos 0
+    ∷ pos 1 ∷ pos 1 ∷ pos 10 ∷ pos 0 ∷ pos 0 ∷ pos 0 ∷ pos 0 ∷ [])
     (Accepted) ∷
     -- (i) n := 11
-    routine (pos 6 ∷ pos 1 ∷ pos 7 ∷ pos 16 ∷ pos 23 ∷ pos 21 ∷ pos 10 ∷ pos 1 ∷ pos 0 ∷ pos 0 ∷ negsuc 0 ∷ pos 0 ∷ pos 0 ∷ pos 1 ∷ pos 0 ∷ pos 0 ∷ pos 0 ∷ pos 0 ∷ pos 0 ∷ pos 0 ∷ pos 0 ∷ pos 0 ∷ pos 0 ∷ pos 13 ∷ pos 2 ∷ pos 0 ∷ pos 0 ∷ pos 0 ∷ pos 0 ∷ pos 0 ∷ pos 5 ∷ pos 0 ∷ pos 0 ∷ pos 0 ∷ pos 0 ∷ pos 0 ∷ pos 0 ∷ pos 1 ∷ pos 1 ∷ pos 11 ∷ pos 0 ∷ pos 0 ∷ pos 0 ∷ pos 0 ∷ [])
+    routine (pos 6 ∷ pos 1 ∷ pos 7 ∷ pos 16 ∷ pos 23 ∷ pos 21
+    ∷ pos 10
+    ∷ pos 1 ∷ pos 0 ∷ pos 0 ∷ negsuc 0 ∷ pos 0 ∷ pos 0 ∷ pos 1 ∷ pos 0
+    ∷ pos 0 ∷ pos 0 ∷ pos 0 ∷ pos 0 ∷ pos 0 ∷ pos 0 ∷ pos 0 ∷ pos 0
+    ∷ pos 13 ∷ pos 2 ∷ pos 0 ∷ pos 0 ∷ pos 0 ∷ pos 0 ∷ pos 0
+    ∷ pos 5 ∷ pos 0 ∷ pos 0 ∷ pos 0 ∷ pos 0 ∷ pos 0 ∷ pos 0
+    ∷ pos 1 ∷ pos 1 ∷ pos 11 ∷ pos 0 ∷ pos 0 ∷ pos 0 ∷ pos 0 ∷ [])
     (Refused (BoundsNotShown 0 0)) ∷
     -- (j) p := null, n := 5
-    routine (pos 6 ∷ pos 0 ∷ pos 6 ∷ pos 16 ∷ pos 22 ∷ pos 14 ∷ pos 1 ∷ pos 0 ∷ pos 0 ∷ negsuc 0 ∷ pos 0 ∷ pos 0 ∷ pos 1 ∷ pos 0 ∷ pos 0 ∷ pos 0 ∷ pos 0 ∷ pos 0 ∷ pos 0 ∷ pos 0 ∷ pos 0 ∷ pos 0 ∷ pos 4 ∷ pos 0 ∷ pos 0 ∷ pos 0 ∷ pos 0 ∷ pos 0 ∷ pos 0 ∷ pos 1 ∷ pos 1 ∷ pos 5 ∷ pos 0 ∷ pos 0 ∷ pos 0 ∷ pos 0 ∷ [])
+    routine (pos 6 ∷ pos 0 ∷ pos 6 ∷ pos 16 ∷ pos 22 ∷ pos 14
+    ∷ pos 1 ∷ pos 0 ∷ pos 0 ∷ negsuc 0 ∷ pos 0 ∷ pos 0 ∷ pos 1 ∷ pos 0
+    ∷ pos 0 ∷ pos 0 ∷ pos 0 ∷ pos 0 ∷ pos 0 ∷ pos 0 ∷ pos 0 ∷ pos 0
+    ∷ pos 4 ∷ pos 0 ∷ pos 0 ∷ pos 0 ∷ pos 0 ∷ pos 0 ∷ pos 0
+    ∷ pos 1 ∷ pos 1 ∷ pos 5 ∷ pos 0 ∷ pos 0 ∷ pos 0 ∷ pos 0 ∷ [])
     (Accepted) ∷
     -- (k) while n > 0, n := n - 1
-    routine (pos 6 ∷ pos 0 ∷ pos 6 ∷ pos 16 ∷ pos 22 ∷ pos 14 ∷ pos 1 ∷ pos 0 ∷ pos 0 ∷ negsuc 0 ∷ pos 0 ∷ pos 0 ∷ pos 1 ∷ pos 0 ∷ pos 0 ∷ pos 0 ∷ pos 0 ∷ pos 0 ∷ pos 0 ∷ pos 0 ∷ pos 0 ∷ pos 0 ∷ pos 12 ∷ pos 1 ∷ pos 2 ∷ pos 1 ∷ pos 0 ∷ pos 1 ∷ pos 0 ∷ pos 2 ∷ pos 1 ∷ pos 1 ∷ negsuc 0 ∷ pos 0 ∷ pos 0 ∷ pos 0 ∷ [])
+    routine (pos 6 ∷ pos 0 ∷ pos 6 ∷ pos 16 ∷ pos 22 ∷ pos 14
+    ∷ pos 1 ∷ pos 0 ∷ pos 0 ∷ negsuc 0 ∷ pos 0 ∷ pos 0 ∷ pos 1 ∷ pos 0
+    ∷ pos 0 ∷ pos 0 ∷ pos 0 ∷ pos 0 ∷ pos 0 ∷ pos 0 ∷ pos 0 ∷ pos 0
+    ∷ pos 12 ∷ pos 1 ∷ pos 2 ∷ pos 1 ∷ pos 0 ∷ pos 1 ∷ pos 0
+    ∷ pos 2 ∷ pos 1 ∷ pos 1 ∷ negsuc 0 ∷ pos 0 ∷ pos 0 ∷ pos 0 ∷ [])
     (Accepted) ∷
     -- (l) check n < n, then any statement. Point 11: "Routine (l) is accepted if nothing else is wrong with it."
-    routine (pos 6 ∷ pos 0 ∷ pos 6 ∷ pos 16 ∷ pos 22 ∷ pos 14 ∷ pos 1 ∷ pos 0 ∷ pos 0 ∷ negsuc 0 ∷ pos 0 ∷ pos 0 ∷ pos 1 ∷ pos 0 ∷ pos 0 ∷ pos 0 ∷ pos 0 ∷ pos 0 ∷ pos 0 ∷ pos 0 ∷ pos 0 ∷ pos 0 ∷ pos 10 ∷ pos 1 ∷ pos 0 ∷ pos 0 ∷ pos 1 ∷ pos 0 ∷ pos 0 ∷ pos 1 ∷ pos 1 ∷ pos 0 ∷ pos 0 ∷ pos 0 ∷ pos 0 ∷ pos 0 ∷ [])
+    routine (pos 6 ∷ pos 0 ∷ pos 6 ∷ pos 16 ∷ pos 22 ∷ pos 14
+    ∷ pos 1 ∷ pos 0 ∷ pos 0 ∷ negsuc 0 ∷ pos 0 ∷ pos 0 ∷ pos 1 ∷ pos 0
+    ∷ pos 0 ∷ pos 0 ∷ pos 0 ∷ pos 0 ∷ pos 0 ∷ pos 0 ∷ pos 0 ∷ pos 0
+    ∷ pos 10 ∷ pos 1 ∷ pos 0 ∷ pos 0 ∷ pos 1 ∷ pos 0 ∷ pos 0
+    ∷ pos 1 ∷ pos 1 ∷ pos 0 ∷ pos 0 ∷ pos 0 ∷ pos 0 ∷ pos 0 ∷ [])
     (Accepted) ∷
     []
 
 computed : map (λ (r : Routine). verdictOf (faults (r .table))) routines ≡ map (λ (r : Routine). r .verdict) routines
-unfolding routines concatenated leastSum shown withinEnd endShown newRow newSet loweredRow lowered marked added ownRow reroutedRow reassigned ranged dropped shifted joinedSum joinedRow joined tabulate lengthRight isNumber fourPairs sectionsOf fourthRight directoryRight objectRight variableReads rowReads statementReads lowestFrom lowestObject lowestVariable lowestRow lowestStatement itemsForm formOf negation negatedOf startRight inLimits isVariable kindOf kindAt kindIs integerAt pointerAt arrayAt stringAt objectTerminated takesPointer takesObject namesInteger namesPointer namesArray namesString namesIndex fieldsAt unusedFrom literalRead addConstantRead arithmeticRead nullRead addressRead pointerOffsetRead pointerIndexRead loadRead storeRead sameKind besideLiteral conditionRight rightOf offsetOf conditionOf bundleRead declareRead checkRead ifRead whileRead kindRead statementAt endWordsAt variableWordsAt endRight endZero endOf integerRecord isSize sizeOf pointerRecord variableOf variableAt rowWordsAt rowOf rowAt objectCells objectAt biased word indexOf isBelow literalValue isConstant also when contents bundleLayout blockLayout layout verdict size targetsFrom simples parse tree targets assigned forgetEnd weight shiftConstant boundsRules.shiftEnd forgetBounds boundsRules.shiftBounds objectBounds upperLimit boundsRules.effectOn boundsRules.boundsAfter rowBound rowsAfter boundsRules.effect boundsRules.endAtMost boundsRules.knownAtMost boundsRules.boundsShown boundsRules.unshownFrom boundsRules.unshown boundsRules.rowUnshown boundsRules.accessShown factRules.equated factRules.positive factRules.differs factRules.relationFacts factRules.conditionFacts factRules.sumFacts factRules.offsetFacts factRules.factsAfter among factRules.droppedEach factRules.loopFacts accessAt boundsAt sameRows rowsAt walkRules.bundleAfter walkRules.bundleBounds walkRules.bundleFaults walkRules.blockAfter walkRules.blockFaults environmentOf verdictRules.sectionFaults verdictRules.faults verdictOf
+unfolding routines concatenated leastSum shown withinEnd endShown newRow newSet loweredRow lowered marked added ownRow reroutedRow reassigned ranged dropped
+    shifted joinedSum joinedRow joined tabulate lengthRight isNumber fourPairs sectionsOf fourthRight directoryRight objectRight variableReads rowReads
+    statementReads lowestFrom lowestObject lowestVariable lowestRow lowestStatement itemsForm formOf negation negatedOf startRight inLimits isVariable kindOf
+    kindAt kindIs integerAt pointerAt arrayAt stringAt objectTerminated takesPointer takesObject namesInteger namesPointer namesArray namesString namesIndex
+    fieldsAt unusedFrom literalRead addConstantRead arithmeticRead nullRead addressRead pointerOffsetRead pointerIndexRead loadRead storeRead sameKind
+    besideLiteral conditionRight rightOf offsetOf conditionOf bundleRead declareRead checkRead ifRead whileRead kindRead statementAt endWordsAt variableWordsAt
+    endRight endZero endOf integerRecord isSize sizeOf pointerRecord variableOf variableAt rowWordsAt rowOf rowAt objectCells objectAt biased word indexOf
+    isBelow literalValue isConstant also when contents bundleLayout blockLayout layout verdict size targetsFrom simples parse tree targets assigned forgetEnd
+    weight shiftConstant boundsRules.shiftEnd forgetBounds boundsRules.shiftBounds objectBounds upperLimit boundsRules.effectOn boundsRules.boundsAfter rowBound
+    rowsAfter boundsRules.effect boundsRules.endAtMost boundsRules.knownAtMost boundsRules.boundsShown boundsRules.unshownFrom boundsRules.unshown
+    boundsRules.rowUnshown boundsRules.accessShown factRules.equated factRules.positive factRules.differs factRules.relationFacts factRules.conditionFacts
+    factRules.sumFacts factRules.offsetFacts factRules.factsAfter among factRules.droppedEach factRules.loopFacts accessAt boundsAt sameRows rowsAt
+    walkRules.bundleAfter walkRules.bundleBounds walkRules.bundleFaults walkRules.blockAfter walkRules.blockFaults environmentOf verdictRules.sectionFaults
+    verdictRules.faults verdictOf
 computed = refl
 
 -- By the paper's chains, the rules give each routine its verdict.

@@ -9,19 +9,9 @@ use Rattle.refusals.specs.declared.Refusal.the-variants.{RowsDiffer}
 use Rattle.sections.specs.SectionsLaws.{both}
 use borrow.Author.Tests.{leb-true, leb-false, eqb-true, not-false}
 use lib.Dec.{leb, eqb}
-use Rattle.blocks.specs.Layout.{also, when}
+use Rattle.blocks.specs.Layout.{when}
 use Rattle.rules.specs.BoundsRules.{upperLimit}
 use Rattle.rules.specs.Rules.{accessAt, boundsAt, sameRows, rowsAt}
-
-pub no-first : (xs ys : List Refusal) → also xs ys ≡ [] → xs ≡ []
-unfolding also
-no-first [] ys e = refl
-no-first (x ∷ xs) ys e = cc
-
-pub no-rest : (xs ys : List Refusal) → also xs ys ≡ [] → ys ≡ []
-unfolding also
-no-rest [] ys e = e
-no-rest (x ∷ xs) ys e = cc
 
 pub access-passed : (b : Bool) (a : ℕ) → accessAt b a ≡ [] → b ≡ true
 unfolding accessAt

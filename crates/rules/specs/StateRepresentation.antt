@@ -21,7 +21,8 @@ use Rattle.rules.specs.Rules.{newState, stateAfter, assumed, atHead, sid
 use Rattle.rules.specs.Verdict.{environmentOf}
 use Rattle.rules.specs.Stored.{store}
 use Rattle.rules.specs.ByChains.{Decider, Decides, byChains, variables}
-use Rattle.rules.specs.Representation.{Represents, represents-new, represents-join, condition-represented, negated-represented, after-represented, body-represented}
+use Rattle.rules.specs.Representation.{Represents, represents-new, represents-join, condition-represented}
+use Rattle.rules.specs.Representation.{negated-represented, after-represented, body-represented}
 
 pub record StateRepresents (vars : Variables) (U : State History) (W : State FactSet) : Type 0 where
   pub represents : Represents vars (U .facts) (W .facts)

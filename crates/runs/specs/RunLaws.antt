@@ -26,7 +26,15 @@ pub still-prepared : {T : List ℤ} {h : Sections} {W D S vs : List ℕ} (W′ w
     → ((x : ℕ) → sizeIn W′ x ≤ 8) → length ws ≡ length vs
     → Prepared T h W D S vs → Prepared T h W′ D S ws
 still-prepared W′ ws l b s e p =
-    record { table = p .table; ends = l ∙ p .ends; small = b; sizes = s; directory = p .directory; successors = p .successors; values = omega (arith, p .values) }
+    record {
+      table = p .table;
+      ends = l ∙ p .ends;
+      small = b;
+      sizes = s;
+      directory = p .directory;
+      successors = p .successors;
+      values = omega (arith, p .values);
+    }
 
 module _ (T : List ℤ) (h : Sections) (W D S : List ℕ) where
   abbrev run : ℕ → ℕ → ℕ → List ℕ → List ℕ → Result
@@ -47,12 +55,15 @@ module _ (T : List ℤ) (h : Sections) (W D S : List ℕ) where
 
     module _ (m : ℕ) (some : l ≡ m + 1) where
       run-some : run l n a vs cs
-          ≡ follow (bareMove T h W D S a vs cs .said) (λ b. bareRun T h (bareMove T h W D S a vs cs .ends) D S m (n + 1) b (bareMove T h W D S a vs cs .values) (bareMove T h W D S a vs cs .cells)) (n + 1) (bareMove T h W D S a vs cs .ends) (bareMove T h W D S a vs cs .values) (bareMove T h W D S a vs cs .cells)
+          ≡ follow (bareMove T h W D S a vs cs .said)
+          (λ b. bareRun T h (bareMove T h W D S a vs cs .ends) D S m (n + 1) b (bareMove T h W D S a vs cs .values) (bareMove T h W D S a vs cs .cells))
+          (n + 1) (bareMove T h W D S a vs cs .ends) (bareMove T h W D S a vs cs .values) (bareMove T h W D S a vs cs .cells)
       unfolding bareRun
       run-some = rw (some, add-one m, lt-ltb a (h .statements) within)
 
       safe-some : Safe l a vs cs →
-          Ready T h W a vs cs × Onward (bareMove T h W D S a vs cs .said) (λ b. SafeRun T h (bareMove T h W D S a vs cs .ends) D S m b (bareMove T h W D S a vs cs .values) (bareMove T h W D S a vs cs .cells))
+          Ready T h W a vs cs × Onward (bareMove T h W D S a vs cs .said)
+          (λ b. SafeRun T h (bareMove T h W D S a vs cs .ends) D S m b (bareMove T h W D S a vs cs .values) (bareMove T h W D S a vs cs .cells))
       unfolding SafeRun
       safe-some s = rw (some, add-one m, lt-ltb a (h .statements) within) at s
 

@@ -20,7 +20,8 @@ pub fn resume(
 ) -> Outcome
     requires { ⌜ Prepared (now table) sections (now ends) (now directory) (now successors) (now values) ⌝ }
     requires { ⌜ SafeRun (now table) sections (now ends) (now directory) (now successors) limit first (now values) (now cells) ⌝ }
-    ensures { λ r. ⌜ Ends (bareRun (now (table .entry)) sections (now (ends .entry)) (now (directory .entry)) (now (successors .entry)) limit 0 first (now (values .entry)) (now (cells .entry))) r (now (ends .exit)) (now (values .exit)) (now (cells .exit)) ⌝ }
+    ensures { λ r. ⌜ Ends (bareRun (now (table .entry)) sections (now (ends .entry)) (now (directory .entry)) (now (successors .entry)) limit 0 first
+        (now (values .entry)) (now (cells .entry))) r (now (ends .exit)) (now (values .exit)) (now (cells .exit)) ⌝ }
 {
     let mut at = first;
     let mut steps: u32 = 0;

@@ -11,7 +11,8 @@ use native.Mathlib.Omega.{arith}
 use Rattle.sums.specs.Numbers.{bias, zeroVar}
 use Rattle.words.specs.Words.{word}
 use Rattle.fields.specs.Fields.{plain, indexOf, literalLimit, literalValue, isBelow, isConstant}
-use Rattle.sections.specs.Sections.{isVariable, variableStart, kindAt, integerAt, pointerAt, namesInteger, namesPointer, namesIndex, Limits, kindOf, kindIs, arrayAt, stringAt, objectTerminated, takesPointer, takesObject, namesArray, namesString}
+use Rattle.sections.specs.Sections.{isVariable, variableStart, kindAt, integerAt, pointerAt, namesInteger, namesPointer, namesIndex, Limits}
+use Rattle.sections.specs.Sections.{kindOf, kindIs, arrayAt, stringAt, objectTerminated, takesPointer, takesObject, namesArray, namesString}
 use Rattle.sections.specs.SectionsLaws.{both, variable-limits}
 use Rattle.sections.specs.Typed.{IsInteger, IsPointer, IsIndex, missing, given, IsSmall}
 use Rattle.sections.specs.declared.Sections.{Sections}
@@ -75,25 +76,20 @@ module _ (table : List ℤ) (h : Sections) where
       go (Read String) g = absurd (false≢true g)
       go Unread g = refl
 
+  either-kind : (b c : Bool) (k : KindRead) → kindIs false b c k ≡ true → kindIs false true true k ≡ true
+  unfolding kindIs
+  either-kind b c (Read Integer) g = g
+  either-kind b c (Read Array) g = refl
+  either-kind b c (Read String) g = refl
+  either-kind b c Unread g = g
+
   pub array-pointer : (v : ℕ) → arrayAt table h v ≡ true → pointerAt table h v ≡ true
-  unfolding arrayAt pointerAt kindIs
-  array-pointer v e = go (kindAt table h v) e
-    where
-      go : (k : KindRead) → kindIs false true false k ≡ true → kindIs false true true k ≡ true
-      go (Read Integer) g = g
-      go (Read Array) g = refl
-      go (Read String) g = refl
-      go Unread g = g
+  unfolding arrayAt pointerAt
+  array-pointer v e = either-kind true false (kindAt table h v) e
 
   pub string-pointer : (v : ℕ) → stringAt table h v ≡ true → pointerAt table h v ≡ true
-  unfolding stringAt pointerAt kindIs
-  string-pointer v e = go (kindAt table h v) e
-    where
-      go : (k : KindRead) → kindIs false false true k ≡ true → kindIs false true true k ≡ true
-      go (Read Integer) g = g
-      go (Read Array) g = refl
-      go (Read String) g = refl
-      go Unread g = g
+  unfolding stringAt pointerAt
+  string-pointer v e = either-kind false true (kindAt table h v) e
 
   -- What a kind 2 pointer takes.
   implied : (a b : Bool) → (not a || b) ≡ true → a ≡ true → b ≡ true
@@ -123,11 +119,13 @@ module _ (table : List ℤ) (h : Sections) where
   -- A field that names a pointer of one kind names a pointer.
   pub array-names : (w : ℕ) → namesArray table h w ≡ true → namesPointer table h w ≡ true
   unfolding namesArray namesPointer
-  array-names w e = let p = both (leb bias w) (arrayAt table h (plain w)) e in both-true (leb bias w) (pointerAt table h (plain w)) (p .0) (array-pointer (plain w) (p .1))
+  array-names w e = let p = both (leb bias w) (arrayAt table h (plain w)) e in
+      both-true (leb bias w) (pointerAt table h (plain w)) (p .0) (array-pointer (plain w) (p .1))
 
   pub string-names : (w : ℕ) → namesString table h w ≡ true → namesPointer table h w ≡ true
   unfolding namesString namesPointer
-  string-names w e = let p = both (leb bias w) (stringAt table h (plain w)) e in both-true (leb bias w) (pointerAt table h (plain w)) (p .0) (string-pointer (plain w) (p .1))
+  string-names w e = let p = both (leb bias w) (stringAt table h (plain w)) e in
+      both-true (leb bias w) (pointerAt table h (plain w)) (p .0) (string-pointer (plain w) (p .1))
 
   pub array-named : (w : ℕ) → namesArray table h w ≡ true → IsPointer table h (plain w)
   array-named w e = pointer-named w (array-names w e)

@@ -33,7 +33,14 @@ limits h e =
     let e₃ = both (leb (h .objects) 16 && leb 1 (h .variables) && leb (h .variables) 16) (leb (h .statements) 1024) (e₄ .0) in
     let e₂ = both (leb (h .objects) 16 && leb 1 (h .variables)) (leb (h .variables) 16) (e₃ .0) in
     let e₁ = both (leb (h .objects) 16) (leb 1 (h .variables)) (e₂ .0) in
-    record { objects = leb-true _ _ (e₁ .0); some = leb-true _ _ (e₁ .1); variables = leb-true _ _ (e₂ .1); statements = leb-true _ _ (e₃ .1); start = s .0; rows = s .1 }
+    record {
+      objects = leb-true _ _ (e₁ .0);
+      some = leb-true _ _ (e₁ .1);
+      variables = leb-true _ _ (e₂ .1);
+      statements = leb-true _ _ (e₃ .1);
+      start = s .0;
+      rows = s .1;
+    }
 
 -- An item's number below the size of its section.
 item-limits : (h : Sections) (n i : ℕ) → (inLimits h && ltb i n) ≡ true → Limits h × (i < n)

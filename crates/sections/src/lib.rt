@@ -3,7 +3,8 @@ use fields::plain;
 use sums::BIAS;
 use words::word;
 ghost use mathlib.Core.Path.{_≡_};
-ghost use Rattle.sections.specs.Sections.{startRight, inLimits, isVariable, kindOf, kindAt, kindIs, integerAt, pointerAt, arrayAt, stringAt, objectTerminated, takesPointer, takesObject, namesInteger, namesPointer, namesArray, namesString, namesIndex};
+ghost use Rattle.sections.specs.Sections.{startRight, inLimits, isVariable, kindOf, kindAt, kindIs, integerAt, pointerAt, arrayAt, stringAt};
+ghost use Rattle.sections.specs.Sections.{objectTerminated, takesPointer, takesObject, namesInteger, namesPointer, namesArray, namesString, namesIndex};
 
 // Where the first section starts (6, or 8 where there is a section of rows), and how many items each section has. The offsets follow: objects at word
 // start, variables at start + objects, statements at start + objects + 8 * variables, rows after 7 * statements more.

@@ -17,7 +17,9 @@ use Rattle.sections.specs.declared.Sections.{Sections}
 use Rattle.conditions.specs.Conditions.{conditionRight}
 use Rattle.conditions.specs.ConditionLaws.{condition-typed}
 use Rattle.conditions.specs.declared.Condition.{Condition}
-use Rattle.statements.specs.Statements.{readIf, unusedFrom, literalRead, addConstantRead, arithmeticRead, nullRead, addressRead, pointerOffsetRead, pointerIndexRead, loadRead, storeRead, checkRead, ifRead, whileRead, bundleRead, kindRead, statementAt, declareRead}
+use Rattle.statements.specs.Statements.{readIf, unusedFrom, literalRead, addConstantRead, arithmeticRead, nullRead}
+use Rattle.statements.specs.Statements.{addressRead, pointerOffsetRead, pointerIndexRead, loadRead, storeRead}
+use Rattle.statements.specs.Statements.{checkRead, ifRead, whileRead, bundleRead, kindRead, statementAt, declareRead}
 use Rattle.statements.specs.Typed.{WellTyped}
 use Rattle.statements.specs.declared.Statement.{Statement}
 use Rattle.statements.specs.declared.Statement.the-variants.{If, While, Bundle}
@@ -41,7 +43,8 @@ module _ (table : List ℤ) (h : Sections) where
   typed₄ : (a b c d : Bool) (s : Statement) → (a ≡ true → b ≡ true → c ≡ true → d ≡ true → WellTyped table h s) → TypedRead (readIf (a && b && c && d) s)
   typed₄ a b c d s k = typed₃ (a && b) c d s (λ e. let p = both a b e in k (p .0) (p .1))
 
-  typed₅ : (a b c d f : Bool) (s : Statement) → (a ≡ true → b ≡ true → c ≡ true → d ≡ true → f ≡ true → WellTyped table h s) → TypedRead (readIf (a && b && c && d && f) s)
+  typed₅ : (a b c d f : Bool) (s : Statement) → (a ≡ true → b ≡ true → c ≡ true → d ≡ true → f ≡ true → WellTyped table h s)
+      → TypedRead (readIf (a && b && c && d && f) s)
   typed₅ a b c d f s k = typed₄ (a && b) c d f s (λ e. let p = both a b e in k (p .0) (p .1))
 
   -- Which of two readings is taken makes no difference.
@@ -66,14 +69,23 @@ module _ (table : List ℤ) (h : Sections) where
     unfolding addConstantRead
     add-constant-typed =
         typed₄ (names-integer (f .first)) (names-integer (f .second)) (isConstant (f .third)) (unusedFrom 4 f) _
-        (λ a b c d. record { target = integer-named table h (f .first) a; source = integer-named table h (f .second) b; constant = constant-small (f .third) c })
+        (λ a b c d. record {
+          target = integer-named table h (f .first) a;
+          source = integer-named table h (f .second) b;
+          constant = constant-small (f .third) c;
+        })
 
     arithmetic-typed : TypedRead (arithmeticRead table h f)
     unfolding arithmeticRead
     arithmetic-typed =
         typed₅ (names-integer (f .first)) (names-integer (f .second)) (names-integer (f .third)) (isBelow 3 (f .fourth)) (unusedFrom 5 f) _
         (λ a b c d e.
-        record { target = integer-named table h (f .first) a; left = integer-named table h (f .second) b; right = integer-named table h (f .third) c; operation = below-holds 3 (f .fourth) d })
+        record {
+          target = integer-named table h (f .first) a;
+          left = integer-named table h (f .second) b;
+          right = integer-named table h (f .third) c;
+          operation = below-holds 3 (f .fourth) d;
+        })
 
     null-typed : TypedRead (nullRead table h f)
     unfolding nullRead
@@ -83,35 +95,60 @@ module _ (table : List ℤ) (h : Sections) where
     unfolding addressRead
     address-typed =
         typed₄ (names-pointer (f .first)) (isBelow (h .objects) (f .second)) (takesObject table h (f .first) (f .second)) (unusedFrom 3 f) _
-        (λ a b c d. record { target = pointer-named table h (f .first) a; object = below-holds (h .objects) (f .second) b; fits = takes-object table h (f .first) (f .second) c })
+        (λ a b c d. record {
+          target = pointer-named table h (f .first) a;
+          object = below-holds (h .objects) (f .second) b;
+          fits = takes-object table h (f .first) (f .second) c;
+        })
 
     pointer-offset-typed : TypedRead (pointerOffsetRead table h f)
     unfolding pointerOffsetRead
     pointer-offset-typed =
         typed₅ (names-pointer (f .first)) (names-pointer (f .second)) (isConstant (f .third)) (takesPointer table h (f .first) (f .second)) (unusedFrom 4 f) _
         (λ a b c d e.
-        record { target = pointer-named table h (f .first) a; source = pointer-named table h (f .second) b; constant = constant-small (f .third) c; fits = takes-pointer table h (f .first) (f .second) d })
+        record {
+          target = pointer-named table h (f .first) a;
+          source = pointer-named table h (f .second) b;
+          constant = constant-small (f .third) c;
+          fits = takes-pointer table h (f .first) (f .second) d;
+        })
 
     pointer-index-typed : TypedRead (pointerIndexRead table h f)
     unfolding pointerIndexRead
     pointer-index-typed =
-        typed₅ (names-pointer (f .first)) (names-pointer (f .second)) (names-integer (f .third)) (takesPointer table h (f .first) (f .second)) (unusedFrom 4 f) _
+        typed₅ (names-pointer (f .first)) (names-pointer (f .second)) (names-integer (f .third))
+        (takesPointer table h (f .first) (f .second)) (unusedFrom 4 f) _
         (λ a b c d e.
-        record { target = pointer-named table h (f .first) a; source = pointer-named table h (f .second) b; index = integer-named table h (f .third) c; fits = takes-pointer table h (f .first) (f .second) d })
+        record {
+          target = pointer-named table h (f .first) a;
+          source = pointer-named table h (f .second) b;
+          index = integer-named table h (f .third) c;
+          fits = takes-pointer table h (f .first) (f .second) d;
+        })
 
     load-typed : TypedRead (loadRead table h f)
     unfolding loadRead
     load-typed =
         typed₅ (names-integer (f .first)) (names-pointer (f .second)) (namesIndex table h (f .third)) (isConstant (f .fourth)) (unusedFrom 5 f) _
         (λ a b c d e.
-        record { value = integer-named table h (f .first) a; pointer = pointer-named table h (f .second) b; index = index-named table h (f .third) c; constant = constant-small (f .fourth) d })
+        record {
+          value = integer-named table h (f .first) a;
+          pointer = pointer-named table h (f .second) b;
+          index = index-named table h (f .third) c;
+          constant = constant-small (f .fourth) d;
+        })
 
     store-typed : TypedRead (storeRead table h f)
     unfolding storeRead
     store-typed =
         typed₅ (names-pointer (f .first)) (namesIndex table h (f .second)) (isConstant (f .third)) (names-integer (f .fourth)) (unusedFrom 5 f) _
         (λ a b c d e.
-        record { value = integer-named table h (f .fourth) d; pointer = pointer-named table h (f .first) a; index = index-named table h (f .second) b; constant = constant-small (f .third) c })
+        record {
+          value = integer-named table h (f .fourth) d;
+          pointer = pointer-named table h (f .first) a;
+          index = index-named table h (f .second) b;
+          constant = constant-small (f .third) c;
+        })
 
     check-typed : TypedRead (checkRead table h f)
     unfolding checkRead
@@ -127,7 +164,11 @@ module _ (table : List ℤ) (h : Sections) where
     unfolding ifRead
     if-typed =
         typed₃ (conditionRight table h f) (isCount (f .fifth)) (isCount (f .sixth)) _
-        (λ a b c. record { condition = condition-typed table h f a; then-count = below-holds (2 ^ 31) (f .fifth) b; else-count = below-holds (2 ^ 31) (f .sixth) c })
+        (λ a b c. record {
+          condition = condition-typed table h f a;
+          then-count = below-holds (2 ^ 31) (f .fifth) b;
+          else-count = below-holds (2 ^ 31) (f .sixth) c;
+        })
 
     while-typed : TypedRead (whileRead table h f)
     unfolding whileRead
@@ -162,7 +203,8 @@ module _ (table : List ℤ) (h : Sections) where
 
   statement-typed : (a : ℕ) → TypedRead (statementAt table h a)
   unfolding statementAt
-  statement-typed a = typed-pick (inLimits h && ltb a (h .statements)) (kindRead table h (fieldsAt table (statementStart h a))) Unread (kind-typed (fieldsAt table (statementStart h a))) tt
+  statement-typed a = typed-pick (inLimits h && ltb a (h .statements)) (kindRead table h (fieldsAt table (statementStart h a))) Unread
+      (kind-typed (fieldsAt table (statementStart h a))) tt
 
 -- A statement that was read is well typed.
 pub read-typed : (table : List ℤ) (h : Sections) (a : ℕ) (s : Statement) → statementAt table h a ≡ Read s → WellTyped table h s
@@ -173,7 +215,8 @@ pub read-limits : (table : List ℤ) (h : Sections) (a : ℕ) (s : Statement) �
 unfolding statementAt
 read-limits table h a s e = go (inLimits h && ltb a (h .statements)) refl e
   where
-    go : (b : Bool) → (inLimits h && ltb a (h .statements)) ≡ b → cond b (kindRead table h (fieldsAt table (statementStart h a))) Unread ≡ Read s → Limits h × (a < h .statements)
+    go : (b : Bool) → (inLimits h && ltb a (h .statements)) ≡ b → cond b (kindRead table h (fieldsAt table (statementStart h a))) Unread ≡ Read s
+        → Limits h × (a < h .statements)
     go true q g = statement-limits h a q
     go false q g = let z : _≡_ {A = ℕ} 0 1 = cc in absurd (omega arith)
 

@@ -10,7 +10,8 @@ use Rattle.fields.specs.Fields.{plain, indexOf, literalValue, isZero, isBelow, 
 use Rattle.sections.specs.Sections.{inLimits, statementStart, namesInteger, namesPointer, namesIndex, takesPointer, takesObject}
 use Rattle.sections.specs.declared.Sections.{Sections}
 use Rattle.conditions.specs.Conditions.{conditionRight, conditionOf}
-use Rattle.statements.specs.declared.Simple.the-variants.{Literal, AddConstant, Arithmetic, Null, Address, PointerOffset, PointerIndex, Load, Store, Check, Declare}
+use Rattle.statements.specs.declared.Simple.the-variants.{Literal, AddConstant, Arithmetic, Null, Address}
+use Rattle.statements.specs.declared.Simple.the-variants.{PointerOffset, PointerIndex, Load, Store, Check, Declare}
 use Rattle.statements.specs.declared.Statement.{Statement}
 use Rattle.statements.specs.declared.Statement.the-variants.{Plain, If, While, Bundle}
 use Rattle.statements.specs.declared.StatementRead.{StatementRead}
@@ -23,7 +24,8 @@ readIf right s = cond right (Read s) Unread
 -- "unused fields 0": each field from number n on. Every kind uses the first.
 unfoldable pub unusedFrom : ℕ → Fields → Bool
 unusedFrom n f =
-    (ltb 2 n || isZero (f .second)) && (ltb 3 n || isZero (f .third)) && (ltb 4 n || isZero (f .fourth)) && (ltb 5 n || isZero (f .fifth)) && (ltb 6 n || isZero (f .sixth))
+    (ltb 2 n || isZero (f .second)) && (ltb 3 n || isZero (f .third)) && (ltb 4 n || isZero (f .fourth)) && (ltb 5 n || isZero (f .fifth))
+    && (ltb 6 n || isZero (f .sixth))
 
 module _ (table : List ℤ) (h : Sections) where
   -- "1. x := literal": any word is one.
@@ -57,13 +59,15 @@ module _ (table : List ℤ) (h : Sections) where
   -- "6. p := q + k"; point 7: "Kinds 6 and 7 may take a kind 2 pointer to an array_ptr. The other way .." is refusal 5.
   unfoldable pub pointerOffsetRead : Fields → StatementRead
   pointerOffsetRead f =
-      readIf (namesPointer table h (f .first) && namesPointer table h (f .second) && isConstant (f .third) && takesPointer table h (f .first) (f .second) && unusedFrom 4 f)
+      readIf (namesPointer table h (f .first) && namesPointer table h (f .second) && isConstant (f .third)
+      && takesPointer table h (f .first) (f .second) && unusedFrom 4 f)
       (Plain (PointerOffset (plain (f .first)) (plain (f .second)) (f .third)))
 
   -- "7. p := q + i": i is a variable, never -1.
   unfoldable pub pointerIndexRead : Fields → StatementRead
   pointerIndexRead f =
-      readIf (namesPointer table h (f .first) && namesPointer table h (f .second) && namesInteger table h (f .third) && takesPointer table h (f .first) (f .second) && unusedFrom 4 f)
+      readIf (namesPointer table h (f .first) && namesPointer table h (f .second) && namesInteger table h (f .third)
+      && takesPointer table h (f .first) (f .second) && unusedFrom 4 f)
       (Plain (PointerIndex (plain (f .first)) (plain (f .second)) (plain (f .third))))
 
   -- "8. x := p[i + k]": fields x, p, i, k; "here and in kind 9 i may be -1, then it counts as 0"

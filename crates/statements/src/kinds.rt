@@ -19,7 +19,8 @@ use sections::takes_object;
 use sections::takes_pointer;
 use words::Fields;
 ghost use mathlib.Core.Path.{_≡_};
-ghost use Rattle.statements.specs.Statements.{unusedFrom, literalRead, addConstantRead, arithmeticRead, nullRead, addressRead, pointerOffsetRead, pointerIndexRead, loadRead, storeRead, checkRead, ifRead, whileRead, bundleRead, declareRead, kindRead};
+ghost use Rattle.statements.specs.Statements.{unusedFrom, literalRead, addConstantRead, arithmeticRead, nullRead, addressRead, pointerOffsetRead};
+ghost use Rattle.statements.specs.Statements.{pointerIndexRead, loadRead, storeRead, checkRead, ifRead, whileRead, bundleRead, declareRead, kindRead};
 
 // Each field from number n on is 0. Every kind uses the first.
 fn unused_from(n: usize, f: Fields) -> bool

@@ -34,5 +34,6 @@ left-alone (Shift v k) p b h = ap (λ (t : Bool). not t && boundsStay v b) (ne-e
 left-alone (Copy v q) p b h = refl
 left-alone (Object v z n) p b h = refl
 
-pub stays-read : (e : Effect) (p : ℕ) (b : Bounds) {c r : ℕ} {st : Bool} → p < 16 → c ≡ changedBy e → r ≡ replacedBy e → st ≡ leftAlone c r p b → st ≡ stays e p b
+pub stays-read : (e : Effect) (p : ℕ) (b : Bounds) {c r : ℕ} {st : Bool} → p < 16 → c ≡ changedBy e → r ≡ replacedBy e → st ≡ leftAlone c r p b
+    → st ≡ stays e p b
 stays-read e p b h x y s = rw (x, y) at s ∙ left-alone e p b h

@@ -10,8 +10,10 @@ use lib.ListN.{getD, set}
 use Rattle.sums.specs.Numbers.{bias, maxValue}
 use Rattle.conditions.specs.declared.Condition.{Condition}
 use Rattle.statements.specs.declared.Simple.{Simple}
-use Rattle.statements.specs.declared.Simple.the-variants.{Literal, AddConstant, Arithmetic, Null, Address, PointerOffset, PointerIndex, Load, Store, Check as Test, Declare}
-use Rattle.machine.specs.Machine.{value, address, conditionHolds, Failing, none, fails, firstOf, failing, loadFailing, storeFailing, arithmeticFailing, combined, indexed}
+use Rattle.statements.specs.declared.Simple.the-variants.{Literal, AddConstant, Arithmetic, Null, Address, PointerOffset}
+use Rattle.statements.specs.declared.Simple.the-variants.{PointerIndex, Load, Store, Check as Test, Declare}
+use Rattle.machine.specs.Machine.{value, address, conditionHolds, Failing, none, fails, firstOf, failing}
+use Rattle.machine.specs.Machine.{loadFailing, storeFailing, arithmeticFailing, combined, indexed}
 use Rattle.checks.specs.Checked.{declaredIn, stepUnless, sizeIn}
 use Rattle.checks.specs.CheckLaws.{size-in}
 use Rattle.steps.specs.Bare.{offsetFailing, indexFailing, changedUnless, valuesAfter, cellsAfter, simpleMove, Moves, Assigns, copied, endsAfter}
@@ -55,7 +57,8 @@ pub in-range : (q a : ℕ) → arithmeticFailing q a ≡ none → (bias < a) × 
 unfolding arithmeticFailing
 in-range q a e = go (eqb q 0) (leb a bias) (ltb (bias + maxValue) a) e (leb-false a bias) (ltb-false (bias + maxValue) a)
   where
-    go : (z l h : Bool) → firstOf z 4 (firstOf (l || h) 5 none) ≡ none → (l ≡ false → bias < a) → (h ≡ false → a ≤ bias + maxValue) → (bias < a) × (a ≤ bias + maxValue)
+    go : (z l h : Bool) → firstOf z 4 (firstOf (l || h) 5 none) ≡ none → (l ≡ false → bias < a) → (h ≡ false → a ≤ bias + maxValue)
+        → (bias < a) × (a ≤ bias + maxValue)
     go true l h e p q = let z : _≡_ {A = ℕ} 0 1 = cc in absurd (omega arith)
     go false true h e p q = let z : _≡_ {A = ℕ} 0 1 = cc in absurd (omega arith)
     go false false true e p q = let z : _≡_ {A = ℕ} 0 1 = cc in absurd (omega arith)
@@ -69,7 +72,8 @@ module _ (a n p q : ℕ) (vs : List ℕ) where
       let g : value vs q ≡ value vs q + k - bias = omega arith in
       rw (eq-eqb k bias e) (record { said = refl; buffer = ap (set vs p) g })
 
-  pub assigns-offset : (k b : ℕ) (r : Step) (ws : List ℕ) → (k ≡ bias → ⊥) → b ≡ value vs q → Assigns (arithmeticFailing b (b + k)) a n p (b + k - bias) vs r ws →
+  pub assigns-offset : (k b : ℕ) (r : Step) (ws : List ℕ) → (k ≡ bias → ⊥) → b ≡ value vs q → Assigns (arithmeticFailing b (b + k)) a n p (b + k - bias) vs r ws
+      →
       Assigns (offsetFailing vs q k) a n p (value vs q + k - bias) vs r ws
   assigns-offset k b r ws ne e m = rw (ne-eqb k bias ne) (rw e at m)
 
@@ -83,7 +87,8 @@ module _ (a n p q : ℕ) (vs : List ℕ) where
 -- ---- the kinds
 
 module _ (W D : List ℕ) (a n : ℕ) (vs cs : List ℕ) where
-  pub move-as : {s t : Simple} {r : Step} {W′ ws ds : List ℕ} → s ≡ t → Moves (simpleMove W D t a n vs cs) r W′ ws ds → Moves (simpleMove W D s a n vs cs) r W′ ws ds
+  pub move-as : {s t : Simple} {r : Step} {W′ ws ds : List ℕ} → s ≡ t → Moves (simpleMove W D t a n vs cs) r W′ ws ds
+      → Moves (simpleMove W D s a n vs cs) r W′ ws ds
   move-as e m = rw e m
 
   pub moves-literal : (x k : ℕ) → Moves (simpleMove W D (Literal x k) a n vs cs) (Go n) W (set vs x k) cs
@@ -94,7 +99,8 @@ module _ (W D : List ℕ) (a n : ℕ) (vs cs : List ℕ) where
   unfolding simpleMove failing stepUnless changedUnless valuesAfter cellsAfter endsAfter
   moves-add-constant x y k w e = record { said = refl; ends = refl; values = ap (set vs x) e; cells = refl }
 
-  pub moves-arithmetic : (x y z op w : ℕ) → w ≡ combined op (value vs y) (value vs z) → Moves (simpleMove W D (Arithmetic x y z op) a n vs cs) (Go n) W (set vs x w) cs
+  pub moves-arithmetic : (x y z op w : ℕ) → w ≡ combined op (value vs y) (value vs z)
+      → Moves (simpleMove W D (Arithmetic x y z op) a n vs cs) (Go n) W (set vs x w) cs
   unfolding simpleMove failing stepUnless changedUnless valuesAfter cellsAfter endsAfter
   moves-arithmetic x y z op w e = record { said = refl; ends = refl; values = ap (set vs x) e; cells = refl }
 
@@ -106,7 +112,8 @@ module _ (W D : List ℕ) (a n : ℕ) (vs cs : List ℕ) where
   unfolding simpleMove failing stepUnless changedUnless valuesAfter cellsAfter endsAfter
   moves-address p o = record { said = refl; ends = refl; values = refl; cells = refl }
 
-  pub moves-offset : (p q k : ℕ) (r : Step) (ws : List ℕ) → Assigns (offsetFailing vs q k) a n p (value vs q + k - bias) vs r ws → Moves (simpleMove W D (PointerOffset p q k) a n vs cs) r W ws cs
+  pub moves-offset : (p q k : ℕ) (r : Step) (ws : List ℕ) → Assigns (offsetFailing vs q k) a n p (value vs q + k - bias) vs r ws
+      → Moves (simpleMove W D (PointerOffset p q k) a n vs cs) r W ws cs
   unfolding simpleMove failing valuesAfter cellsAfter endsAfter
   moves-offset p q k r ws m = record { said = m .said; ends = unchanged _ W; values = m .buffer; cells = unchanged _ cs }
 
@@ -122,12 +129,14 @@ module _ (W D : List ℕ) (a n : ℕ) (vs cs : List ℕ) where
   moves-load x p i k r ws m = record { said = m .said; ends = unchanged _ W; values = m .buffer; cells = unchanged _ cs }
 
   pub moves-store : (p i k x : ℕ) (r : Step) (ds : List ℕ) →
-      Assigns (storeFailing (declaredIn W) vs p (address (declaredIn W) vs p i k) (value vs x)) a n (address (declaredIn W) vs p i k - bias) (value vs x) cs r ds →
+      Assigns (storeFailing (declaredIn W) vs p (address (declaredIn W) vs p i k) (value vs x)) a n
+      (address (declaredIn W) vs p i k - bias) (value vs x) cs r ds →
       Moves (simpleMove W D (Store p i k x) a n vs cs) r W vs ds
   unfolding simpleMove failing valuesAfter cellsAfter endsAfter
   moves-store p i k x r ds m = record { said = m .said; ends = unchanged _ W; values = unchanged _ vs; cells = m .buffer }
 
-  pub moves-check : (c : Condition) (r : Step) → r ≡ stepUnless (firstOf (not (conditionHolds vs c)) 1 none) a n → Moves (simpleMove W D (Test c) a n vs cs) r W vs cs
+  pub moves-check : (c : Condition) (r : Step) → r ≡ stepUnless (firstOf (not (conditionHolds vs c)) 1 none) a n
+      → Moves (simpleMove W D (Test c) a n vs cs) r W vs cs
   unfolding simpleMove failing valuesAfter cellsAfter endsAfter
   moves-check c r e = record { said = e; ends = unchanged _ W; values = unchanged _ vs; cells = unchanged _ cs }
 

@@ -22,13 +22,15 @@ module _ (p r : ℕ) (W : List ℕ) where
   copied-inside (suc n) j l b =
       ⊎-elim
       (λ (e : j ≡ n). rw e (getD-set-same (copied n p r W) (6 * p + n) (getD W (96 + 6 * r + n) 0) 0 (omega (arith, copied-long n))))
-      (λ (m : j < n). getD-set-other (copied n p r W) (6 * p + n) (6 * p + j) (getD W (96 + 6 * r + n) 0) 0 (λ e. omega arith) ∙ copied-inside n j m (omega arith))
+      (λ (m : j < n). getD-set-other (copied n p r W) (6 * p + n) (6 * p + j) (getD W (96 + 6 * r + n) 0) 0 (λ e. omega arith)
+      ∙ copied-inside n j m (omega arith))
       (eq-or-lt-of-le (le-of-suc-le-suc l))
 
   pub copied-outside : (n i : ℕ) → ((j : ℕ) → j < n → i ≢ 6 * p + j) → getD (copied n p r W) i 0 ≡ getD W i 0
   unfolding copied
   copied-outside zero i f = refl
-  copied-outside (suc n) i f = getD-set-other (copied n p r W) (6 * p + n) i (getD W (96 + 6 * r + n) 0) 0 (f n (omega arith)) ∙ copied-outside n i (λ j l. f j (omega arith))
+  copied-outside (suc n) i f = getD-set-other (copied n p r W) (6 * p + n) i (getD W (96 + 6 * r + n) 0) 0 (f n (omega arith))
+      ∙ copied-outside n i (λ j l. f j (omega arith))
 
   -- One more turn of the code's loop: what it reads is what was there.
   pub copied-more : (n : ℕ) (l : List ℕ) → p < 16 → n < 6 → l ≡ copied n p r W → set l (6 * p + n) (getD l (96 + 6 * r + n) 0) ≡ copied (n + 1) p r W

@@ -7,7 +7,8 @@ use lib.IntN.{ℤ}
 use lib.ListN.{length, getD, set}
 use Rattle.sections.specs.declared.Sections.{Sections}
 use Rattle.statements.specs.declared.Simple.{Simple}
-use Rattle.statements.specs.declared.Simple.the-variants.{Literal, AddConstant, Arithmetic, Null, Address, PointerOffset, PointerIndex, Load, Store, Check, Declare}
+use Rattle.statements.specs.declared.Simple.the-variants.{Literal, AddConstant, Arithmetic, Null, Address}
+use Rattle.statements.specs.declared.Simple.the-variants.{PointerOffset, PointerIndex, Load, Store, Check, Declare}
 use Rattle.statements.specs.declared.Statement.{Statement}
 use Rattle.statements.specs.declared.Statement.the-variants.{Plain, If, While, Bundle}
 use Rattle.decode.specs.Decode.{decodedAt}
@@ -66,7 +67,8 @@ statement-kept W D (If c x y) a n vs cs = same-kept W
 statement-kept W D (While c x) a n vs cs = same-kept W
 statement-kept W D (Bundle x) a n vs cs = same-kept W
 
-pub move-kept : (T : List ℤ) (h : Sections) (W D S : List ℕ) (a : ℕ) (vs cs : List ℕ) {r : Step} {W′ ws ds : List ℕ} → Moves (bareMove T h W D S a vs cs) r W′ ws ds → EndsKept W W′
+pub move-kept : (T : List ℤ) (h : Sections) (W D S : List ℕ) (a : ℕ) (vs cs : List ℕ) {r : Step} {W′ ws ds : List ℕ}
+    → Moves (bareMove T h W D S a vs cs) r W′ ws ds → EndsKept W W′
 unfolding bareMove
 move-kept T h W D S a vs cs m = rw (m .ends) (statement-kept W D (decodedAt T h a) a (entriesAt S a) vs cs)
 

@@ -14,7 +14,8 @@ use Rattle.statements.specs.Statements.{statementAt}
 use Rattle.statements.specs.Typed.{SimpleTyped, AccessTyped}
 use Rattle.statements.specs.StatementLaws.{read-typed, read-limits}
 use Rattle.statements.specs.declared.Simple.{Simple}
-use Rattle.statements.specs.declared.Simple.the-variants.{Literal, AddConstant, Arithmetic, Null, Address, PointerOffset, PointerIndex, Load, Store, Check as Test, Declare}
+use Rattle.statements.specs.declared.Simple.the-variants.{Literal, AddConstant, Arithmetic, Null, Address, PointerOffset}
+use Rattle.statements.specs.declared.Simple.the-variants.{PointerIndex, Load, Store, Check as Test, Declare}
 use Rattle.statements.specs.declared.Statement.{Statement}
 use Rattle.statements.specs.declared.Statement.the-variants.{Plain, If, While, Bundle}
 use Rattle.statements.specs.declared.StatementRead.the-variants.{Read}
@@ -104,12 +105,14 @@ module _ (T : List ℤ) (h : Sections) (W D S : List ℕ) (a : ℕ) (vs cs : Lis
   unfolding bareMove statementMove
   bare-plain s n r W′ ws ds e g m = rw e (rw g at m)
 
-  pub bare-if : (c : Condition) (x y b n o : ℕ) → decodedAt T h a ≡ If c x y → b ≡ cond (conditionHolds vs c) n o → n ≡ getD S (2 * a) 0 → o ≡ getD S (2 * a + 1) 0 →
+  pub bare-if : (c : Condition) (x y b n o : ℕ) → decodedAt T h a ≡ If c x y → b ≡ cond (conditionHolds vs c) n o → n ≡ getD S (2 * a) 0
+      → o ≡ getD S (2 * a + 1) 0 →
       Moves (bareMove T h W D S a vs cs) (Go b) W vs cs
   unfolding bareMove statementMove
   bare-if c x y b n o e g p q = rw e (record { said = ap Go (rw (p, q) at g); ends = refl; values = refl; cells = refl })
 
-  pub bare-while : (c : Condition) (x b n o : ℕ) → decodedAt T h a ≡ While c x → b ≡ cond (conditionHolds vs c) n o → n ≡ getD S (2 * a) 0 → o ≡ getD S (2 * a + 1) 0 →
+  pub bare-while : (c : Condition) (x b n o : ℕ) → decodedAt T h a ≡ While c x → b ≡ cond (conditionHolds vs c) n o → n ≡ getD S (2 * a) 0
+      → o ≡ getD S (2 * a + 1) 0 →
       Moves (bareMove T h W D S a vs cs) (Go b) W vs cs
   unfolding bareMove statementMove
   bare-while c x b n o e g p q = rw e (record { said = ap Go (rw (p, q) at g); ends = refl; values = refl; cells = refl })

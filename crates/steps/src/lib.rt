@@ -49,7 +49,8 @@ pub fn advance(
 ) -> Step
     requires { ⌜ Prepared (now table) sections (now ends) (now directory) (now successors) (now values) ⌝ }
     requires { ⌜ Ready (now table) sections (now ends) at (now values) (now cells) ⌝ }
-    ensures { λ r. ⌜ Moves (bareMove (now (table .entry)) sections (now (ends .entry)) (now (directory .entry)) (now (successors .entry)) at (now (values .entry)) (now (cells .entry))) r (now (ends .exit)) (now (values .exit)) (now (cells .exit)) ⌝ }
+    ensures { λ r. ⌜ Moves (bareMove (now (table .entry)) sections (now (ends .entry)) (now (directory .entry)) (now (successors .entry))
+        at (now (values .entry)) (now (cells .entry))) r (now (ends .exit)) (now (values .exit)) (now (cells .exit)) ⌝ }
 {
     let next = successor(successors, 2 * at);
     let s = decode_statement(table, sections, at);

@@ -51,7 +51,8 @@ fn offset_pointer(
     values: &mut [u32],
 ) -> Step
     requires { ⌜ (target < length (now values)) × (source < length (now values)) × (constant < 2 ^ 34) ⌝ }
-    ensures { λ r. ⌜ Assigns (offsetFailing (now (values .entry)) source constant) at next target (value (now (values .entry)) source + constant - bias) (now (values .entry)) r (now (values .exit)) ⌝ }
+    ensures { λ r. ⌜ Assigns (offsetFailing (now (values .entry)) source constant) at next target (value (now (values .entry)) source + constant - bias)
+        (now (values .entry)) r (now (values .exit)) ⌝ }
 {
     if constant == BIAS {
         values[target] = values[source];
@@ -71,8 +72,10 @@ fn index_pointer(
     index: usize,
     values: &mut [u32],
 ) -> Step
-    requires { ⌜ (target < length (now values)) × (source < length (now values)) × (index < length (now values)) × (source < 16) × (length (now ends) ≡ 512) × ((p : ℕ) → sizeIn (now ends) p ≤ 8) ⌝ }
-    ensures { λ r. ⌜ Assigns (indexFailing (now (ends .entry)) (now (values .entry)) source index) at next target (indexed (declaredIn (now (ends .entry))) (now (values .entry)) source index) (now (values .entry)) r (now (values .exit)) ⌝ }
+    requires { ⌜ (target < length (now values)) × (source < length (now values)) × (index < length (now values)) × (source < 16) × (length (now ends) ≡ 512)
+        × ((p : ℕ) → sizeIn (now ends) p ≤ 8) ⌝ }
+    ensures { λ r. ⌜ Assigns (indexFailing (now (ends .entry)) (now (values .entry)) source index) at next target
+        (indexed (declaredIn (now (ends .entry))) (now (values .entry)) source index) (now (values .entry)) r (now (values .exit)) ⌝ }
 {
     let base = wide(values[source]);
     let sum = base + scaled(size_in(ends, source), wide(values[index])) + BIAS;
@@ -100,8 +103,11 @@ fn load(
     values: &mut [u32],
     cells: &[u32],
 ) -> Step
-    requires { ⌜ Accessible (now ends) target pointer index constant (loadFailing (declaredIn (now ends)) (now values) pointer (address (declaredIn (now ends)) (now values) pointer index constant)) (now values) (now cells) ⌝ }
-    ensures { λ r. ⌜ Assigns (loadFailing (declaredIn (now (ends .entry))) (now (values .entry)) pointer (address (declaredIn (now (ends .entry))) (now (values .entry)) pointer index constant)) at next target (getD (now (cells .entry)) (address (declaredIn (now (ends .entry))) (now (values .entry)) pointer index constant - bias) 0) (now (values .entry)) r (now (values .exit)) ⌝ }
+    requires { ⌜ Accessible (now ends) target pointer index constant (loadFailing (declaredIn (now ends)) (now values) pointer
+        (address (declaredIn (now ends)) (now values) pointer index constant)) (now values) (now cells) ⌝ }
+    ensures { λ r. ⌜ Assigns (loadFailing (declaredIn (now (ends .entry))) (now (values .entry)) pointer
+        (address (declaredIn (now (ends .entry))) (now (values .entry)) pointer index constant)) at next target (getD (now (cells .entry))
+        (address (declaredIn (now (ends .entry))) (now (values .entry)) pointer index constant - bias) 0) (now (values .entry)) r (now (values .exit)) ⌝ }
 {
     let address = address_of(ends, values, pointer, index, constant);
     let said = check_load(ends, values, at, next, pointer, address);
@@ -125,8 +131,11 @@ fn store(
     values: &[u32],
     cells: &mut [u32],
 ) -> Step
-    requires { ⌜ Accessible (now ends) source pointer index constant (storeFailing (declaredIn (now ends)) (now values) pointer (address (declaredIn (now ends)) (now values) pointer index constant) (value (now values) source)) (now values) (now cells) ⌝ }
-    ensures { λ r. ⌜ Assigns (storeFailing (declaredIn (now (ends .entry))) (now (values .entry)) pointer (address (declaredIn (now (ends .entry))) (now (values .entry)) pointer index constant) (value (now (values .entry)) source)) at next (address (declaredIn (now (ends .entry))) (now (values .entry)) pointer index constant - bias) (value (now (values .entry)) source) (now (cells .entry)) r (now (cells .exit)) ⌝ }
+    requires { ⌜ Accessible (now ends) source pointer index constant (storeFailing (declaredIn (now ends)) (now values) pointer
+        (address (declaredIn (now ends)) (now values) pointer index constant) (value (now values) source)) (now values) (now cells) ⌝ }
+    ensures { λ r. ⌜ Assigns (storeFailing (declaredIn (now (ends .entry))) (now (values .entry)) pointer (address (declaredIn (now (ends .entry)))
+        (now (values .entry)) pointer index constant) (value (now (values .entry)) source)) at next (address (declaredIn (now (ends .entry)))
+        (now (values .entry)) pointer index constant - bias) (value (now (values .entry)) source) (now (cells .entry)) r (now (cells .exit)) ⌝ }
 {
     let address = address_of(ends, values, pointer, index, constant);
     let number = value_at(values, source);
@@ -163,7 +172,8 @@ pub(crate) fn advance_simple(
     cells: &mut [u32],
 ) -> Step
     requires { ⌜ Operable (now ends) (now directory) s (now values) (now cells) ⌝ }
-    ensures { λ r. ⌜ Moves (simpleMove (now (ends .entry)) (now (directory .entry)) s at next (now (values .entry)) (now (cells .entry))) r (now (ends .exit)) (now (values .exit)) (now (cells .exit)) ⌝ }
+    ensures { λ r. ⌜ Moves (simpleMove (now (ends .entry)) (now (directory .entry)) s at next (now (values .entry)) (now (cells .entry))) r (now (ends .exit))
+        (now (values .exit)) (now (cells .exit)) ⌝ }
 {
     match s {
         Simple::Literal { target, value } => {

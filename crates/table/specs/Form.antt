@@ -53,7 +53,9 @@ fourthRight table h = eqb (h .start) 6 || isNumber (rowsStart h) (word table 6) 
 unfoldable pub directoryRight : List ℤ → Sections → Bool
 directoryRight table h =
     inLimits h && (
-    isNumber (h .start) (word table 0) && isNumber (h .objects) (word table 1) && isNumber (variablesStart h) (word table 2) && isNumber (8 * h .variables) (word table 3) && isNumber (statementsStart h) (word table 4) && isNumber (7 * h .statements) (word table 5) && fourthRight table h && eqb (length table) (tableEnd h)
+    isNumber (h .start) (word table 0) && isNumber (h .objects) (word table 1) && isNumber (variablesStart h) (word table 2)
+    && isNumber (8 * h .variables) (word table 3) && isNumber (statementsStart h) (word table 4) && isNumber (7 * h .statements) (word table 5)
+    && fourthRight table h && eqb (length table) (tableEnd h)
     )
 
 -- Cause 3: "its length in cells, 1 to 1,000,000".
@@ -111,4 +113,5 @@ itemsForm table h =
 
 -- The first of the causes 1 to 5; where there is none, the sections.
 unfoldable pub formOf : List ℤ → Form
-formOf table = cond (lengthRight table) (cond (directoryRight table (sectionsOf table)) (itemsForm table (sectionsOf table)) (Refused Directory)) (Refused Length)
+formOf table = cond (lengthRight table)
+    (cond (directoryRight table (sectionsOf table)) (itemsForm table (sectionsOf table)) (Refused Directory)) (Refused Length)

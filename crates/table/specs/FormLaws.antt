@@ -24,7 +24,9 @@ use Rattle.variables.specs.declared.RowRead.{RowRead}
 use Rattle.variables.specs.declared.Variable.{Variable}
 use Rattle.variables.specs.declared.VariableRead.{VariableRead}
 use Rattle.variables.specs.declared.VariableRead.the-variants as variable
-use Rattle.table.specs.Form.{lengthRight, isNumber, sectionsOf, directoryRight, objectRight, isVariableRead, variableReads, isStatementRead, statementReads, lowestObject, lowestVariable, lowestStatement, itemsForm, formOf, fourthRight, isRowRead, rowReads, lowestRow}
+use Rattle.table.specs.Form.{lengthRight, isNumber, sectionsOf, directoryRight, objectRight, isVariableRead}
+use Rattle.table.specs.Form.{variableReads, isStatementRead, statementReads, lowestObject, lowestVariable}
+use Rattle.table.specs.Form.{lowestStatement, itemsForm, formOf, fourthRight, isRowRead, rowReads, lowestRow}
 use Rattle.table.specs.Searches.{holds-below}
 use Rattle.table.specs.declared.Form.{Form}
 use Rattle.table.specs.declared.Form.the-variants.{WellFormed, Refused}
@@ -74,7 +76,9 @@ directory-limits table h e = both (inLimits h) _ e .0
 directory-long : (table : List ℤ) (h : Sections) → directoryRight table h ≡ true → Limits h × (length table ≡ tableEnd h)
 unfolding directoryRight
 directory-long table h e =
-    let words = isNumber (h .start) (word table 0) && isNumber (h .objects) (word table 1) && isNumber (variablesStart h) (word table 2) && isNumber (8 * h .variables) (word table 3) && isNumber (statementsStart h) (word table 4) && isNumber (7 * h .statements) (word table 5) && fourthRight table h in
+    let words = isNumber (h .start) (word table 0) && isNumber (h .objects) (word table 1) && isNumber (variablesStart h) (word table 2)
+    && isNumber (8 * h .variables) (word table 3) && isNumber (statementsStart h) (word table 4) && isNumber (7 * h .statements) (word table 5)
+    && fourthRight table h in
     let ends = eqb (length table) (tableEnd h) in
     let p = both (inLimits h) (words && ends) e in
     (limits h (p .0), eqb-true (length table) (tableEnd h) (both words ends (p .1) .1))
@@ -93,9 +97,11 @@ items-formed table g h d e =
         limits = l .0;
         long = l .1;
         objects = λ i b. object-length table g i (holds-below (objectRight table g) (g .objects) (ltb-false (lowestObject table g) (g .objects) (o .0)) i b);
-        variables = λ i b. variable-read (variableAt table g i) (holds-below (variableReads table g) (g .variables) (ltb-false (lowestVariable table g) (g .variables) (v .0)) i b);
+        variables = λ i b. variable-read (variableAt table g i)
+            (holds-below (variableReads table g) (g .variables) (ltb-false (lowestVariable table g) (g .variables) (v .0)) i b);
         rows = λ i b. row-read (rowAt table g i) (holds-below (rowReads table g) (g .rows) (ltb-false (lowestRow table g) (g .rows) (w .0)) i b);
-        statements = λ i b. statement-read (statementAt table g i) (holds-below (statementReads table g) (g .statements) (ltb-false (lowestStatement table g) (g .statements) (s .0)) i b);
+        statements = λ i b. statement-read (statementAt table g i)
+            (holds-below (statementReads table g) (g .statements) (ltb-false (lowestStatement table g) (g .statements) (s .0)) i b);
       },
     )
 

@@ -42,7 +42,8 @@ module _ (right : ℕ → Bool) where
   from-holds zero i h k l u = absurd (omega arith)
   from-holds (suc n) i h k l u = go (right i) refl h (λ g m. from-holds n (i + 1) g k m (omega arith))
     where
-      go : (b : Bool) → right i ≡ b → i + suc n ≤ cond b (lowestFrom right (i + 1) n) i → (i + 1 + n ≤ lowestFrom right (i + 1) n → i + 1 ≤ k → right k ≡ true) → right k ≡ true
+      go : (b : Bool) → right i ≡ b → i + suc n ≤ cond b (lowestFrom right (i + 1) n) i → (i + 1 + n ≤ lowestFrom right (i + 1) n → i + 1 ≤ k → right k ≡ true)
+          → right k ≡ true
       go true e g later =
           ⊎-elim (λ (s : i ≡ k). ap right (sym s) ∙ e) (λ (m : i < k). later (omega (arith, g)) (omega arith)) (eq-or-lt-of-le l)
       go false e g later = absurd (omega (arith, g))

@@ -15,7 +15,8 @@ use words::word;
 ghost use mathlib.Core.Path.{_≡_};
 ghost use mathlib.Core.Bool.{true};
 ghost use Rattle.sections.specs.Sections.{inLimits};
-ghost use Rattle.table.specs.Form.{isNumber, fourPairs, lengthRight, sectionsOf, fourthRight, directoryRight, objectRight, variableReads, rowReads, statementReads, lowestObject, lowestVariable, lowestRow, lowestStatement, itemsForm, formOf};
+ghost use Rattle.table.specs.Form.{isNumber, fourPairs, lengthRight, sectionsOf, fourthRight, directoryRight, objectRight, variableReads};
+ghost use Rattle.table.specs.Form.{rowReads, statementReads, lowestObject, lowestVariable, lowestRow, lowestStatement, itemsForm, formOf};
 
 // What causes 1 to 5 say of a table.
 pub enum Form {

@@ -57,7 +57,8 @@ room {d = d} n h l g = omega (arith, g .long, length-decimal (d - 1) n, some d h
 pub grown-start : (t : Text) → Grown (textOf t) [] (t .len) t
 grown-start t = record { text = sym (append-nil (textOf t)); long = omega arith }
 
-pub grown-next : {before : List ℕ} {len : ℕ} (more : List ℕ) (i : ℕ) {u r : Text} → i < length more → Grown before (take i more) len u → Grown (textOf u) (getD more i 0 ∷ []) (u .len) r
+pub grown-next : {before : List ℕ} {len : ℕ} (more : List ℕ) (i : ℕ) {u r : Text} → i < length more → Grown before (take i more) len u
+    → Grown (textOf u) (getD more i 0 ∷ []) (u .len) r
     → Grown before (take (i + 1) more) len r
 grown-next {before} {len} more i h g k =
     let e : take (i + 1) more ≡ take i more ++ (getD more i 0 ∷ []) = rw add-one (take-suc more i 0 h) in

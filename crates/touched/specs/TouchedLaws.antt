@@ -13,7 +13,8 @@ use Rattle.stays.specs.StaysLaws.{stored, stored-known}
 use Rattle.touched.specs.Touched.{touchedAt, touchedFrom, touched}
 
 -- The pointer's test, as the code meets it.
-pub asked : (E : Environment) (e : Effect) (p : ℕ) {st : Bool} → p < length (E .declared) → st ≡ stays e p (stored (E .declared) p) → (isPointer E p && not st) ≡ touchedAt E e p
+pub asked : (E : Environment) (e : Effect) (p : ℕ) {st : Bool} → p < length (E .declared) → st ≡ stays e p (stored (E .declared) p)
+    → (isPointer E p && not st) ≡ touchedAt E e p
 unfolding touchedAt
 asked E e p d w = ap (λ (x : Bool). isPointer E p && not x) (w ∙ ap (stays e p) (stored-known (E .declared) p d))
 

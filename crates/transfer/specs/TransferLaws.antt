@@ -26,7 +26,8 @@ effect-on-one (Object v z n) K p = refl
 pub effect-on-read : (e : Effect) (K : List Bounds) (p : ℕ) {r : Bounds} (q : ℕ) → p < length K → q < length K → q ≡ sourceOf e
     → r ≡ effectOnOne e p (stored K p) (stored K q) → r ≡ effectOn e K p
 effect-on-read e K p q h i z t =
-    t ∙ (ap (λ (b : Bounds). effectOnOne e p b (stored K q)) (stored-known K p h) ∙ (ap (effectOnOne e p (known K p)) (stored-known K q i ∙ ap (known K) z) ∙ sym (effect-on-one e K p)))
+    t ∙ (ap (λ (b : Bounds). effectOnOne e p b (stored K q)) (stored-known K p h)
+    ∙ (ap (effectOnOne e p (known K p)) (stored-known K q i ∙ ap (known K) z) ∙ sym (effect-on-one e K p)))
 
 -- The source of an effect is a variable.
 pub source-below : (e : Effect) → Short e → sourceOf e < 16

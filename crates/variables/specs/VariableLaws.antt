@@ -9,11 +9,13 @@ use native.Mathlib.Omega.{arith}
 use borrow.Author.Tests.{leb-true}
 use Rattle.sums.specs.Numbers.{bias}
 use Rattle.fields.specs.Fields.{isZero, isConstant, plain}
-use Rattle.sections.specs.Sections.{isVariable, variableStart, kindAt, integerAt, pointerAt, namesPointer, namesIndex, Limits, inLimits, rowStart, kindOf, kindIs}
+use Rattle.sections.specs.Sections.{isVariable, variableStart, kindAt, integerAt, pointerAt}
+use Rattle.sections.specs.Sections.{namesPointer, namesIndex, Limits, inLimits, rowStart, kindOf, kindIs}
 use Rattle.sections.specs.SectionsLaws.{both, variable-limits}
 use Rattle.sections.specs.NameLaws.{constant-small, pointer-named, index-named}
 use Rattle.sections.specs.declared.Sections.{Sections}
-use Rattle.variables.specs.Variables.{variableWordsAt, endZero, endRight, endOf, integerRecord, pointerRecord, variableOf, variableAt, rowWordsAt, rowOf, rowAt, isSize, sizeOf}
+use Rattle.variables.specs.Variables.{variableWordsAt, endZero, endRight, endOf, integerRecord, pointerRecord}
+use Rattle.variables.specs.Variables.{variableOf, variableAt, rowWordsAt, rowOf, rowAt, isSize, sizeOf}
 use Rattle.variables.specs.Typed.{EndTyped, PointerTyped, VariableTyped, RowTyped}
 use Rattle.variables.specs.declared.Variable.{Variable}
 use Rattle.variables.specs.declared.Variable.the-variants.{Integer, Pointer}
@@ -43,7 +45,11 @@ module _ (table : List ℤ) (h : Sections) where
   end-typed e t =
       let p = both (namesPointer table h (e .pointer) && namesIndex table h (e .integer)) (isConstant (e .constant)) t in
       let q = both (namesPointer table h (e .pointer)) (namesIndex table h (e .integer)) (p .0) in
-      record { pointer = pointer-named table h (e .pointer) (q .0); integer = index-named table h (e .integer) (q .1); constant = constant-small (e .constant) (p .1) }
+      record {
+        pointer = pointer-named table h (e .pointer) (q .0);
+        integer = index-named table h (e .integer) (q .1);
+        constant = constant-small (e .constant) (p .1);
+      }
 
   -- The kind of a variable is that of the first word of its record.
   kind-word : (v : ℕ) → isVariable h v ≡ true → kindAt table h v ≡ kindOf (variableWordsAt table (variableStart h v) .kind)
@@ -81,8 +87,10 @@ module _ (table : List ℤ) (h : Sections) where
     where
       go : (a b : Bool) →
           (a ≡ true → integerAt table h v ≡ true) →
-          (b ≡ true → PointerTyped table h v (sizeOf (variableWordsAt table (variableStart h v) .size)) (endOf (variableWordsAt table (variableStart h v) .lower)) (endOf (variableWordsAt table (variableStart h v) .upper))) →
-          TypedRead v (cond a (Read Integer) (cond b (Read (Pointer (sizeOf (variableWordsAt table (variableStart h v) .size)) (endOf (variableWordsAt table (variableStart h v) .lower)) (endOf (variableWordsAt table (variableStart h v) .upper)))) Unread))
+          (b ≡ true → PointerTyped table h v (sizeOf (variableWordsAt table (variableStart h v) .size))
+          (endOf (variableWordsAt table (variableStart h v) .lower)) (endOf (variableWordsAt table (variableStart h v) .upper))) →
+          TypedRead v (cond a (Read Integer) (cond b (Read (Pointer (sizeOf (variableWordsAt table (variableStart h v) .size))
+          (endOf (variableWordsAt table (variableStart h v) .lower)) (endOf (variableWordsAt table (variableStart h v) .upper)))) Unread))
       go true b i p = i refl
       go false true i p = p refl
       go false false i p = tt
@@ -107,7 +115,8 @@ module _ (table : List ℤ) (h : Sections) where
   unfolding rowAt rowOf
   row-typed r =
       let w = rowWordsAt table (rowStart h r) in
-      go (inLimits h && ltb r (h .rows)) (endRight table h (w .lower)) (endRight table h (w .upper)) (end-typed table h (w .lower)) (end-typed table h (w .upper))
+      go (inLimits h && ltb r (h .rows)) (endRight table h (w .lower)) (endRight table h (w .upper)) (end-typed table h (w .lower))
+      (end-typed table h (w .upper))
     where
       go : (a b c : Bool) {l u : End} → (b ≡ true → EndTyped table h l) → (c ≡ true → EndTyped table h u)
           → TypedRow (cond a (cond (b && c) (row.Read l u) row.Unread) row.Unread)
@@ -126,6 +135,7 @@ pub variable-read-limits : (table : List ℤ) (h : Sections) (v : ℕ) (x : Vari
 unfolding variableAt
 variable-read-limits table h v x e = go (isVariable h v) refl e
   where
-    go : (b : Bool) → isVariable h v ≡ b → cond b (variableOf table h (variableWordsAt table (variableStart h v))) Unread ≡ Read x → Limits h × (v < h .variables)
+    go : (b : Bool) → isVariable h v ≡ b → cond b (variableOf table h (variableWordsAt table (variableStart h v))) Unread ≡ Read x
+        → Limits h × (v < h .variables)
     go true q g = variable-limits h v q
     go false q g = let z : _≡_ {A = ℕ} 0 1 = cc in absurd (omega arith)

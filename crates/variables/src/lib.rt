@@ -13,7 +13,8 @@ use sums::BIAS;
 use words::word;
 ghost use mathlib.Core.Path.{_≡_};
 ghost use Prim.Native.Nat.{_<_};
-ghost use Rattle.variables.specs.Variables.{endWordsAt, endRight, endZero, endOf, variableWordsAt, integerRecord, isSize, sizeOf, pointerRecord, variableOf, variableAt, rowWordsAt, rowOf, rowAt, objectCells, objectAt};
+ghost use Rattle.variables.specs.Variables.{endWordsAt, endRight, endZero, endOf, variableWordsAt, integerRecord, isSize, sizeOf};
+ghost use Rattle.variables.specs.Variables.{pointerRecord, variableOf, variableAt, rowWordsAt, rowOf, rowAt, objectCells, objectAt};
 
 // An end of declared bounds: pointer + size times integer + constant. A missing integer is 16, the number that stands for zero. The constant is biased.
 pub struct End {

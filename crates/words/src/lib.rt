@@ -56,8 +56,8 @@ pub fn fields_within(table: &[i32], start: usize) -> Fields
     }
 }
 
-// The seven words from `start` on: one test for all of them where the record lies in the table. No record starts at 65,536 or later; so that no index wraps, `start` is
-// taken modulo 65,536.
+// The seven words from `start` on: one test for all of them where the record lies in the table. No record starts at 65,536 or later; so that no index wraps,
+// `start` is taken modulo 65,536.
 pub fn fields_at(table: &[i32], start: usize) -> Fields
     ensures { λ r. ⌜ r ≡ fieldsAt (now (table .entry)) (start % 65536) ⌝ }
 {

@@ -20,5 +20,7 @@ read-parts-spec =
     (λ c. let e = c .before .before in let r = e .before .before .before .before in part-plain _ _ _ _ _ (r .before .pre) (e .if1 .left) (sym (r .read-statement .ensures) ∙ (e .before .before .got .given .1 ∙ ap Read (c .enum-told2 .given .1))))
     (λ c. let e = c .before .before .before .before in let r = e .before .before .before .before in rw (c .split .ensures) (part-if _ _ _ _ _ (r .before .pre) (e .if1 .left) (sym (r .read-statement .ensures) ∙ (e .before .before .got .given .1 ∙ ap Read (c .before .before .s .given .1)))))
     (λ c. let e = c .before .before .before .before in let r = e .before .before .before .before in rw (c .split2 .ensures) (part-while _ _ _ _ _ (r .before .pre) (e .if1 .left) (sym (r .read-statement .ensures) ∙ (e .before .before .got .given .1 ∙ ap Read (c .before .before .s2 .given .1)))))
-    (λ c. let l = c .before .before .before in let e = l .before .before .before .before in let r = e .before .before .before .before in part-bundle-refused _ _ _ _ _ (r .before .pre) (e .if1 .left) (sym (r .read-statement .ensures) ∙ (e .before .before .got .given .1 ∙ ap Read (l .before .before .s3 .given .1))) (l .lay-bundle .ensures) (c .before .held .given .1))
-    (λ c. let l = c .before .before in let e = l .before .before .before .before in let r = e .before .before .before .before in part-bundle _ _ _ _ _ (r .before .pre) (e .if1 .left) (sym (r .read-statement .ensures) ∙ (e .before .before .got .given .1 ∙ ap Read (l .before .before .s3 .given .1))) (l .lay-bundle .ensures) (c .enum-told3 .given .1)))
+    (λ c. let l = c .before .before .before in let e = l .before .before .before .before in let r = e .before .before .before .before in
+    part-bundle-refused _ _ _ _ _ (r .before .pre) (e .if1 .left) (sym (r .read-statement .ensures) ∙ (e .before .before .got .given .1 ∙ ap Read (l .before .before .s3 .given .1))) (l .lay-bundle .ensures) (c .before .held .given .1))
+    (λ c. let l = c .before .before in let e = l .before .before .before .before in let r = e .before .before .before .before in
+    part-bundle _ _ _ _ _ (r .before .pre) (e .if1 .left) (sym (r .read-statement .ensures) ∙ (e .before .before .got .given .1 ∙ ap Read (l .before .before .s3 .given .1))) (l .lay-bundle .ensures) (c .enum-told3 .given .1)))

@@ -38,6 +38,7 @@ bounds-after-spec =
     let start = at .before .before .before .before .before .before .before in
     ⊎-elim
     (λ w. rw (w .2) (filled-anew (start .args .effect) (at .loop .inv) (c .before .before .before .loop-test .taken) (search (length-under, needs)) (at .before .before .before .before .source-of .result) (start .pre) (at .before .before .before .before .source-of .ensures) (w .1 .ensures)))
-    (λ w. rw (w .1) (filled-stays (start .args .effect) (at .loop .inv) (c .before .before .before .loop-test .taken) (search (length-under, needs)) (sym (stays-read _ _ _ (c .before .before .before .loop-test .taken) (at .before .before .changed-by .ensures) (at .before .replaced-by .ensures) (c .before .left-alone .ensures)) ∙ not-false _ (w .0 .left))))
+    (λ w. rw (w .1) (filled-stays (start .args .effect) (at .loop .inv) (c .before .before .before .loop-test .taken) (search (length-under, needs))
+    (sym (stays-read _ _ _ (c .before .before .before .loop-test .taken) (at .before .before .changed-by .ensures) (at .before .replaced-by .ensures) (c .before .left-alone .ensures)) ∙ not-false _ (w .0 .left))))
     (c .if2 .came))
     (λ c. filled-whole (c .before .loop .inv) (c .loop-test .left)))

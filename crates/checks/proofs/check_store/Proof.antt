@@ -18,4 +18,11 @@ check-store-spec =
     (λ c κs. search needs)
     (λ c κs. search needs)
     (λ c κs. search needs)
-    (λ c. rw (c .before .beyond .ensures, c .before .before .string-in .ensures, c .before .before .before .before .before .before .value-at .ensures .0, c .before .before .before .before .end-value .ensures, c .before .before .before .end-value2 .ensures, c .before .before .before .before .before .size-in .ensures) at (c .access-step .ensures) ∙ access-step _ _ _ _ _ _ _ (c .before .before .before .before .before .before .before .before .before .pre .0)))
+    (λ c. rw (
+      c .before .beyond .ensures,
+      c .before .before .string-in .ensures,
+      c .before .before .before .before .before .before .value-at .ensures .0,
+      c .before .before .before .before .end-value .ensures,
+      c .before .before .before .end-value2 .ensures,
+      c .before .before .before .before .before .size-in .ensures,
+    ) at (c .access-step .ensures) ∙ access-step _ _ _ _ _ _ _ (c .before .before .before .before .before .before .before .before .before .pre .0)))

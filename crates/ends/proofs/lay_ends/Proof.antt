@@ -26,4 +26,5 @@ lay-ends-spec =
     (λ c. search needs) (λ c. search (length-under, needs)) (λ c κs. search needs)
     (λ c κs. search needs) (λ c. search needs) (λ c. search needs) (λ c. search needs) (λ c. search needs)
     (λ c. filled-more (c .before .before .before .before .before .loop .inv) (search needs) (rw (c .before .one-of3 .ensures, c .before .before .one-of2 .ensures, c .before .before .before .one-of .ensures) at (c .one-of4 .ensures)))
-    (λ c. filled-whole (c .before .loop .inv) (c .loop-test .left) ∙ rw (c .before .before .before .before .before .lay-own .ensures, c .before .before .before .before .lay-rows .ensures) (ends-laid (c .before .before .before .before .before .before .args .environment) (search (length-under, needs)))))
+    (λ c. filled-whole (c .before .loop .inv) (c .loop-test .left)
+    ∙ rw (c .before .before .before .before .before .lay-own .ensures, c .before .before .before .before .lay-rows .ensures) (ends-laid (c .before .before .before .before .before .before .args .environment) (search (length-under, needs)))))

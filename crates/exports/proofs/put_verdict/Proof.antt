@@ -12,4 +12,6 @@ put-verdict-spec =
     (λ c κs. search needs) (λ c κs. search needs) (λ c κs. search needs) (λ c. search needs)
     (λ c. accepted-words _ (c .before .before .before .before .enum-told .given .1) (c .before .before .put-three .ensures))
     (λ c. search needs)
-    (λ c. refused-words _ (c .before .before .before .before .before .before .before .before .before .before .verdict .given .1) (c .before .before .before .before .before .before .before .before .refusal-number .ensures) (c .before .before .before .before .before .before .before .refusal-place .ensures) (c .before .before .before .before .before .before .word-of .ensures) (c .before .before .before .before .before .refusal-pointer .ensures) (c .before .before .before .before .word-of2 .ensures) (c .before .before .put-three2 .ensures)))
+    (λ c. refused-words _ (c .before .before .before .before .before .before .before .before .before .before .verdict .given .1) (c .before .before .before .before .before .before .before .before .refusal-number .ensures)
+    (c .before .before .before .before .before .before .before .refusal-place .ensures) (c .before .before .before .before .before .before .word-of .ensures) (c .before .before .before .before .before .refusal-pointer .ensures) (c .before .before .before .before .word-of2 .ensures)
+    (c .before .before .put-three2 .ensures)))

@@ -33,11 +33,41 @@ resume-spec =
     (λ c. search needs) (λ c. search needs) (λ c. search needs)
     (λ c. carry (c .before .before .before .loop .inv .0) (run-spent _ _ _ _ _ _ _ _ _ _ (c .before .if1 .taken) (omega (arith, c .if2 .taken))))
     (λ c. search needs)
-    (λ c κs. (c .before .before .before .before .before .before .loop .inv .3, safe-ready _ _ _ _ _ _ 0 _ _ _ (c .before .before .before .before .if1 .taken) (c .before .before .before .before .before .before .before .before .before .before .before .before .args .limit - (c .before .before .before .before .before .before .loop .steps + 1)) (omega (arith, c .before .before .before .if2 .left, c .before .before .before .before .before .before .loop .inv .1)) (c .before .before .before .before .before .before .loop .inv .2)))
+    (λ c κs. (
+      c .before .before .before .before .before .before .loop .inv .3,
+      safe-ready _ _ _ _ _ _ 0 _ _ _ (c .before .before .before .before .if1 .taken) (c .before .before .before .before .before .before .before .before .before .before .before .before .args .limit - (c .before .before .before .before .before .before .loop .steps + 1))
+          (omega (arith, c .before .before .before .if2 .left, c .before .before .before .before .before .before .loop .inv .1)) (c .before .before .before .before .before .before .loop .inv .2),
+    ))
     (λ c. search needs)
     (λ c. omega (arith, c .before .before .before .before .before .before .before .before .before .before .before .before .before .if2 .left, c .before .before .before .before .before .before .before .before .before .before .before .before .before .before .before .before .loop .inv .1))
-    (λ c. let at = c .before .before .before .before .before .before .before .before .before .before .before .before .before .before .before .before .loop in (at .inv .0 ∙ run-go _ _ _ _ _ _ _ _ _ _ (c .before .before .before .before .before .before .before .before .before .before .before .before .before .before .if1 .taken) (c .before .before .before .before .before .before .before .before .before .before .before .before .before .before .before .before .before .before .before .before .before .before .args .limit - (c .before .before .before .before .before .before .before .before .before .before .before .before .before .before .before .before .loop .steps + 1)) (omega (arith, c .before .before .before .before .before .before .before .before .before .before .before .before .before .if2 .left, c .before .before .before .before .before .before .before .before .before .before .before .before .before .before .before .before .loop .inv .1)) _ _ _ _ (c .before .before .before .before .before .before .before .before .before .advance .ensures) _ (c .before .said .given .1), omega (arith, c .before .before .before .before .before .before .before .before .before .before .before .before .before .if2 .left), safe-go _ _ _ _ _ _ 0 _ _ _ (c .before .before .before .before .before .before .before .before .before .before .before .before .before .before .if1 .taken) (c .before .before .before .before .before .before .before .before .before .before .before .before .before .before .before .before .before .before .before .before .before .before .args .limit - (c .before .before .before .before .before .before .before .before .before .before .before .before .before .before .before .before .loop .steps + 1)) (omega (arith, c .before .before .before .before .before .before .before .before .before .before .before .before .before .if2 .left, c .before .before .before .before .before .before .before .before .before .before .before .before .before .before .before .before .loop .inv .1)) _ _ _ _ (c .before .before .before .before .before .before .before .before .before .advance .ensures) _ (c .before .said .given .1) (at .inv .2), still-prepared _ _ (c .before .before .before .before .before .before .before .before .before .advance .kept .1 .1 .0) (move-kept _ _ _ _ _ _ _ _ (c .before .before .before .before .before .before .before .before .before .advance .ensures) .small (at .inv .3 .small)) (move-sizes _ _ _ _ _ _ _ _ (safe-ready _ _ _ _ _ _ 0 _ _ _ (c .before .before .before .before .before .before .before .before .before .before .before .before .before .before .if1 .taken) (c .before .before .before .before .before .before .before .before .before .before .before .before .before .before .before .before .before .before .before .before .before .before .args .limit - (c .before .before .before .before .before .before .before .before .before .before .before .before .before .before .before .before .loop .steps + 1)) (omega (arith, c .before .before .before .before .before .before .before .before .before .before .before .before .before .if2 .left, c .before .before .before .before .before .before .before .before .before .before .before .before .before .before .before .before .loop .inv .1)) (at .inv .2)) (c .before .before .before .before .before .before .before .before .before .advance .ensures) (at .inv .3 .sizes)) (c .before .before .before .before .before .before .before .before .before .advance .kept .1 .1 .1 .1 .1 .1 .0) (at .inv .3), c .before .before .before .before .before .before .before .before .before .advance .kept .1 .1 .0 ∙ at .inv .4, c .before .before .before .before .before .before .before .before .before .advance .kept .1 .1 .1 .1 .1 .1 .0 ∙ at .inv .5, c .before .before .before .before .before .before .before .before .before .advance .kept .1 .1 .1 .1 .1 .1 .1 .0 ∙ at .inv .6))
+    (λ c. let at = c .before .before .before .before .before .before .before .before .before .before .before .before .before .before .before .before .loop in (
+      at .inv .0 ∙ run-go _ _ _ _ _ _ _ _ _ _ (c .before .before .before .before .before .before .before .before .before .before .before .before .before .before .if1 .taken) (c .before .before .before .before .before .before .before .before .before .before .before .before .before .before .before
+          .before .before .before .before .before .before .before .args .limit - (c .before .before .before .before .before .before .before .before .before .before .before .before .before .before .before .before .loop .steps + 1))
+          (omega (arith, c .before .before .before .before .before .before .before .before .before .before .before .before .before .if2 .left, c .before .before .before .before .before .before .before .before .before .before .before .before .before .before .before .before .loop .inv .1)) _ _ _ _
+          (c .before .before .before .before .before .before .before .before .before .advance .ensures) _ (c .before .said .given .1),
+      omega (arith, c .before .before .before .before .before .before .before .before .before .before .before .before .before .if2 .left),
+      safe-go _ _ _ _ _ _ 0 _ _ _ (c .before .before .before .before .before .before .before .before .before .before .before .before .before .before .if1 .taken) (c .before .before .before .before .before .before .before .before .before .before .before .before .before .before .before .before .before
+          .before .before .before .before .before .args .limit - (c .before .before .before .before .before .before .before .before .before .before .before .before .before .before .before .before .loop .steps + 1))
+          (omega (arith, c .before .before .before .before .before .before .before .before .before .before .before .before .before .if2 .left, c .before .before .before .before .before .before .before .before .before .before .before .before .before .before .before .before .loop .inv .1)) _ _ _ _
+          (c .before .before .before .before .before .before .before .before .before .advance .ensures) _ (c .before .said .given .1) (at .inv .2),
+      still-prepared _ _ (c .before .before .before .before .before .before .before .before .before .advance .kept .1 .1 .0) (move-kept _ _ _ _ _ _ _ _ (c .before .before .before .before .before .before .before .before .before .advance .ensures) .small (at .inv .3 .small))
+          (move-sizes _ _ _ _ _ _ _ _ (safe-ready _ _ _ _ _ _ 0 _ _ _ (c .before .before .before .before .before .before .before .before .before .before .before .before .before .before .if1 .taken) (c .before .before .before .before .before .before .before .before .before .before .before .before
+          .before .before .before .before .before .before .before .before .before .before .args .limit - (c .before .before .before .before .before .before .before .before .before .before .before .before .before .before .before .before .loop .steps + 1)) (omega (
+            arith,
+            c .before .before .before .before .before .before .before .before .before .before .before .before .before .if2 .left,
+            c .before .before .before .before .before .before .before .before .before .before .before .before .before .before .before .before .loop .inv .1,
+          )) (at .inv .2)) (c .before .before .before .before .before .before .before .before .before .advance .ensures) (at .inv .3 .sizes)) (c .before .before .before .before .before .before .before .before .before .advance .kept .1 .1 .1 .1 .1 .1 .0) (at .inv .3),
+      c .before .before .before .before .before .before .before .before .before .advance .kept .1 .1 .0 ∙ at .inv .4,
+      c .before .before .before .before .before .before .before .before .before .advance .kept .1 .1 .1 .1 .1 .1 .0 ∙ at .inv .5,
+      c .before .before .before .before .before .before .before .before .before .advance .kept .1 .1 .1 .1 .1 .1 .1 .0 ∙ at .inv .6,
+    ))
     (λ c. search needs) (λ c. search needs) (λ c. search needs) (λ c. search needs)
-    (λ c. carry (c .before .before .before .before .before .before .before .before .before .before .before .before .before .before .before .before .loop .inv .0) (run-stop _ _ _ _ _ _ _ _ _ _ (c .before .before .before .before .before .before .before .before .before .before .before .before .before .before .if1 .taken) (c .before .before .before .before .before .before .before .before .before .before .before .before .before .before .before .before .before .before .before .before .before .before .args .limit - (c .before .before .before .before .before .before .before .before .before .before .before .before .before .before .before .before .loop .steps + 1)) (omega (arith, c .before .before .before .before .before .before .before .before .before .before .before .before .before .if2 .left, c .before .before .before .before .before .before .before .before .before .before .before .before .before .before .before .before .loop .inv .1)) _ _ _ _ (c .before .before .before .before .before .before .before .before .before .advance .ensures) _ (c .before .said2 .given .1)))
+    (λ c. carry (c .before .before .before .before .before .before .before .before .before .before .before .before .before .before .before .before .loop .inv .0)
+    (run-stop _ _ _ _ _ _ _ _ _ _ (c .before .before .before .before .before .before .before .before .before .before .before .before .before .before .if1 .taken) (c .before .before .before .before .before .before .before .before .before .before .before .before .before .before .before .before
+    .before .before .before .before .before .before .args .limit - (c .before .before .before .before .before .before .before .before .before .before .before .before .before .before .before .before .loop .steps + 1)) (omega (
+      arith,
+      c .before .before .before .before .before .before .before .before .before .before .before .before .before .if2 .left,
+      c .before .before .before .before .before .before .before .before .before .before .before .before .before .before .before .before .loop .inv .1,
+    )) _ _ _ _ (c .before .before .before .before .before .before .before .before .before .advance .ensures) _ (c .before .said2 .given .1)))
     (λ c. search needs) (λ c. search needs) (λ c. search needs)
     (λ c. carry (c .before .before .loop .inv .0) (run-done _ _ _ _ _ _ _ _ _ _ (c .if1 .left))))

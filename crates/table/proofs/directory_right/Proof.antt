@@ -37,5 +37,22 @@ directory-right-spec =
     (λ c κs. tt)
     (λ c κs. tt)
     (λ c κs. tt)
-    (λ c κs. sym (c .before .before .before .before .before .before .before .before .before .before .before .before .before .before .before .before .before .in-limits .ensures) ∙ not-false _ (c .before .before .before .before .before .before .before .before .before .before .before .before .before .before .before .before .if1 .left))
-    (λ c. simp (c .fourth-right .ensures, c .before .is-number6 .ensures, c .before .before .word6 .ensures, c .before .before .before .is-number5 .ensures, c .before .before .before .before .word5 .ensures, c .before .before .before .before .before .is-number4 .ensures, c .before .before .before .before .before .before .word4 .ensures, c .before .before .before .before .before .before .before .is-number3 .ensures, c .before .before .before .before .before .before .before .before .word3 .ensures, c .before .before .before .before .before .before .before .before .before .is-number2 .ensures, c .before .before .before .before .before .before .before .before .before .before .word2 .ensures, c .before .before .before .before .before .before .before .before .before .before .before .is-number .ensures, c .before .before .before .before .before .before .before .before .before .before .before .before .word .ensures, sym (c .before .before .before .before .before .before .before .before .before .before .before .before .before .before .before .before .before .before .in-limits .ensures) ∙ not-false _ (c .before .before .before .before .before .before .before .before .before .before .before .before .before .before .before .before .before .if1 .left))))
+    (λ c κs. sym (c .before .before .before .before .before .before .before .before .before .before .before .before .before .before .before .before .before .in-limits .ensures)
+    ∙ not-false _ (c .before .before .before .before .before .before .before .before .before .before .before .before .before .before .before .before .if1 .left))
+    (λ c. simp (
+      c .fourth-right .ensures,
+      c .before .is-number6 .ensures,
+      c .before .before .word6 .ensures,
+      c .before .before .before .is-number5 .ensures,
+      c .before .before .before .before .word5 .ensures,
+      c .before .before .before .before .before .is-number4 .ensures,
+      c .before .before .before .before .before .before .word4 .ensures,
+      c .before .before .before .before .before .before .before .is-number3 .ensures,
+      c .before .before .before .before .before .before .before .before .word3 .ensures,
+      c .before .before .before .before .before .before .before .before .before .is-number2 .ensures,
+      c .before .before .before .before .before .before .before .before .before .before .word2 .ensures,
+      c .before .before .before .before .before .before .before .before .before .before .before .is-number .ensures,
+      c .before .before .before .before .before .before .before .before .before .before .before .before .word .ensures,
+      sym (c .before .before .before .before .before .before .before .before .before .before .before .before .before .before .before .before .before .before .in-limits .ensures)
+          ∙ not-false _ (c .before .before .before .before .before .before .before .before .before .before .before .before .before .before .before .before .before .if1 .left),
+    )))

@@ -14,5 +14,11 @@ variable-of-spec =
     (λ c κs. tt)
     (λ c κs. tt)
     (λ c κs. tt)
-    (λ c. simp (c .end-of2 .ensures, c .before .end-of .ensures, c .before .before .size-of .ensures, sym (c .before .before .before .before .pointer-record .ensures) ∙ c .before .before .before .if2 .taken, sym (c .before .before .before .before .before .before .integer-record .ensures) ∙ c .before .before .before .before .before .if1 .left))
+    (λ c. simp (
+      c .end-of2 .ensures,
+      c .before .end-of .ensures,
+      c .before .before .size-of .ensures,
+      sym (c .before .before .before .before .pointer-record .ensures) ∙ c .before .before .before .if2 .taken,
+      sym (c .before .before .before .before .before .before .integer-record .ensures) ∙ c .before .before .before .before .before .if1 .left,
+    ))
     (λ c. simp (sym (c .before .pointer-record .ensures) ∙ c .if2 .left, sym (c .before .before .before .integer-record .ensures) ∙ c .before .before .if1 .left)))

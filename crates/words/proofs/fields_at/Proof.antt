@@ -18,4 +18,12 @@ fields-at-spec =
     (λ c. search needs) (λ c κs. search needs)
     (λ c. search needs) (λ c κs. search needs)
     (λ c. search needs) (λ c κs. search needs)
-    (λ c. simp (c .word7 .ensures, c .before .word6 .ensures, c .before .before .word5 .ensures, c .before .before .before .word4 .ensures, c .before .before .before .before .word3 .ensures, c .before .before .before .before .before .word2 .ensures, c .before .before .before .before .before .before .word .ensures)))
+    (λ c. simp (
+      c .word7 .ensures,
+      c .before .word6 .ensures,
+      c .before .before .word5 .ensures,
+      c .before .before .before .word4 .ensures,
+      c .before .before .before .before .word3 .ensures,
+      c .before .before .before .before .before .word2 .ensures,
+      c .before .before .before .before .before .before .word .ensures,
+    )))

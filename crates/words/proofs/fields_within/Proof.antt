@@ -11,4 +11,12 @@ fields-within-spec =
     (λ c κs. search needs) (λ c. search needs) (λ c κs. search needs) (λ c. search needs) (λ c κs. search needs) (λ c. search needs)
     (λ c κs. search needs) (λ c. search needs) (λ c κs. search needs) (λ c. search needs) (λ c κs. search needs) (λ c. search needs)
     (λ c κs. search needs)
-    (λ c. simp (c .before .before .before .before .before .before .word-within .ensures, c .before .before .before .before .before .word-within2 .ensures, c .before .before .before .before .word-within3 .ensures, c .before .before .before .word-within4 .ensures, c .before .before .word-within5 .ensures, c .before .word-within6 .ensures, c .word-within7 .ensures)))
+    (λ c. simp (
+      c .before .before .before .before .before .before .word-within .ensures,
+      c .before .before .before .before .before .word-within2 .ensures,
+      c .before .before .before .before .word-within3 .ensures,
+      c .before .before .before .word-within4 .ensures,
+      c .before .before .word-within5 .ensures,
+      c .before .word-within6 .ensures,
+      c .word-within7 .ensures,
+    )))

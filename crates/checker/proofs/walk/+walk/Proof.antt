@@ -12,7 +12,8 @@ use Rattle.blocks.specs.Tree.{parse}
 use Rattle.rules.specs.Verdict.{environmentOf}
 use Rattle.effects.specs.FactRulesLaws.{carried-out, assumed, negated-asked}
 use Rattle.bundles.specs.BundleLaws.{applied-short, measured-by}
-use Rattle.checker.specs.WalkLaws.{Kept, Turn, arm, placed, falls as left-falls, negated-offset, if-counts, while-count, bundle-count, if-offset, while-offset, plain-ranged, kept-none, kept-done, kept-end, kept-unread, plain-refused, turn-plain, turn-untouched, then-refused, else-refused, turn-if, body-refused, turn-while, bundle-refused, turn-bundle, row-named-within, same-force, row-refused, turn-row, sides-differ, ends-differ}
+use Rattle.checker.specs.WalkLaws.{Kept, Turn, arm, placed, falls as left-falls, negated-offset, if-counts, while-count, bundle-count, if-offset, while-offset, plain-ranged, kept-none, kept-done, kept-end, kept-unread, plain-refused}
+use Rattle.checker.specs.WalkLaws.{turn-plain, turn-untouched, then-refused, else-refused, turn-if, body-refused, turn-while, bundle-refused, turn-bundle, row-named-within, same-force, row-refused, turn-row, sides-differ, ends-differ}
 use Rattle.checker.proofs.walk.walk.Reads as walk
 use Rattle.checker.proofs.walk.walk.Kinds as walk-kinds
 use Rattle.checker.proofs.walk.+walk.Lts-walk as walk-lts
@@ -47,7 +48,44 @@ abbrev walk-below : ℕ → In 1 walk-kinds.ps
 walk-below t = and 1 walk-kinds.ps (falls 1 walk-kinds.ps _<_ μ-walk t) walk.Pre
 
 abbrev callees : ℕ → walk-lts.Claims
-callees t = (read-due-reads.Asked, read-due-reads.Learnt, declares-of-reads.Asked, declares-of-reads.Learnt, declare-row-reads.Asked, declare-row-reads.Learnt, ask-statement-reads.Asked, ask-statement-reads.Learnt, answer-reads.Asked, answer-reads.Learnt, plan-statement-reads.Asked, plan-statement-reads.Learnt, after-reads.Asked, after-reads.Learnt, touches-reads.Asked, touches-reads.Learnt, check-effect-reads.Asked, check-effect-reads.Learnt, ask-condition-reads.Asked, ask-condition-reads.Learnt, assume-reads.Asked, assume-reads.Learnt, walk-below t, walk.Post, negated-reads.Asked, negated-reads.Learnt, same-rows-reads.Asked, same-rows-reads.Learnt, join-reads.Asked, join-reads.Learnt, force-of-reads.Asked, force-of-reads.Learnt, lose-reads.Asked, lose-reads.Learnt, walk-bundle-reads.Asked, walk-bundle-reads.Learnt)
+callees t = (
+  read-due-reads.Asked,
+  read-due-reads.Learnt,
+  declares-of-reads.Asked,
+  declares-of-reads.Learnt,
+  declare-row-reads.Asked,
+  declare-row-reads.Learnt,
+  ask-statement-reads.Asked,
+  ask-statement-reads.Learnt,
+  answer-reads.Asked,
+  answer-reads.Learnt,
+  plan-statement-reads.Asked,
+  plan-statement-reads.Learnt,
+  after-reads.Asked,
+  after-reads.Learnt,
+  touches-reads.Asked,
+  touches-reads.Learnt,
+  check-effect-reads.Asked,
+  check-effect-reads.Learnt,
+  ask-condition-reads.Asked,
+  ask-condition-reads.Learnt,
+  assume-reads.Asked,
+  assume-reads.Learnt,
+  walk-below t,
+  walk.Post,
+  negated-reads.Asked,
+  negated-reads.Learnt,
+  same-rows-reads.Asked,
+  same-rows-reads.Learnt,
+  join-reads.Asked,
+  join-reads.Learnt,
+  force-of-reads.Asked,
+  force-of-reads.Learnt,
+  lose-reads.Asked,
+  lose-reads.Learnt,
+  walk-bundle-reads.Asked,
+  walk-bundle-reads.Learnt,
+)
 
 abbrev Inv : walk-lts.InvT-loop
 Inv table sections frame first end allowed sizes spans pointers at₀ left₀ force₀ now₀ side₀ at left force now side = Kept table sections (environmentOf table sections) end allowed (parse allowed table sections first end) (stateOf (now₀ .facts) (force₀ .rows .each)) at left (now .facts) force
@@ -185,7 +223,8 @@ pub +walk-spec : {M : Type 1} → statement M
     (c .before .before .before .before .before .before .before .before .before .before .before .assume2 .ensures) (c .before .before .before .before .before .before .before .before .before .before .after3 .ensures))
     (c .before .before .before .before .before .before .before .before .before .walk2 .ensures) (c .before .before .before .before .before .before .before .enum-told9 .given .1) (c .before .before .before .before .before .same-rows .ensures) (not-false _
     (c .before .before .before .before .if3 .left))
-    (c .before .before .before .before .before .before .before .before .before .before .before .before .before .before .before .before .before .before .before .before .before .before .before .before .before .before .before .before .before .before .before .before .before .before .before .pre .1 .1 .pointers) (c .before .before .before .join .ensures) (c .force-of .ensures))
+    (c .before .before .before .before .before .before .before .before .before .before .before .before .before .before .before .before .before .before .before .before .before .before .before .before .before .before .before .before .before .before .before .before .before .before .before .pre .1 .1
+    .pointers) (c .before .before .before .join .ensures) (c .force-of .ensures))
     (λ c. omega (arith, (turn t (c .before .before .before .before .before .before .before .before .before .before .before .before .before .before .before .before .before .before .before .before .before .before)) .some))
     (λ c. turn-if (arm (turn t (c .before .before .before .before .before .before .before .before .before .before .before .before .before .before .before .before .before .before .before .before .before .before))
     (c .before .before .before .before .before .before .before .before .before .before .before .before .before .before .before .before .before .before .before .before .statement2 .given .1)) (assumed _ _ _
@@ -199,7 +238,9 @@ pub +walk-spec : {M : Type 1} → statement M
     (c .before .before .before .before .before .before .before .before .before .before .before .before .before .before .before .before .before .answer2 .ensures) (c .before .before .before .before .before .before .before .before .before .before .assume2 .ensures)
     (c .before .before .before .before .before .before .before .before .before .after3 .ensures)) (c .before .before .before .before .before .before .before .before .walk2 .ensures) (c .before .before .before .before .before .before .enum-told9 .given .1)
     (c .before .before .before .before .same-rows .ensures) (not-false _ (c .before .before .before .if3 .left))
-    (c .before .before .before .before .before .before .before .before .before .before .before .before .before .before .before .before .before .before .before .before .before .before .before .before .before .before .before .before .before .before .before .before .before .before .pre .1 .1 .pointers) (c .before .before .join .ensures) (same-force ((turn t (c .before .before .before .before .before .before .before .before .before .before .before .before .before .before .before .before .before .before .before .before .before .before)) .so-far .forced) (c .before .same-rows2 .ensures) (not-false _ (c .if4 .left))))
+    (c .before .before .before .before .before .before .before .before .before .before .before .before .before .before .before .before .before .before .before .before .before .before .before .before .before .before .before .before .before .before .before .before .before .before .pre .1 .1
+    .pointers) (c .before .before .join .ensures)
+    (same-force ((turn t (c .before .before .before .before .before .before .before .before .before .before .before .before .before .before .before .before .before .before .before .before .before .before)) .so-far .forced) (c .before .same-rows2 .ensures) (not-false _ (c .if4 .left))))
     (λ c. search needs)
     (λ c. let u = (arm (turn t (c .before .before .before)) (c .before .statement3 .given .1)) in omega (arith, placed u, while-count u))
     (λ c κs. let u = (arm (turn t (c .before .before .before)) (c .before .statement3 .given .1)) in omega (arith, placed u, while-count u))

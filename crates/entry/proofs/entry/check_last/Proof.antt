@@ -24,8 +24,13 @@ check-last-spec =
     Inv-loop μ-loop
     (λ c. let z : c .before .before .args .sections .objects - 0 ≡ c .before .before .args .sections .objects = omega arith in (rw z, omega arith))
     (λ c κs. omega (arith, c .before .before .before .before .pre, c .loop-test .taken))
-    (λ c. failures-first _ _ (c .before .before .before .before .before .before .args .sections .objects - c .before .before .before .loop .o) _ (omega (arith, c .before .before .loop-test .taken)) (sym (c .before .last-right .ensures) ∙ not-true _ (c .if1 .taken)) ∙ ap entered (sym (c .before .before .before .loop .inv .0)))
+    (λ c. failures-first _ _ (c .before .before .before .before .before .before .args .sections .objects - c .before .before .before .loop .o) _ (omega (arith, c .before .before .loop-test .taken)) (sym (c .before .last-right .ensures) ∙ not-true _ (c .if1 .taken))
+    ∙ ap entered (sym (c .before .before .before .loop .inv .0)))
     (λ c. search needs)
     (λ c. omega (arith, c .before .before .loop-test .taken))
-    (λ c. (c .before .before .before .loop .inv .0 ∙ failures-next _ _ _ (c .before .before .before .before .before .before .args .sections .objects - (c .before .before .before .loop .o + 1)) _ (omega (arith, c .before .before .loop-test .taken)) (sym (c .before .last-right .ensures) ∙ not-false _ (c .if1 .left)), omega (arith, c .before .before .loop-test .taken)))
+    (λ c. (
+      c .before .before .before .loop .inv .0
+          ∙ failures-next _ _ _ (c .before .before .before .before .before .before .args .sections .objects - (c .before .before .before .loop .o + 1)) _ (omega (arith, c .before .before .loop-test .taken)) (sym (c .before .last-right .ensures) ∙ not-false _ (c .if1 .left)),
+      omega (arith, c .before .before .loop-test .taken),
+    ))
     (λ c. failures-none _ _ (c .before .before .before .before .args .sections .objects - c .before .loop .o) _ (omega (arith, c .loop-test .left)) ∙ ap entered (sym (c .before .loop .inv .0))))

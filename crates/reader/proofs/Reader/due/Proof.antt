@@ -113,7 +113,8 @@ module _ {M : Type 1} (𝓤 : URA M) (H : Heap 𝓤) (A : Atoms 𝓤) (W : Given
   apart is fits =
       qed W ((‵ (flft κ q) ⊛ ‵ ftrue) ∷ ‵ Owns ∷ []) ∵
       move ! (1 ∷ []) $ fsplit ! $ use1 W (‵ Own ⊛ ‵ Own) (LL.copy (D (κ, tt)) (T′.the-copy (namedLft 1 0 tt (κ, tt))) 𝓤 H A W .twice d (mach ∷ [])) $ split ! $ move ! (1 ∷ 2 ∷ []) $ fjoin ! $ move ! (1 ∷ []) $
-      use1 W (given (mach ∷ [] ≡ mach ∷ []) (‵ (all-own (D (κ, tt) .parts) (L (κ, tt)) held))) (own-open 𝓤 H A W (D (κ, tt)) (L (κ, tt)) held mach) $ learn ! (λ _. use1 W (‵ (ownAt (D (κ, tt) .parts) (L (κ, tt)) 0 (d .table)) ⊛ ‵ (rest (D (κ, tt) .parts) (L (κ, tt)) 0 held)) (own-out 𝓤 H A W (D (κ, tt) .parts) (L (κ, tt)) 0 held) $ split ! $
+      use1 W (given (mach ∷ [] ≡ mach ∷ []) (‵ (all-own (D (κ, tt) .parts) (L (κ, tt)) held))) (own-open 𝓤 H A W (D (κ, tt)) (L (κ, tt)) held mach) $ learn !
+      (λ _. use1 W (‵ (ownAt (D (κ, tt) .parts) (L (κ, tt)) 0 (d .table)) ⊛ ‵ (rest (D (κ, tt) .parts) (L (κ, tt)) 0 held)) (own-out 𝓤 H A W (D (κ, tt) .parts) (L (κ, tt)) 0 held) $ split ! $
       -- [what the slice owns; what the number owns; what the parameters own; the token]
       move ! (1 ∷ []) $ drop ! $ nothing ! $ owned ! usize (Is usize) (uint-makes 𝓤 H A W w64) (d .at) _ (refl, fits) $ fjoin ! $ owned ! S.the-row (Is S.the-row) (LL.makes S.the-type S′.the-plain 𝓤 H A) s _ is $ fjoin ! $ move ! (1 ∷ 0 ∷ []) $ fjoin ! $
       move ! (2 ∷ 0 ∷ []) $ use2 W (raw (ReadStatement 𝓤 H A mem run .pre to)) asked $ frame ! $ done !)

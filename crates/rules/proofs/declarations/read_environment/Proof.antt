@@ -10,4 +10,13 @@ read-environment-spec =
     tie.close
     (tie.spec
     (λ c κs. search needs) (λ c κs. search needs) (λ c κs. search needs) (λ c κs. search needs) (λ c κs. search needs) (λ c κs. search needs) (λ c κs. search needs) (λ c κs. search needs)
-    (λ c. simp (c .read-rows .ensures, c .before .read-spans .ensures, c .before .before .read-terminated .ensures, c .before .before .before .read-lengths .ensures, c .before .before .before .before .read-declared .ensures, c .before .before .before .before .before .read-sizes .ensures, c .before .before .before .before .before .before .read-strings .ensures, c .before .before .before .before .before .before .before .read-pointers .ensures)))
+    (λ c. simp (
+      c .read-rows .ensures,
+      c .before .read-spans .ensures,
+      c .before .before .read-terminated .ensures,
+      c .before .before .before .read-lengths .ensures,
+      c .before .before .before .before .read-declared .ensures,
+      c .before .before .before .before .before .read-sizes .ensures,
+      c .before .before .before .before .before .before .read-strings .ensures,
+      c .before .before .before .before .before .before .before .read-pointers .ensures,
+    )))

@@ -16,5 +16,17 @@ read-arithmetic-spec =
     (λ c κs. tt)
     (λ c κs. tt)
     (λ c κs. tt)
-    (λ c. simp (c .plain4 .ensures, c .before .plain3 .ensures, c .before .before .plain2 .ensures, c .before .before .before .plain .ensures, simp (c .before .before .before .before .before .unused-from .ensures, c .before .before .before .before .before .before .is-below .ensures, c .before .before .before .before .before .before .before .names-integer3 .ensures, c .before .before .before .before .before .before .before .before .names-integer2 .ensures, c .before .before .before .before .before .before .before .before .before .names-integer .ensures) at (c .before .before .before .before .if1 .taken)))
+    (λ c. simp (
+      c .plain4 .ensures,
+      c .before .plain3 .ensures,
+      c .before .before .plain2 .ensures,
+      c .before .before .before .plain .ensures,
+      simp (
+        c .before .before .before .before .before .unused-from .ensures,
+        c .before .before .before .before .before .before .is-below .ensures,
+        c .before .before .before .before .before .before .before .names-integer3 .ensures,
+        c .before .before .before .before .before .before .before .before .names-integer2 .ensures,
+        c .before .before .before .before .before .before .before .before .before .names-integer .ensures,
+      ) at (c .before .before .before .before .if1 .taken),
+    ))
     (λ c. simp (simp (c .before .unused-from .ensures, c .before .before .is-below .ensures, c .before .before .before .names-integer3 .ensures, c .before .before .before .before .names-integer2 .ensures, c .before .before .before .before .before .names-integer .ensures) at (c .if1 .left))))

@@ -14,5 +14,15 @@ read-pointer-offset-spec =
     (λ c κs. tt)
     (λ c κs. tt)
     (λ c κs. tt)
-    (λ c. simp (c .plain2 .ensures, c .before .plain .ensures, simp (c .before .before .before .unused-from .ensures, c .before .before .before .before .takes-pointer .ensures, c .before .before .before .before .before .is-constant .ensures, c .before .before .before .before .before .before .names-pointer2 .ensures, c .before .before .before .before .before .before .before .names-pointer .ensures) at (c .before .before .if1 .taken)))
+    (λ c. simp (
+      c .plain2 .ensures,
+      c .before .plain .ensures,
+      simp (
+        c .before .before .before .unused-from .ensures,
+        c .before .before .before .before .takes-pointer .ensures,
+        c .before .before .before .before .before .is-constant .ensures,
+        c .before .before .before .before .before .before .names-pointer2 .ensures,
+        c .before .before .before .before .before .before .before .names-pointer .ensures,
+      ) at (c .before .before .if1 .taken),
+    ))
     (λ c. simp (simp (c .before .unused-from .ensures, c .before .before .takes-pointer .ensures, c .before .before .before .is-constant .ensures, c .before .before .before .before .names-pointer2 .ensures, c .before .before .before .before .before .names-pointer .ensures) at (c .if1 .left))))

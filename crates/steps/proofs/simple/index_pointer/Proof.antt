@@ -14,4 +14,5 @@ index-pointer-spec =
     (λ c κs. search needs) (λ c. search needs) (λ c. search needs) (λ c κs. search needs)
     (λ c κs. (rw (c .before .before .size-in .ensures) (c .before .before .before .before .before .before .before .pre .5 _), search needs))
     (λ c. search needs) (λ c. search needs) (λ c κs. search needs) (λ c. search needs)
-    (λ c. assigns-index _ _ _ _ _ _ _ _ _ _ _ (c .before .before .before .before .before .before .before .before .before .before .before .before .pre .3) (c .before .before .before .before .before .before .before .before .wide .ensures .0) (c .before .before .before .before .scaled .ensures .0 ∙ ap₂ _*_ (c .before .before .before .before .before .before .before .size-in .ensures) (c .before .before .before .before .before .wide2 .ensures .0)) (c .before .before .assign-pointer .ensures)))
+    (λ c. assigns-index _ _ _ _ _ _ _ _ _ _ _ (c .before .before .before .before .before .before .before .before .before .before .before .before .pre .3) (c .before .before .before .before .before .before .before .before .wide .ensures .0)
+    (c .before .before .before .before .scaled .ensures .0 ∙ ap₂ _*_ (c .before .before .before .before .before .before .before .size-in .ensures) (c .before .before .before .before .before .wide2 .ensures .0)) (c .before .before .assign-pointer .ensures)))

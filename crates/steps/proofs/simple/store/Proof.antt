@@ -13,10 +13,15 @@ store-spec =
     (λ c κs. search needs)
     (λ c κs. search needs) (λ c. search needs) (λ c. search needs)
     (λ c. assigns-stop (rw (c .before .before .before .value-at .ensures .0, c .before .before .before .before .address-of .ensures .0) at (c .before .before .check-store .ensures)) (c .enum-told2 .given .1))
-    (λ c. let r = c .before .before .before .before .before .before .before .before .pre .inside (goes-on _ _ _ _ _ (rw (c .before .before .before .value-at .ensures .0, c .before .before .before .before .address-of .ensures .0) at (c .before .before .check-store .ensures)) (c .enum-told .given .1)) in omega (arith, r .0, r .1, c .before .before .before .before .address-of .ensures .0))
+    (λ c. let r = c .before .before .before .before .before .before .before .before .pre .inside
+    (goes-on _ _ _ _ _ (rw (c .before .before .before .value-at .ensures .0, c .before .before .before .before .address-of .ensures .0) at (c .before .before .check-store .ensures)) (c .enum-told .given .1)) in omega (arith, r .0, r .1, c .before .before .before .before .address-of .ensures .0))
     (λ c. search needs)
     (λ c. c .before .before .before .before .before .before .before .before .before .pre .value)
     (λ c. search needs)
-    (λ c. let r = c .before .before .before .before .before .before .before .before .before .pre .inside (goes-on _ _ _ _ _ (rw (c .before .before .before .before .value-at .ensures .0, c .before .before .before .before .before .address-of .ensures .0) at (c .before .before .before .check-store .ensures)) (c .before .enum-told .given .1)) in omega (arith, r .0, r .1, c .before .before .before .before .before .address-of .ensures .0))
+    (λ c. let r = c .before .before .before .before .before .before .before .before .before .pre .inside (goes-on _ _ _ _ _ (rw (
+      c .before .before .before .before .value-at .ensures .0,
+      c .before .before .before .before .before .address-of .ensures .0,
+    ) at (c .before .before .before .check-store .ensures)) (c .before .enum-told .given .1)) in omega (arith, r .0, r .1, c .before .before .before .before .before .address-of .ensures .0))
     (λ c. search needs)
-    (λ c. rw (c .before .before .before .before .before .address-of .ensures .0) (assigns-go (rw (c .before .before .before .before .value-at .ensures .0, c .before .before .before .before .before .address-of .ensures .0) at (c .before .before .before .check-store .ensures)) (c .before .enum-told .given .1))))
+    (λ c. rw (c .before .before .before .before .before .address-of .ensures .0)
+    (assigns-go (rw (c .before .before .before .before .value-at .ensures .0, c .before .before .before .before .before .address-of .ensures .0) at (c .before .before .before .check-store .ensures)) (c .before .enum-told .given .1))))
