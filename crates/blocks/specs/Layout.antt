@@ -4,9 +4,9 @@ use mathlib.Core.Bool.{Bool, true, false, _||_}
 use mathlib.Core.List.{List, [], _∷_}
 use lib.IntN.{ℤ}
 use lib.Dec.{ltb, eqb}
-use Rattle.refusals.specs.declared.Refusal.{Refusal}
-use Rattle.refusals.specs.declared.Refusal.the-variants.{StatementRecord, BlockLayout}
-use Rattle.sections.specs.declared.Sections.{Sections}
+use Rattle.answers.specs.declared.refusals.Refusal.{Refusal}
+use Rattle.answers.specs.declared.refusals.Refusal.the-variants.{StatementRecord, BlockLayout}
+use Rattle.words.specs.declared.sections.Sections.{Sections}
 use Rattle.statements.specs.declared.Statement.{Statement}
 use Rattle.statements.specs.declared.Statement.the-variants.{Plain, If, While, Bundle}
 use Rattle.statements.specs.declared.StatementRead.{StatementRead}
@@ -67,7 +67,7 @@ nodeLayout false s rec T h d a b = []
 nodeLayout true Unread rec T h d a b = StatementRecord a ∷ []
 nodeLayout true (Read s) rec T h d a b = also (when (ltb maxDepth d) (BlockLayout a)) (kindLayout s rec T h d a b)
 
--- The block of a to b - 1 at the depth d; the fuel is the number of statements left, as in `parse`, and it is enough (`laid` in flow/specs/ShapeLaws).
+-- The block of a to b - 1 at the depth d; the fuel is the number of statements left, as in `parse`, and it is enough (`laid` in blocks/specs/ShapeLaws).
 unfoldable pub blockLayout : ℕ → List ℤ → Sections → ℕ → ℕ → ℕ → List Refusal
 blockLayout zero T h d a b = []
 blockLayout (suc f) T h d a b = nodeLayout (ltb a b) (statementAt T h a) (λ e x y. blockLayout f T h e x y) T h d a b

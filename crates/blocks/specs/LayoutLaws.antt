@@ -9,9 +9,9 @@ use native.Mathlib.Nat.{pos-of-ne-zero}
 use borrow.Author.Tests.{lt-ltb, le-ltb, ne-eqb, eqb-false, ltb-false}
 use lib.IntN.{ℤ}
 use lib.Dec.{ltb, eqb}
-use Rattle.refusals.specs.declared.Refusal.{Refusal}
-use Rattle.refusals.specs.declared.Refusal.the-variants.{StatementRecord, BlockLayout}
-use Rattle.sections.specs.declared.Sections.{Sections}
+use Rattle.answers.specs.declared.refusals.Refusal.{Refusal}
+use Rattle.answers.specs.declared.refusals.Refusal.the-variants.{StatementRecord, BlockLayout}
+use Rattle.words.specs.declared.sections.Sections.{Sections}
 use Rattle.statements.specs.declared.Simple.{Simple}
 use Rattle.statements.specs.declared.Statement.{Statement}
 use Rattle.statements.specs.declared.Statement.the-variants.{Plain, If, While, Bundle}

@@ -4,3 +4,10 @@ pub mod Layout
 pub mod LayoutLaws
 pub mod Parts
 pub mod PartsLaws
+pub mod Flow
+pub mod FlowLaws
+pub mod Along
+pub mod Targets
+pub mod Shape
+pub mod ShapeLaws
+pub mod SuccessorLaws

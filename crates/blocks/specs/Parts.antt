@@ -5,8 +5,8 @@ use mathlib.Core.Bool.{Bool, true, false, cond}
 use mathlib.Core.List.{List}
 use lib.IntN.{ℤ}
 use lib.Dec.{ltb}
-use Rattle.refusals.specs.declared.Refusal.the-variants.{BlockLayout}
-use Rattle.sections.specs.declared.Sections.{Sections}
+use Rattle.answers.specs.declared.refusals.Refusal.the-variants.{BlockLayout}
+use Rattle.words.specs.declared.sections.Sections.{Sections}
 use Rattle.blocks.specs.declared.Parts.{Parts}
 use Rattle.blocks.specs.declared.Parts.the-variants.{Refused, Next, Blocks}
 use Rattle.blocks.specs.declared.Layout.the-variants as layout

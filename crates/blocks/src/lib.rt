@@ -1,9 +1,11 @@
 // The blocks of a routine table: the tree that they are, and their layout (cause 6).
-use refusals::Refusal;
-use sections::Sections;
+pub mod flow; // flow.rt: the flow of a routine table: what is due after each statement, written once for a whole table
+
+use answers::refusals::Refusal;
 use statements::Statement;
 use statements::StatementRead;
 use statements::read_statement;
+use words::sections::Sections;
 ghost use mathlib.Core.Path.{_≡_};
 ghost use Prim.Native.Nat.{_<_};
 ghost use Rattle.blocks.specs.Layout.{verdict, contents, bundleLayout, blockLayout, layout};

@@ -13,7 +13,7 @@ use Rattle.arrays.specs.Choice.{cond-either}
 use Rattle.arrays.specs.Tabulate.{tabulate}
 use Rattle.arrays.specs.TabulateLaws.{length-tabulate, getD-tabulate, Filled, filled-more, filled-next, filled-kept}
 use Rattle.facts.specs.declared.FactSet.{FactSet}
-use Rattle.sections.specs.SectionsLaws.{both}
+use Rattle.words.specs.SectionsLaws.{both}
 use Rattle.statements.specs.declared.Simple.{Simple}
 use Rattle.statements.specs.declared.Simple.the-variants.{Literal, AddConstant, Arithmetic, Null, Address}
 use Rattle.statements.specs.declared.Simple.the-variants.{PointerOffset, PointerIndex, Load, Store, Check, Declare}
@@ -26,10 +26,10 @@ use Rattle.rules.specs.declared.Bounds.{Bounds}
 use Rattle.rules.specs.declared.Environment.{Environment}
 use Rattle.rules.specs.declared.Effect.{Effect}
 use Rattle.rules.specs.declared.Effect.the-variants.{Keep, Forget, Shift, Copy, Object}
-use Rattle.stays.specs.Stays.{endStays, boundsStay, stays}
-use Rattle.stays.specs.StaysLaws.{stored, stored-known}
-use Rattle.transfer.specs.Transfer.{sourceOf, effectOnOne}
-use Rattle.transfer.specs.TransferLaws.{effect-on-one, effect-on-read, source-within}
+use Rattle.bounds.specs.Stays.{endStays, boundsStay, stays}
+use Rattle.bounds.specs.StaysLaws.{stored, stored-known}
+use Rattle.bounds.specs.Transfer.{sourceOf, effectOnOne}
+use Rattle.bounds.specs.TransferLaws.{effect-on-one, effect-on-read, source-within}
 use Rattle.bounds.specs.Kept.{keepsAll}
 use Rattle.rules.specs.BoundsRules as boundsRules
 

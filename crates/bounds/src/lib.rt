@@ -1,4 +1,8 @@
 // What an effect makes of the known bounds of all pointers.
+mod stays; // stays.rt: which bounds an effect leaves as they are: they need not be made anew, nor shown again
+pub mod transfer; // transfer.rt: what an effect makes of the bounds of one pointer
+pub mod touched; // touched.rt: whether an effect touches declared bounds: only those have to be shown again
+
 use rules::Bounds;
 use rules::Effect;
 use stays::changed_by;

@@ -7,9 +7,9 @@ use native.Mathlib.Omega.{arith}
 use lib.IntN.{ℤ}
 use lib.ListN.{set}
 use Rattle.facts.specs.declared.FactSet.{FactSet}
-use Rattle.refusals.specs.declared.Refusal.{Refusal}
-use Rattle.refusals.specs.declared.Refusal.the-variants.{BundleAccess}
-use Rattle.sections.specs.declared.Sections.{Sections}
+use Rattle.answers.specs.declared.refusals.Refusal.{Refusal}
+use Rattle.answers.specs.declared.refusals.Refusal.the-variants.{BundleAccess}
+use Rattle.words.specs.declared.sections.Sections.{Sections}
 use Rattle.statements.specs.declared.Simple.{Simple}
 use Rattle.statements.specs.declared.Simple.the-variants.{Declare}
 use Rattle.statements.specs.declared.Statement.{Statement}
@@ -19,7 +19,7 @@ use Rattle.statements.specs.Statements.{statementAt}
 use Rattle.statements.specs.StatementLaws.{read-typed, read-limits}
 use Rattle.blocks.specs.Tree.{simples, simplesFrom}
 use Rattle.blocks.specs.Layout.{also}
-use Rattle.flow.specs.FlowLaws.{simples-some}
+use Rattle.blocks.specs.FlowLaws.{simples-some}
 use Rattle.rules.specs.States.{State}
 use Rattle.rules.specs.Stored.{factsAfter, effect, unshown, accessShown, bundleBounds, bundleFaults}
 use Rattle.rules.specs.Stored.{boundsAfter, stateAfter, unshownIn, rowUnshown, accessIn, bundleAfter}
@@ -29,13 +29,13 @@ use Rattle.rules.specs.Verdict.{verdictOf}
 use Rattle.rules.specs.Ranges.{InRange, Measured, Short}
 use Rattle.effects.specs.Applied.{Applied, applied}
 use Rattle.declared.specs.Shown.{declaresOf}
-use Rattle.touched.specs.Touched.{seenAs, seenOf}
-use Rattle.touched.specs.declared.Seen.{Seen}
+use Rattle.bounds.specs.Touched.{seenAs, seenOf}
+use Rattle.bounds.specs.declared.touched.Seen.{Seen}
 use Rattle.declared.specs.ShownLaws.{row-named, rows-stay, no-row-asked, seen-unshown, seen-access}
 use Rattle.declared.specs.declared.Declares.the-variants.{Row, NoRow}
-use Rattle.force.specs.Force.{Framed, stateOf}
-use Rattle.force.specs.ForceLaws.{none-refused, pass, refuse-part}
-use Rattle.force.specs.declared.Frame.{Frame}
+use Rattle.declared.specs.Force.{Framed, stateOf}
+use Rattle.declared.specs.ForceLaws.{none-refused, pass, refuse-part}
+use Rattle.declared.specs.declared.force.Frame.{Frame}
 use Rattle.bundles.specs.Bundles.{Passes, WalksBundle}
 use Rattle.effects.specs.FactRulesLaws.{effect-spans}
 use Rattle.bounds.specs.BoundsRulesLaws.{effect-short}

@@ -6,13 +6,13 @@ use Rattle.facts.specs.declared.FactSet.{FactSet}
 use Rattle.statements.specs.declared.Simple.{Simple}
 use Rattle.rules.specs.States.{State}
 use Rattle.rules.specs.Stored.{bundleBounds, bundleFaults, unshownIn, bundleAfter}
-use Rattle.refusals.specs.declared.Refusal.{Refusal}
+use Rattle.answers.specs.declared.refusals.Refusal.{Refusal}
 use Rattle.blocks.specs.Layout.{also}
 use Rattle.rules.specs.Rules.{boundsAt}
 use Rattle.rules.specs.Verdict.{verdictOf}
 use Rattle.rules.specs.declared.Bounds.{Bounds}
 use Rattle.rules.specs.declared.Environment.{Environment}
-use Rattle.force.specs.Force.{stateOf}
+use Rattle.declared.specs.Force.{stateOf}
 use Rattle.bundles.specs.declared.Walked.{Walked}
 
 -- The verdict is that of the faults; where there is none, the facts and the rows in force are these.

@@ -12,12 +12,12 @@ use Rattle.arrays.specs.Tabulate.{tabulate}
 use Rattle.arrays.specs.TabulateLaws.{length-tabulate, getD-tabulate}
 use Rattle.facts.specs.Store.{newSet}
 use Rattle.facts.specs.declared.FactSet.{FactSet}
-use Rattle.refusals.specs.declared.Refusal.{Refusal}
+use Rattle.answers.specs.declared.refusals.Refusal.{Refusal}
 use Rattle.words.specs.Words.{word}
-use Rattle.sections.specs.Sections.{inLimits, objectStart, objectTerminated}
-use Rattle.sections.specs.SectionsLaws.{object-limits}
-use Rattle.sections.specs.declared.Sections.{Sections}
-use Rattle.variables.specs.Variables.{objectCells, objectAt}
+use Rattle.words.specs.Sections.{inLimits, objectStart, objectTerminated}
+use Rattle.words.specs.SectionsLaws.{object-limits}
+use Rattle.words.specs.declared.sections.Sections.{Sections}
+use Rattle.table.specs.Variables.{objectCells, objectAt}
 use Rattle.table.specs.Form.{formOf}
 use Rattle.table.specs.FormLaws.{Formed, well-formed}
 use Rattle.table.specs.declared.Form.{Form}
@@ -37,8 +37,8 @@ use Rattle.rules.specs.declared.Verdict.{Verdict}
 use Rattle.rules.specs.declared.Verdict.the-variants.{Refused}
 use Rattle.bundles.specs.declared.Walked.{Walked}
 use Rattle.rules.specs.Verdict as verdictRules
-use Rattle.force.specs.Force.{stateOf, Forced}
-use Rattle.force.specs.declared.Force.{Force}
+use Rattle.declared.specs.Force.{stateOf, Forced}
+use Rattle.declared.specs.declared.force.Force.{Force}
 
 -- The spans that a well-formed table declares are in range.
 module _ (T : List ℤ) (h : Sections) (w : Formed T h) where

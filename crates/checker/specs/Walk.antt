@@ -2,7 +2,7 @@
 use mathlib.Core.List.{List}
 use lib.IntN.{ℤ}
 use Rattle.facts.specs.declared.FactSet.{FactSet}
-use Rattle.sections.specs.declared.Sections.{Sections}
+use Rattle.words.specs.declared.sections.Sections.{Sections}
 use Rattle.blocks.specs.Tree.{Block}
 use Rattle.rules.specs.States.{State}
 use Rattle.rules.specs.Stored.{blockAfter, blockFaults}

@@ -8,9 +8,9 @@ use lib.IntN.{ℤ}
 use lib.ListN.{set, getD}
 use Rattle.facts.specs.Store.{joined}
 use Rattle.facts.specs.declared.FactSet.{FactSet}
-use Rattle.refusals.specs.declared.Refusal.{Refusal}
-use Rattle.refusals.specs.declared.Refusal.the-variants.{StatementRecord, RowsDiffer}
-use Rattle.sections.specs.declared.Sections.{Sections}
+use Rattle.answers.specs.declared.refusals.Refusal.{Refusal}
+use Rattle.answers.specs.declared.refusals.Refusal.the-variants.{StatementRecord, RowsDiffer}
+use Rattle.words.specs.declared.sections.Sections.{Sections}
 use Rattle.conditions.specs.ConditionLaws.{offset-small}
 use Rattle.conditions.specs.declared.Condition.{Condition}
 use Rattle.conditions.specs.Negation.{negatedOf}
@@ -25,7 +25,7 @@ use Rattle.blocks.specs.Tree.{Block, nil, unread, simples, node, parse}
 use Rattle.blocks.specs.TreeLaws.{parse-none, parse-end, parse-some}
 use Rattle.blocks.specs.Layout.{also, when}
 use Rattle.rules.specs.States.{State}
-use Rattle.flow.specs.Targets.{targetsFrom}
+use Rattle.blocks.specs.Targets.{targetsFrom}
 use Rattle.rules.specs.Stored.{factsAfter, conditionFacts, loopFacts, effect, unshown, bundleBounds, bundleFaults, blockFaults, boundsAfter}
 use Rattle.rules.specs.Stored.{stateAfter, assumed, atHead, unshownIn, rowUnshown, declaredIn, bundleAfter, sidesJoined, blockAfter}
 use Rattle.rules.specs.BoundsRules.{inForce}
@@ -33,14 +33,14 @@ use Rattle.rules.specs.Rules.{boundsAt, sameRows, rowsAt}
 use Rattle.rules.specs.Verdict.{verdictOf}
 use Rattle.rules.specs.Ranges.{InRange}
 use Rattle.effects.specs.Applied.{Applied, applied}
-use Rattle.touched.specs.Touched.{touches, seenAs, seenOf}
-use Rattle.touched.specs.declared.Seen.{Seen}
+use Rattle.bounds.specs.Touched.{touches, seenAs, seenOf}
+use Rattle.bounds.specs.declared.touched.Seen.{Seen}
 use Rattle.declared.specs.UntouchedLaws.{unnamed}
 use Rattle.bundles.specs.Bundles.{WalksBundle}
 use Rattle.checker.specs.Walk.{Walks}
 use Rattle.effects.specs.FactRulesLaws.{read-ranged}
 use Rattle.rules.specs.declared.Environment.{Environment}
-use Rattle.lookups.specs.declared.Rows.{Rows}
+use Rattle.rules.specs.declared.lookups.Rows.{Rows}
 use Rattle.rules.specs.declared.Effect.{Effect}
 use Rattle.rules.specs.declared.Effect.the-variants.{Keep}
 use Rattle.rules.specs.declared.Verdict.{Verdict}
@@ -49,10 +49,10 @@ use Rattle.bundles.specs.declared.Walked.{Walked}
 use Rattle.declared.specs.Shown.{declaresOf}
 use Rattle.declared.specs.ShownLaws.{row-named, rows-stay, seen-unshown}
 use Rattle.declared.specs.declared.Declares.the-variants.{Row, NoRow}
-use Rattle.force.specs.Force.{stateOf, Forced, DeclaresRow}
-use Rattle.force.specs.ForceLaws.{pass, none-refused}
-use Rattle.force.specs.declared.Force.{Force}
-use Rattle.force.specs.declared.Declared.{Declared}
+use Rattle.declared.specs.Force.{stateOf, Forced, DeclaresRow}
+use Rattle.declared.specs.ForceLaws.{pass, none-refused}
+use Rattle.declared.specs.declared.force.Force.{Force}
+use Rattle.declared.specs.declared.force.Declared.{Declared}
 use Rattle.bundles.specs.BundleLaws.{stops, ends, carry, also-assoc, applied-facts, applied-effect}
 use Rattle.bundles.specs.BundleLaws.{lineFaults, declare-after, declare-keeps, nothing-asked, row-limits}
 use Rattle.rules.specs.Rules as walkRules

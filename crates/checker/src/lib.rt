@@ -3,13 +3,13 @@ mod walk; // walk.rt: the walk over the statements
 
 use blocks::Layout;
 use blocks::read_layout;
+use declared::force::frame_of;
+use declared::force::own_force;
 use facts::FactSet;
-use force::frame_of;
-use force::own_force;
 use rules::Verdict;
-use sections::Sections;
 use table::Form;
 use table::read_form;
+use words::sections::Sections;
 ghost use mathlib.Core.Path.{_≡_};
 ghost use Rattle.table.specs.FormLaws.{Formed};
 ghost use Rattle.rules.specs.Verdict.{verdictOf};

@@ -1,33 +1,33 @@
 // The walk over the statements.
-use asked::ask_condition;
-use asked::ask_statement;
+use answers::refusals::Refusal;
+use bounds::touched::touches;
 use bundles::Walked;
 use bundles::walk_bundle;
+use chains::shown::answer;
 use conditions::negated;
 use declared::Declares;
 use declared::check_effect;
 use declared::declares_of;
+use declared::force::Force;
+use declared::force::Frame;
+use declared::force::declare_row;
+use declared::force::force_of;
+use declared::force::same_rows;
+use effects::asked::ask_condition;
+use effects::asked::ask_statement;
 use effects::assume;
+use effects::loops::lose;
 use effects::plan_statement;
 use facts::FactSet;
-use force::Force;
-use force::Frame;
-use force::declare_row;
-use force::force_of;
-use force::same_rows;
-use loops::lose;
 use reader::read_due;
-use refusals::Refusal;
 use rules::Verdict;
-use sections::Sections;
-use shown::answer;
 use statements::Statement;
 use statements::StatementRead;
-use touched::touches;
+use words::sections::Sections;
 ghost use Rattle.blocks.specs.Tree.{parse};
 ghost use Rattle.rules.specs.Verdict.{environmentOf};
 ghost use Rattle.rules.specs.Ranges.{Measured};
-ghost use Rattle.force.specs.Force.{stateOf, Framed, Forced};
+ghost use Rattle.declared.specs.Force.{stateOf, Framed, Forced};
 ghost use Rattle.checker.specs.Walk.{Walks};
 
 // The block of `first` to `end` - 1 from the facts `given` and what is in force, `begun`. `allowed` is at least the number of its statements; it falls at each.

@@ -11,7 +11,7 @@ use Rattle.rules.specs.declared.Environment.{Environment}
 use Rattle.conditions.specs.Relations.{relates}
 use Rattle.machine.specs.Machine.{value, endValue, none, firstOf, accessFailing, arithmeticFailing, beyond, terminatorFailing, storeFailing}
 use Rattle.checks.specs.Checked.{endIn, boundsIn, declaredIn, stepUnless, sizeIn, stringIn}
-use Rattle.stops.specs.declared.Check.the-variants.{NullAccess, OutOfBounds, NullArithmetic, AddressRange, Terminator}
+use Rattle.answers.specs.declared.stops.Check.the-variants.{NullAccess, OutOfBounds, NullArithmetic, AddressRange, Terminator}
 use Rattle.checks.specs.declared.Step.the-variants.{Go, Stop}
 
 pub relates-else : (r a b : ℕ) → (r ≡ 0 → ⊥) → (r ≡ 1 → ⊥) → (r ≡ 2 → ⊥) → (r ≡ 3 → ⊥) → (r ≡ 4 → ⊥) → not (eqb a b) ≡ relates r a b

@@ -5,12 +5,12 @@ use mathlib.Core.List.{List, []}
 use lib.Dec.{eqb}
 use lib.ListN.{getD}
 use Rattle.arrays.specs.Tabulate.{tabulate}
-use Rattle.variables.specs.declared.End.{End}
+use Rattle.table.specs.declared.variables.End.{End}
 use Rattle.rules.specs.declared.KnownEnd.the-variants.{Known}
 use Rattle.rules.specs.declared.Bounds.{Bounds}
 use Rattle.rules.specs.declared.Environment.{Environment}
 use Rattle.machine.specs.Machine.{Failing, none, fails}
-use Rattle.stops.specs.Checks.{checkOf}
+use Rattle.answers.specs.Checks.{checkOf}
 use Rattle.checks.specs.declared.Step.{Step}
 use Rattle.checks.specs.declared.Step.the-variants.{Go, Stop}
 

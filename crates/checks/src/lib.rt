@@ -1,8 +1,8 @@
 // The six checks. Each gives the step to the statement `next`, or stops at the statement `at` with the first check that fails.
+use answers::stops::Check;
 use conditions::Condition;
 use machine::scaled;
 use machine::value_at;
-use stops::Check;
 use sums::BIAS;
 ghost use mathlib.Core.Path.{_≡_};
 ghost use mathlib.Core.Bool.{not, cond};
@@ -12,7 +12,7 @@ ghost use Rattle.conditions.specs.Relations.{relates};
 ghost use Rattle.machine.specs.Machine.{endValue, conditionHolds, none, firstOf, beyond, loadFailing, storeFailing, arithmeticFailing};
 ghost use Rattle.checks.specs.Checked.{sizeIn, stringIn, endIn, declaredIn, stepUnless};
 ghost use Rattle.checks.specs.declared.Step.the-variants.{Go, Stop};
-ghost use Rattle.stops.specs.declared.Check.the-variants.{NullAccess, OutOfBounds, Terminator};
+ghost use Rattle.answers.specs.declared.stops.Check.the-variants.{NullAccess, OutOfBounds, Terminator};
 
 // What a step says: the statement due after it, or the check that fails.
 pub enum Step {

@@ -10,11 +10,11 @@ use borrow.Author.Tests.{eqb-true}
 use native.Mathlib.Omega.{arith}
 use Rattle.sums.specs.Numbers.{bias, zeroVar}
 use Rattle.words.specs.declared.Fields.{Fields}
-use Rattle.fields.specs.Fields.{plain, literalValue, isZero, isBelow}
-use Rattle.sections.specs.Sections.{namesInteger, namesPointer, namesArray, namesString}
-use Rattle.sections.specs.SectionsLaws.{both}
-use Rattle.sections.specs.NameLaws.{either, below-holds, literal-small, integer-named, pointer-named, array-named, string-named}
-use Rattle.sections.specs.declared.Sections.{Sections}
+use Rattle.words.specs.Fields.{plain, literalValue, isZero, isBelow}
+use Rattle.words.specs.Sections.{namesInteger, namesPointer, namesArray, namesString}
+use Rattle.words.specs.SectionsLaws.{both}
+use Rattle.words.specs.NameLaws.{either, below-holds, literal-small, integer-named, pointer-named, array-named, string-named}
+use Rattle.words.specs.declared.sections.Sections.{Sections}
 use Rattle.conditions.specs.Conditions.{sameKind, besideLiteral, conditionRight, conditionOf, rightOf, offsetOf}
 use Rattle.conditions.specs.declared.Condition.{Condition}
 use Rattle.conditions.specs.Typed.{Sides, integers, pointers, literal, null, ConditionTyped}

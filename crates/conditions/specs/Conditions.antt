@@ -6,9 +6,9 @@ use lib.IntN.{ℤ}
 use lib.Dec.{eqb}
 use Rattle.sums.specs.Numbers.{bias, zeroVar}
 use Rattle.words.specs.declared.Fields.{Fields}
-use Rattle.fields.specs.Fields.{plain, literalValue, isZero, isBelow}
-use Rattle.sections.specs.Sections.{namesInteger, namesPointer, namesArray, namesString}
-use Rattle.sections.specs.declared.Sections.{Sections}
+use Rattle.words.specs.Fields.{plain, literalValue, isZero, isBelow}
+use Rattle.words.specs.Sections.{namesInteger, namesPointer, namesArray, namesString}
+use Rattle.words.specs.declared.sections.Sections.{Sections}
 use Rattle.conditions.specs.declared.Condition.{Condition}
 
 module _ (table : List ℤ) (h : Sections) where

@@ -4,9 +4,9 @@ use mathlib.Core.Path.{_≡_}
 use mathlib.Core.List.{List}
 use lib.IntN.{ℤ}
 use Rattle.sums.specs.Numbers.{zeroVar}
-use Rattle.fields.specs.Fields.{literalLimit}
-use Rattle.sections.specs.Typed.{IsInteger, IsPointer}
-use Rattle.sections.specs.declared.Sections.{Sections}
+use Rattle.words.specs.Fields.{literalLimit}
+use Rattle.words.specs.Typed.{IsInteger, IsPointer}
+use Rattle.words.specs.declared.sections.Sections.{Sections}
 use Rattle.conditions.specs.declared.Condition.{Condition}
 
 -- The sides of a condition: two variables of one kind, an integer and a literal, a pointer and 0.

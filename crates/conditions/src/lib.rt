@@ -1,15 +1,15 @@
 // A condition, which stands in the first four fields of a record: left variable, relation, form, right; and its negation.
-use fields::is_below;
-use fields::is_zero;
-use fields::literal_value;
-use fields::plain;
-use sections::Sections;
-use sections::names_array;
-use sections::names_integer;
-use sections::names_pointer;
-use sections::names_string;
 use sums::BIAS;
 use words::Fields;
+use words::field::is_below;
+use words::field::is_zero;
+use words::field::literal_value;
+use words::field::plain;
+use words::sections::Sections;
+use words::sections::names_array;
+use words::sections::names_integer;
+use words::sections::names_pointer;
+use words::sections::names_string;
 ghost use mathlib.Core.Path.{_≡_};
 ghost use Rattle.conditions.specs.Conditions.{sameKind, besideLiteral, conditionRight, rightOf, offsetOf, conditionOf};
 ghost use Rattle.conditions.specs.Negation.{negation, negatedOf};

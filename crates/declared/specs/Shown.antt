@@ -1,4 +1,4 @@
--- What the functions of this crate give back, in terms of the rules: bounds that are the same, and the access that a statement makes.
+-- What the functions of the root give back, in terms of the rules: bounds that are the same, and the access that a statement makes.
 use mathlib.Core.Bool.{Bool, false, _&&_}
 use lib.Dec.{eqb}
 use Rattle.statements.specs.declared.Simple.{Simple}

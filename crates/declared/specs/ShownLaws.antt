@@ -12,8 +12,8 @@ use lib.ListN.{length}
 use Rattle.sums.specs.Numbers.{bias, zeroVar}
 use Rattle.facts.specs.Store.{shown, endShown}
 use Rattle.facts.specs.declared.FactSet.{FactSet}
-use Rattle.refusals.specs.declared.Refusal.the-variants.{BoundsNotShown}
-use Rattle.sections.specs.SectionsLaws.{both}
+use Rattle.answers.specs.declared.refusals.Refusal.the-variants.{BoundsNotShown}
+use Rattle.words.specs.SectionsLaws.{both}
 use Rattle.statements.specs.declared.Simple.{Simple}
 use Rattle.statements.specs.declared.Simple.the-variants.{Literal, AddConstant, Arithmetic, Null, Address}
 use Rattle.statements.specs.declared.Simple.the-variants.{PointerOffset, PointerIndex, Load, Store, Check, Declare}
@@ -26,8 +26,8 @@ use Rattle.rules.specs.declared.KnownEnd.the-variants.{Known, Unknown}
 use Rattle.rules.specs.declared.Bounds.{Bounds}
 use Rattle.rules.specs.declared.Environment.{Environment}
 use Rattle.rules.specs.declared.Verdict.the-variants.{Accepted, Refused}
-use Rattle.stays.specs.StaysLaws.{stored, stored-known}
-use Rattle.touched.specs.Touched.{seenAs, seenOf}
+use Rattle.bounds.specs.StaysLaws.{stored, stored-known}
+use Rattle.bounds.specs.Touched.{seenAs, seenOf}
 use Rattle.declared.specs.Shown.{sameKnown, sameBounds, accessOf, declaresOf}
 use Rattle.declared.specs.declared.Access.{Access}
 use Rattle.declared.specs.declared.Access.the-variants.{Through, Nothing}

@@ -11,8 +11,8 @@ use lib.ListN.{getD, List·getD-eq-default}
 use Rattle.arrays.specs.Tabulate.{tabulate}
 use Rattle.arrays.specs.TabulateLaws.{length-tabulate, getD-tabulate}
 use Rattle.facts.specs.declared.FactSet.{FactSet}
-use Rattle.sections.specs.SectionsLaws.{both}
-use Rattle.variables.specs.declared.End.{End}
+use Rattle.words.specs.SectionsLaws.{both}
+use Rattle.table.specs.declared.variables.End.{End}
 use Rattle.rules.specs.BoundsRules.{isPointer, declared, known, consIf}
 use Rattle.rules.specs.Stored.{sameEnd, boundsShown, unshownFrom, unshown, boundsAfter}
 use Rattle.rules.specs.BoundsTrue.{known-after}
@@ -23,9 +23,9 @@ use Rattle.rules.specs.declared.Bounds.{Bounds}
 use Rattle.rules.specs.declared.Environment.{Environment}
 use Rattle.rules.specs.declared.Effect.{Effect}
 use Rattle.rules.specs.declared.Effect.the-variants.{Forget}
-use Rattle.stays.specs.Stays.{endStays, boundsStay, stays, changedBy, replacedBy, leftAlone}
-use Rattle.stays.specs.StaysLaws.{left-alone}
-use Rattle.touched.specs.Touched.{touchedAt, touchedFrom, touched, namedIn, touches}
+use Rattle.bounds.specs.Stays.{endStays, boundsStay, stays, changedBy, replacedBy, leftAlone}
+use Rattle.bounds.specs.StaysLaws.{left-alone}
+use Rattle.bounds.specs.Touched.{touchedAt, touchedFrom, touched, namedIn, touches}
 use Rattle.bounds.specs.BoundsRulesLaws.{stays-known}
 use Rattle.declared.specs.Shown.{sameKnown, sameBounds}
 use Rattle.declared.specs.ShownLaws.{same-shown, missed}

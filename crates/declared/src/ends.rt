@@ -1,12 +1,12 @@
 // When known bounds show declared ones.
+use chains::shown::shows;
+use chains::shown::shows_end;
 use facts::FactSet;
 use rules::Bounds;
 use rules::KnownEnd;
-use shown::shows;
-use shown::shows_end;
 use sums::BIAS;
 use sums::ZERO;
-use variables::End;
+use table::variables::End;
 ghost use mathlib.Core.Path.{_≡_};
 ghost use Rattle.rules.specs.BoundsRules.{comparableEnds};
 ghost use Rattle.rules.specs.Stored.{sameEnd, endAtMost, knownAtMost, boundsShown};

@@ -1,30 +1,31 @@
 // Whether declared bounds are shown: after a statement, after a bundle, at an access in one.
 mod ends; // ends.rt: when known bounds show declared ones
+pub mod force; // force.rt: the rows in force and what they put in force: the bounds that each pointer declares, and the variables that these name
 
+use answers::refusals::Refusal;
 use bounds::KnownBounds;
+use bounds::touched::Seen;
+use bounds::transfer::effect_on;
+use bounds::transfer::source_of;
 use ends::bounds_shown;
 use ends::same_bounds;
 use facts::FactSet;
-use lookups::bounds_at;
-use refusals::Refusal;
 use rules::Effect;
 use rules::Verdict;
+use rules::lookups::bounds_at;
 use rules::read_bound;
-use sections::Sections;
 use statements::Simple;
-use touched::Seen;
-use transfer::effect_on;
-use transfer::source_of;
+use words::sections::Sections;
 ghost use Prim.Native.Nat.{_^_, _<_};
 ghost use mathlib.Core.Path.{_≡_};
 ghost use Rattle.statements.specs.declared.Simple.the-variants.{Declare};
 ghost use Rattle.rules.specs.Stored.{unshown, rowUnshown, accessShown, boundsAfter};
-ghost use Rattle.refusals.specs.declared.Refusal.the-variants.{BoundsNotShown};
+ghost use Rattle.answers.specs.declared.refusals.Refusal.the-variants.{BoundsNotShown};
 ghost use Rattle.rules.specs.declared.Verdict.the-variants.{Refused};
 ghost use Rattle.rules.specs.Rules.{boundsAt};
 ghost use Rattle.rules.specs.Verdict.{environmentOf, verdictOf};
 ghost use Rattle.rules.specs.Ranges.{Short};
-ghost use Rattle.touched.specs.Touched.{seenAs};
+ghost use Rattle.bounds.specs.Touched.{seenAs};
 ghost use Rattle.declared.specs.Shown.{accessOf, declaresOf};
 
 // Refusal 8.

@@ -1,4 +1,4 @@
--- What the functions of this crate give back, in terms of the rules: a change for a condition and a plan for a statement.
+-- What `assume` and `plan_statement` give back, in terms of the rules: a change for a condition and a plan for a statement.
 use Prim.Native.Nat.{ℕ}
 use mathlib.Core.Bool.{Bool, _||_, _&&_, cond}
 use mathlib.Core.List.{List, []}

@@ -15,8 +15,8 @@ use Rattle.changes.specs.declared.Fact.{Fact}
 use Rattle.changes.specs.declared.Answers.{Answers}
 use Rattle.changes.specs.declared.Questions.{Questions}
 use Rattle.facts.specs.declared.FactSet.{FactSet}
-use Rattle.sections.specs.declared.Sections.{Sections}
-use Rattle.sections.specs.Sections.{Limits}
+use Rattle.words.specs.declared.sections.Sections.{Sections}
+use Rattle.words.specs.Sections.{Limits}
 use Rattle.conditions.specs.ConditionLaws.{offset-small}
 use Rattle.conditions.specs.Negation.{negation, negatedOf}
 use Rattle.conditions.specs.declared.Condition.{Condition}
@@ -32,7 +32,7 @@ use Rattle.statements.specs.StatementLaws.{read-typed, read-limits}
 use Rattle.rules.specs.Stored.{equated, positive, differs, relationFacts, conditionFacts, sumFacts, offsetFacts, factsAfter, effect}
 use Rattle.rules.specs.Ranges.{InRange}
 use Rattle.effects.specs.declared.Plan.{Plan}
-use Rattle.asked.specs.Asked.{sumAsked, conditionAsked, statementAsked}
+use Rattle.effects.specs.Asked.{sumAsked, conditionAsked, statementAsked}
 use Rattle.effects.specs.Applied.{Applied, withSpans, applied, conditionGiven, sumFits, planned, Adds, Assumes, Plans}
 use Rattle.rules.specs.declared.Effect.{Effect}
 use Rattle.rules.specs.declared.Effect.the-variants.{Keep, Forget, Shift, Copy}

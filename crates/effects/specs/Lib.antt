@@ -1,3 +1,6 @@
+pub mod Marks
+pub mod MarkLaws
+pub mod Asked
 pub mod Applied
 pub mod ChangeLaws
 pub mod FactRulesLaws

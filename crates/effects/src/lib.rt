@@ -1,5 +1,8 @@
 // What a condition and a statement of kinds 1 to 10 and 14 do to the facts, planned as a change of the fact set, and what the statement does to known bounds.
-// No function here takes a fact set: the caller asks the questions of a plan (crate asked), hands over the answers, and makes the change.
+// No function here takes a fact set: the caller asks the questions of a plan (module asked), hands over the answers, and makes the change.
+pub mod loops; // loops.rt: the variables that a loop's body assigns are dropped before the loop
+pub mod asked; // asked.rt: what the plan for a condition or a statement has to know of the facts: two questions
+
 use changes::Answers;
 use changes::Change;
 use changes::Fact;
@@ -9,9 +12,9 @@ use changes::no_fact;
 use changes::ranging;
 use changes::shifting;
 use conditions::Condition;
-use lookups::length_at;
-use lookups::size_at;
 use rules::Effect;
+use rules::lookups::length_at;
+use rules::lookups::size_at;
 use statements::Simple;
 use sums::BIAS;
 use sums::MAX_VALUE;

@@ -1,3 +1,5 @@
+pub mod Ends
+pub mod EndsLaws
 pub mod Entry
 pub mod Entered
 pub mod EntryLaws

@@ -1,18 +1,18 @@
 // Causes 10 to 12 and 16: the memory directory, the lengths of values and origins, the entry values, and the last cells of terminated objects.
 use crate::EntryVerdict;
 use crate::entry_bounds::bounds_true;
-use lookups::is_pointer;
-use lookups::is_terminated;
-use lookups::length_at;
+use answers::refusals::Refusal;
 use machine::value_at;
-use refusals::Refusal;
 use rules::Environment;
+use rules::lookups::is_pointer;
+use rules::lookups::is_terminated;
+use rules::lookups::length_at;
 use rules::upper_limit;
-use sections::Sections;
+use words::sections::Sections;
 ghost use mathlib.Core.Path.{_≡_};
 ghost use Prim.Native.Nat.{_*_, _<_};
 ghost use lib.ListN.{length};
-ghost use Rattle.refusals.specs.declared.Refusal.the-variants.{DirectoryPair, EntryValue, LastCell};
+ghost use Rattle.answers.specs.declared.refusals.Refusal.the-variants.{DirectoryPair, EntryValue, LastCell};
 ghost use Rattle.rules.specs.Ranges.{Sized};
 ghost use Rattle.entry.specs.Entry.{memoryRight, endBefore, pairRight, lengthsRight, entryRight, lastRight, failures, entryRefusals};
 ghost use Rattle.entry.specs.Entered.{entered};

@@ -1,15 +1,15 @@
 // Whether declared bounds are true at entry. Ends are whole numbers: a constant of any size is compared without a sum that wraps.
-use ends::end_of;
-use lookups::bounds_at;
-use lookups::is_string;
-use lookups::is_terminated;
-use lookups::size_at;
+use crate::ends::end_of;
 use machine::scaled;
 use machine::value_at;
 use rules::Environment;
+use rules::lookups::bounds_at;
+use rules::lookups::is_string;
+use rules::lookups::is_terminated;
+use rules::lookups::size_at;
 use rules::upper_limit;
 use sums::BIAS;
-use variables::End;
+use table::variables::End;
 ghost use mathlib.Core.Path.{_≡_};
 ghost use Prim.Native.Nat.{_+_, _^_, _<_, _≤_};
 ghost use lib.Dec.{leb};

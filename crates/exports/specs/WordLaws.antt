@@ -6,19 +6,19 @@ use mathlib.Core.List.{List}
 use borrow.Author.Tests.{le-leb, lt-leb}
 use lib.IntN.{ℤ}
 use lib.ListN.{length}
-use Rattle.refusals.specs.Refusals.{number, place, pointer}
-use Rattle.refusals.specs.declared.Refusal.{Refusal}
+use Rattle.answers.specs.Refusals.{number, place, pointer}
+use Rattle.answers.specs.declared.refusals.Refusal.{Refusal}
 use Rattle.rules.specs.Verdict.{Reading, verdictReads, firstReads}
 use Rattle.rules.specs.ByChains.{chainFaults, Judged}
 use Rattle.rules.specs.Decidable.{decided}
 use Rattle.rules.specs.declared.Verdict.{Verdict}
 use Rattle.rules.specs.declared.Verdict.the-variants as verdict
-use Rattle.stops.specs.Checks.{checkNumber, checkStatement}
+use Rattle.answers.specs.Checks.{checkNumber, checkStatement}
 use Rattle.interpreter.specs.Claim.{Lent, RunJudged}
-use Rattle.stops.specs.Answers.{reads}
-use Rattle.stops.specs.declared.Check.{Check}
-use Rattle.stops.specs.declared.Outcome.{Outcome}
-use Rattle.stops.specs.declared.Outcome.the-variants.{Done, Spent, Stopped, Refused}
+use Rattle.answers.specs.Answers.{reads}
+use Rattle.answers.specs.declared.stops.Check.{Check}
+use Rattle.answers.specs.declared.stops.Outcome.{Outcome}
+use Rattle.answers.specs.declared.stops.Outcome.the-variants.{Done, Spent, Stopped, Refused}
 use Rattle.exports.specs.Words.{wordOf, putThree, putFour, verdictWords, answerWords, CheckAnswer, RunWords}
 
 module _ (w : List ℕ) {w′ : List ℕ} where

@@ -9,9 +9,9 @@ use lib.ListN.{length, set}
 use Rattle.rules.specs.Verdict.{Reading, firstReads}
 use Rattle.rules.specs.Verdict as reading
 use Rattle.rules.specs.ByChains.{Decided, chainFaults}
-use Rattle.stops.specs.Answers.{Answer, done, spent, stopped, refused, reads}
+use Rattle.answers.specs.Answers.{Answer, done, spent, stopped, refused, reads}
 use Rattle.interpreter.specs.Claim.{Lent, RunJudged}
-use Rattle.stops.specs.declared.Outcome.{Outcome}
+use Rattle.answers.specs.declared.stops.Outcome.{Outcome}
 
 abbrev pub wordOf : ℕ → ℕ
 wordOf n = n % 2 ^ 32

@@ -1,13 +1,13 @@
 // What C and Rust link: the check and the run on lent slices, with the answer as words in a lent slice (include/mizzengrape.h).
+use answers::stops::Outcome;
+use answers::stops::check_number;
+use answers::stops::check_statement;
 use rules::Verdict;
-use stops::Outcome;
-use stops::check_number;
-use stops::check_statement;
 ghost use mathlib.Core.Path.{_≡_};
 ghost use Prim.Native.Nat.{_≤_};
 ghost use lib.ListN.{length};
 ghost use Rattle.rules.specs.Verdict.{verdictReads};
-ghost use Rattle.stops.specs.Answers.{reads};
+ghost use Rattle.answers.specs.Answers.{reads};
 ghost use Rattle.exports.specs.Words.{wordOf, putThree, putFour, verdictWords, answerWords, CheckAnswer, RunWords};
 
 // A number as an answer word. Statements, objects and variables are few, so that the remainder is the number.
@@ -45,9 +45,9 @@ fn put_verdict(answer: &mut [u32], verdict: Verdict)
             put_three(answer, 0, 0, 0);
         }
         Verdict::Refused(r) => {
-            let number = refusals::refusal_number(r);
-            let place = word_of(refusals::refusal_place(r));
-            let pointer = word_of(refusals::refusal_pointer(r));
+            let number = answers::refusals::refusal_number(r);
+            let place = word_of(answers::refusals::refusal_place(r));
+            let pointer = word_of(answers::refusals::refusal_pointer(r));
             put_three(answer, number, place, pointer);
         }
     }
@@ -71,9 +71,9 @@ fn put_outcome(answer: &mut [u32], outcome: Outcome)
             put_four(answer, 2, steps, place, number);
         }
         Outcome::Refused(r) => {
-            let number = refusals::refusal_number(r);
-            let place = word_of(refusals::refusal_place(r));
-            let pointer = word_of(refusals::refusal_pointer(r));
+            let number = answers::refusals::refusal_number(r);
+            let place = word_of(answers::refusals::refusal_place(r));
+            let pointer = word_of(answers::refusals::refusal_pointer(r));
             put_four(answer, 3, number, place, pointer);
         }
     }

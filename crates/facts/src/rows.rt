@@ -53,7 +53,7 @@ fn new_sum(i: usize, j: usize) -> u64
     MAX_SUM
 }
 
-pub fn new_row(i: usize) -> Row
+pub(crate) fn new_row(i: usize) -> Row
     ensures { λ r. ⌜ r ≡ newRow i ⌝ }
 {
     let mut next = Row { sums: [0; 17] };
@@ -64,7 +64,7 @@ pub fn new_row(i: usize) -> Row
 }
 
 // The row with every sum lowered to the chain that begins with the sum `start` and goes on as `through`.
-pub fn lowered_row(row: Row, start: u64, through: Row) -> Row
+pub(crate) fn lowered_row(row: Row, start: u64, through: Row) -> Row
     ensures { λ r. ⌜ r ≡ shortenedRow row start through ⌝ }
 {
     let mut next = row;
@@ -75,7 +75,7 @@ pub fn lowered_row(row: Row, start: u64, through: Row) -> Row
 }
 
 // The row of x itself where x is at most `up` above the variable whose row is `base`.
-pub fn own_row(base: Row, x: usize, up: u64) -> Row
+pub(crate) fn own_row(base: Row, x: usize, up: u64) -> Row
     ensures { λ r. ⌜ r ≡ ownRow base x up ⌝ }
 {
     let mut next = base;
@@ -86,7 +86,7 @@ pub fn own_row(base: Row, x: usize, up: u64) -> Row
 }
 
 // The row of masks that picks x alone. The one store matters: what a choice makes is compiled back into a choice for each sum.
-pub fn mask_row(x: usize) -> Row
+pub(crate) fn mask_row(x: usize) -> Row
     requires { ⌜ x < 17 ⌝ }
     ensures { λ r. ⌜ r ≡ maskRow x ⌝ }
 {
@@ -96,7 +96,7 @@ pub fn mask_row(x: usize) -> Row
 }
 
 // The row with another sum where a mask stands.
-pub fn rerouted_row(row: Row, mask: Row, to: u64) -> Row
+pub(crate) fn rerouted_row(row: Row, mask: Row, to: u64) -> Row
     requires { ⌜ Masks mask ⌝ }
     ensures { λ r. ⌜ r ≡ mergedRow row mask to ⌝ }
 {
@@ -108,7 +108,7 @@ pub fn rerouted_row(row: Row, mask: Row, to: u64) -> Row
 }
 
 // The greater of each two sums.
-pub fn greatest_row(a: Row, b: Row) -> Row
+pub(crate) fn greatest_row(a: Row, b: Row) -> Row
     ensures { λ r. ⌜ r ≡ greatestRow a b ⌝ }
 {
     let mut next = a;
@@ -120,7 +120,7 @@ pub fn greatest_row(a: Row, b: Row) -> Row
 
 // The row of a variable that is a pointer or not (`pointer`): its sum to each variable of the other kind is that of the chain through zero, whose row is
 // `zero`.
-pub fn through_zero(row: Row, pointers: [bool; 17], pointer: bool, zero: Row) -> Row
+pub(crate) fn through_zero(row: Row, pointers: [bool; 17], pointer: bool, zero: Row) -> Row
     ensures { λ r. ⌜ r ≡ throughZero (λ n. getD pointers n false) pointer row «zero» ⌝ }
 {
     let mut next = row;

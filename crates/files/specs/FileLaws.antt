@@ -10,7 +10,7 @@ use lib.IntN.{ℤ}
 use lib.ListN.{length, take}
 use Rattle.arrays.specs.Tabulate.{tabulate}
 use Rattle.arrays.specs.TabulateLaws.{length-tabulate}
-use Rattle.refusals.specs.declared.Refusal.the-variants.{Length}
+use Rattle.answers.specs.declared.refusals.Refusal.the-variants.{Length}
 use Rattle.table.specs.Form.{lengthRight, formOf, fourPairs}
 use Rattle.rules.specs.FactSets.{FactSets}
 use Rattle.rules.specs.Verdict.{faults, verdictOf}
@@ -18,8 +18,8 @@ use Rattle.rules.specs.ByChains.{byChains, Judged}
 use Rattle.rules.specs.Decidable.{decided, says}
 use Rattle.rules.specs.declared.Verdict.{Verdict}
 use Rattle.rules.specs.declared.Verdict.the-variants.{Refused}
-use Rattle.encoding.specs.Words.{wordAt}
-use Rattle.encoding.specs.Reading.{WordsRead}
+use Rattle.files.specs.Words.{wordAt}
+use Rattle.files.specs.Reading.{WordsRead}
 use Rattle.files.specs.Files.{wordsOf, fileFaults, FileJudged}
 
 and-false : (a : Bool) → (a && false) ≡ false

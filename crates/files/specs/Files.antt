@@ -6,13 +6,13 @@ use lib.Dec.{eqb}
 use lib.IntN.{ℤ}
 use lib.ListN.{length}
 use Rattle.arrays.specs.Tabulate.{tabulate}
-use Rattle.refusals.specs.declared.Refusal.{Refusal}
-use Rattle.refusals.specs.declared.Refusal.the-variants.{Length}
+use Rattle.answers.specs.declared.refusals.Refusal.{Refusal}
+use Rattle.answers.specs.declared.refusals.Refusal.the-variants.{Length}
 use Rattle.rules.specs.Verdict.{faults, Says}
 use Rattle.rules.specs.FactSets.{FactSets}
 use Rattle.rules.specs.ByChains.{byChains, Decided}
 use Rattle.rules.specs.declared.Verdict.{Verdict}
-use Rattle.encoding.specs.Words.{wordAt}
+use Rattle.files.specs.Words.{wordAt}
 
 -- The words of a file.
 unfoldable pub wordsOf : List ℕ → List ℤ

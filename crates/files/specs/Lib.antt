@@ -1,2 +1,5 @@
+pub mod Words
+pub mod Reading
+pub mod WordLaws
 pub mod Files
 pub mod FileLaws

@@ -1,5 +1,7 @@
 // Routine tables in files: the verdict on one.
-use refusals::Refusal;
+pub mod encoding; // encoding.rt: words of a file: 32 bits, two's complement, little-endian
+
+use answers::refusals::Refusal;
 use rules::Verdict;
 ghost use Rattle.files.specs.Files.{FileJudged};
 

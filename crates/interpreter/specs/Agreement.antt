@@ -4,17 +4,17 @@ use mathlib.Core.Path.{_≡_}
 use mathlib.Core.List.{List}
 use lib.IntN.{ℤ}
 use lib.ListN.{length, getD}
-use Rattle.sections.specs.declared.Sections.{Sections}
+use Rattle.words.specs.declared.sections.Sections.{Sections}
 use Rattle.statements.specs.Statements.{statementAt}
 use Rattle.statements.specs.declared.Statement.{Statement}
 use Rattle.statements.specs.declared.StatementRead.the-variants.{Read}
-use Rattle.flow.specs.Shape.{entriesAt}
+use Rattle.blocks.specs.Shape.{entriesAt}
 use Rattle.rules.specs.declared.Environment.{Environment}
 use Rattle.machine.specs.Machine.{high, Status, going, stopped, stuck, Point, successorsOf, pointAfter}
-use Rattle.stops.specs.Checks.{checkOf}
+use Rattle.answers.specs.Checks.{checkOf}
 use Rattle.steps.specs.Bare.{Move, move}
-use Rattle.runs.specs.BareRun.{Result, result}
-use Rattle.ends.specs.Ends.{endsOf}
+use Rattle.interpreter.specs.BareRun.{Result, result}
+use Rattle.entry.specs.Ends.{endsOf}
 use Rattle.interpreter.specs.Outcomes.{outcomeShown}
 use Rattle.checks.specs.declared.Step.{Step}
 use Rattle.checks.specs.declared.Step.the-variants.{Go, Stop}

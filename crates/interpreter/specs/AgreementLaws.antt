@@ -9,9 +9,9 @@ use lib.Dec.{leb, ltb}
 use lib.IntN.{ℤ}
 use lib.ListN.{length, getD, set, length-set}
 use Rattle.sums.specs.Numbers.{bias}
-use Rattle.sections.specs.SectionsLaws.{both}
-use Rattle.sections.specs.Sections.{Limits}
-use Rattle.sections.specs.declared.Sections.{Sections}
+use Rattle.words.specs.SectionsLaws.{both}
+use Rattle.words.specs.Sections.{Limits}
+use Rattle.words.specs.declared.sections.Sections.{Sections}
 use Rattle.statements.specs.Statements.{statementAt}
 use Rattle.statements.specs.Typed.{SimpleTyped, WellTyped}
 use Rattle.statements.specs.StatementLaws.{read-typed, read-limits}
@@ -22,10 +22,10 @@ use Rattle.statements.specs.declared.Statement.{Statement}
 use Rattle.statements.specs.declared.Statement.the-variants.{Plain, If, While, Bundle}
 use Rattle.statements.specs.declared.StatementRead.{StatementRead}
 use Rattle.statements.specs.declared.StatementRead.the-variants.{Read}
-use Rattle.decode.specs.Decode.{decodedAt}
-use Rattle.decode.specs.DecodeLaws.{read-decoded}
-use Rattle.flow.specs.Flow.{Successors}
-use Rattle.flow.specs.Shape.{entriesAt}
+use Rattle.statements.specs.Decode.{decodedAt}
+use Rattle.statements.specs.DecodeLaws.{read-decoded}
+use Rattle.blocks.specs.Flow.{Successors}
+use Rattle.blocks.specs.Shape.{entriesAt}
 use Rattle.rules.specs.BoundsRules.{inForce, rowsAfter}
 use Rattle.rules.specs.declared.Environment.{Environment}
 use Rattle.machine.specs.Machine.{low, high, address, inOrigin, conditionHolds, Failing, none, fails, failing, Status}
@@ -33,15 +33,15 @@ use Rattle.machine.specs.Machine.{going, stopped, stuck, Point, Memory, Perform
 use Rattle.machine.specs.Machine.{memoryOf, afterChecks, branched, statementStep, stepIfDue, nextPoint, pointAfter, value}
 use Rattle.checks.specs.Checked.{stepUnless}
 use Rattle.steps.specs.Bare.{valuesAfter, cellsAfter, changedUnless, Move, move, simpleMove, statementMove, bareMove, InCells, InsideSimple, Inside, Ready}
-use Rattle.runs.specs.BareRun.{Result, result, follow, bareRun, IfTrue, Onward, SafeRun}
-use Rattle.stops.specs.Checks.{checkOf}
+use Rattle.interpreter.specs.BareRun.{Result, result, follow, bareRun, IfTrue, Onward, SafeRun}
+use Rattle.answers.specs.Checks.{checkOf}
 use Rattle.interpreter.specs.Agreement.{stepShown, moveShown, resultShown, Runnable}
 use Rattle.interpreter.specs.Outcomes.{outcomeShown}
-use Rattle.ends.specs.Ends.{endsOf}
+use Rattle.entry.specs.Ends.{endsOf}
 use Rattle.interpreter.specs.EndsLaws.{failing-same, ends-after, address-laid, indexed-laid}
 use Rattle.checks.specs.declared.Step.{Step}
 use Rattle.checks.specs.declared.Step.the-variants.{Go}
-use Rattle.stops.specs.declared.Outcome.the-variants.{Done, Spent, Stopped}
+use Rattle.answers.specs.declared.stops.Outcome.the-variants.{Done, Spent, Stopped}
 
 -- ---- what a statement of kinds 1 to 10 and 14 leaves
 

@@ -10,8 +10,8 @@ use native.Mathlib.Decide.{ℕ-discrete}
 use lib.Dec.{leb, eqb, ltb}
 use lib.ListN.{length, getD}
 use Rattle.sums.specs.Numbers.{maxValue}
-use Rattle.sections.specs.SectionsLaws.{both}
-use Rattle.sections.specs.declared.Sections.{Sections}
+use Rattle.words.specs.SectionsLaws.{both}
+use Rattle.words.specs.declared.sections.Sections.{Sections}
 use Rattle.rules.specs.BoundsRules.{isPointer, objectLength}
 use Rattle.rules.specs.declared.Environment.{Environment}
 use Rattle.machine.specs.Machine.{value, boundsTrue, low, high}

@@ -9,9 +9,9 @@ use mathlib.Core.List.{List, [], _∷_}
 use lib.Dec.{ltb}
 use lib.IntN.{ℤ}
 use lib.ListN.{getD}
-use Rattle.refusals.specs.Refusals.{number, place, pointer}
-use Rattle.refusals.specs.declared.Refusal.{Refusal}
-use Rattle.sections.specs.declared.Sections.{Sections}
+use Rattle.answers.specs.Refusals.{number, place, pointer}
+use Rattle.answers.specs.declared.refusals.Refusal.{Refusal}
+use Rattle.words.specs.declared.sections.Sections.{Sections}
 use Rattle.statements.specs.Statements.{statementAt}
 use Rattle.table.specs.Form.{sectionsOf, formOf}
 use Rattle.table.specs.declared.Form.{Form}
@@ -26,9 +26,9 @@ use Rattle.rules.specs.declared.Environment.{Environment}
 use Rattle.machine.specs.Machine.{Failing, none, fails, boundsTrue, Status, going, stopped, stuck, Point, halted, start, pointAfter}
 use Rattle.machine.specs.Points.{inBundle, failingAt, accessFrom, AccessInside, Outside, LastZero}
 use Rattle.entry.specs.Entry.{entryRefusals}
-use Rattle.stops.specs.Answers.{Answer, reads}
-use Rattle.stops.specs.Answers as says
-use Rattle.stops.specs.declared.Outcome.{Outcome}
+use Rattle.answers.specs.Answers.{Answer, reads}
+use Rattle.answers.specs.Answers as says
+use Rattle.answers.specs.declared.stops.Outcome.{Outcome}
 
 -- ---- what a call of `run` is lent and what it leaves
 pub record Lent : Type 0 where

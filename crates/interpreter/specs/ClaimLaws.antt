@@ -11,14 +11,14 @@ use lib.Dec.{ltb}
 use lib.IntN.{ℤ}
 use lib.ListN.{length, getD}
 use Rattle.sums.specs.Numbers.{maxValue}
-use Rattle.refusals.specs.declared.Refusal.{Refusal}
-use Rattle.refusals.specs.declared.Refusal.the-variants.{Length, Directory, ObjectLength, VariableRecord, StatementRecord}
-use Rattle.sections.specs.declared.Sections.{Sections}
+use Rattle.answers.specs.declared.refusals.Refusal.{Refusal}
+use Rattle.answers.specs.declared.refusals.Refusal.the-variants.{Length, Directory, ObjectLength, VariableRecord, StatementRecord}
+use Rattle.words.specs.declared.sections.Sections.{Sections}
 use Rattle.table.specs.Form.{lengthRight, directoryRight, sectionsOf, lowestObject, lowestVariable, lowestStatement, itemsForm, formOf, lowestRow}
 use Rattle.table.specs.FormLaws.{well-formed}
 use Rattle.table.specs.declared.Form.{Form}
 use Rattle.table.specs.declared.Form.the-variants.{WellFormed, Refused}
-use Rattle.flow.specs.Flow.{tableFlow, written, Written}
+use Rattle.blocks.specs.Flow.{tableFlow, written, Written}
 use Rattle.rules.specs.BoundsRules.{ownRows}
 use Rattle.rules.specs.EnvironmentLaws.{environment-declares}
 use Rattle.rules.specs.AcceptedLaws.{clear, faults-clear}
@@ -33,15 +33,15 @@ use Rattle.machine.specs.Soundness.{Begun, Sound, AccessAllowed}
 use Rattle.machine.specs.Frame.{Own}
 use Rattle.machine.specs.FrameLaws.{run-framed, own-names, own-origins, outside-own}
 use Rattle.machine.specs.RunSound.{sound}
-use Rattle.stops.specs.Answers.{Answer, reads}
-use Rattle.stops.specs.Answers as says
+use Rattle.answers.specs.Answers.{Answer, reads}
+use Rattle.answers.specs.Answers as says
 use Rattle.interpreter.specs.StepLaws.{StepFacts, point-step, stop-same, steps-counted, done-on, stopped-on, counts-on}
 use Rattle.interpreter.specs.NumberLaws.{number-of, statement-of, stopped-number}
 use Rattle.entry.specs.Entry.{entryRefusals}
 use Rattle.interpreter.specs.BegunLaws.{entry-begun}
-use Rattle.ends.specs.Ends.{endsOf}
+use Rattle.entry.specs.Ends.{endsOf}
 use Rattle.steps.specs.Bare.{Prepared}
-use Rattle.runs.specs.BareRun.{Result, Ends, SafeRun, bareRun}
+use Rattle.interpreter.specs.BareRun.{Result, Ends, SafeRun, bareRun}
 use Rattle.interpreter.specs.StartLaws.{admitted, start-prepared, start-safe, start-agrees}
 use Rattle.interpreter.specs.Agreement.{resultShown}
 use Rattle.interpreter.specs.Outcomes.{outcomeShown}
@@ -54,9 +54,9 @@ use Rattle.interpreter.specs.Claim.{answerAt, AtPoint, Ran, RunAnswer, R
 use Rattle.entry.specs.Entered.{entered}
 use Rattle.entry.specs.declared.EntryVerdict.{EntryVerdict}
 use Rattle.entry.specs.declared.EntryVerdict.the-variants as entry
-use Rattle.stops.specs.declared.Outcome.the-variants as outcome
-use Rattle.stops.specs.declared.Outcome.{Outcome}
-use Rattle.stops.specs.declared.Outcome.the-variants.{Done, Spent}
+use Rattle.answers.specs.declared.stops.Outcome.the-variants as outcome
+use Rattle.answers.specs.declared.stops.Outcome.{Outcome}
+use Rattle.answers.specs.declared.stops.Outcome.the-variants.{Done, Spent}
 
 allowed-inside : (D : List ℕ) (n : ℕ) (a : Access) → AccessAllowed D n a → AccessInside D a
 allowed-inside D n no-access h = tt

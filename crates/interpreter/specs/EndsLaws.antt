@@ -15,21 +15,21 @@ use lib.Seq.{getD-set-same, getD-set-other}
 use Rattle.sums.specs.Numbers.{bias}
 use Rattle.arrays.specs.Tabulate.{tabulate}
 use Rattle.arrays.specs.TabulateLaws.{length-tabulate, getD-tabulate}
-use Rattle.sections.specs.Typed.{IsIndex, missing, given}
-use Rattle.sections.specs.Sections.{Limits}
-use Rattle.sections.specs.declared.Sections.{Sections}
+use Rattle.words.specs.Typed.{IsIndex, missing, given}
+use Rattle.words.specs.Sections.{Limits}
+use Rattle.words.specs.declared.sections.Sections.{Sections}
 use Rattle.statements.specs.Typed.{SimpleTyped}
 use Rattle.statements.specs.declared.Simple.{Simple}
 use Rattle.statements.specs.declared.Simple.the-variants.{Literal, AddConstant, Arithmetic, Null, Address, PointerOffset}
 use Rattle.statements.specs.declared.Simple.the-variants.{PointerIndex, Load, Store, Check as Test, Declare}
-use Rattle.variables.specs.Typed.{EndTyped}
-use Rattle.variables.specs.Variables.{variableAt, rowAt}
-use Rattle.variables.specs.VariableLaws.{variable-read-typed, variable-read-limits, row-read-typed}
-use Rattle.variables.specs.declared.End.{End}
-use Rattle.variables.specs.declared.Variable.the-variants.{Integer, Pointer}
-use Rattle.variables.specs.declared.RowRead.{RowRead}
-use Rattle.variables.specs.declared.VariableRead.{VariableRead}
-use Rattle.variables.specs.declared.VariableRead.the-variants.{Read, Unread}
+use Rattle.table.specs.Typed.{EndTyped}
+use Rattle.table.specs.Variables.{variableAt, rowAt}
+use Rattle.table.specs.VariableLaws.{variable-read-typed, variable-read-limits, row-read-typed}
+use Rattle.table.specs.declared.variables.End.{End}
+use Rattle.table.specs.declared.variables.Variable.the-variants.{Integer, Pointer}
+use Rattle.table.specs.declared.variables.RowRead.{RowRead}
+use Rattle.table.specs.declared.variables.VariableRead.{VariableRead}
+use Rattle.table.specs.declared.variables.VariableRead.the-variants.{Read, Unread}
 use Rattle.rules.specs.BoundsRules.{nothingKnown, declared, rowBound, inForce, rowsAfter, elementSize, sized, isString}
 use Rattle.rules.specs.BoundsTrue.{declared-in-force}
 use Rattle.rules.specs.EnvironmentLaws.{sizes-small}
@@ -39,12 +39,12 @@ use Rattle.rules.specs.declared.Bounds.{Bounds}
 use Rattle.rules.specs.declared.Environment.{Environment}
 use Rattle.machine.specs.Machine.{value, endValue, endOf, lowerEnd, upperEnd, address, none, firstOf, accessFailing, loadFailing}
 use Rattle.machine.specs.Machine.{storeFailing, failing, indexed, arithmeticFailing, Failing, beyond, terminatorFailing}
-use Rattle.ends.specs.Ends.{endNumber, boundsNumber, endsOf, placeBounds, afterBounds, placeNumber, markNumber}
+use Rattle.entry.specs.Ends.{endNumber, boundsNumber, endsOf, placeBounds, afterBounds, placeNumber, markNumber}
 use Rattle.checks.specs.Checked.{boundsIn, declaredIn, sizeIn, stringIn}
 use Rattle.checks.specs.CheckLaws.{size-in}
 use Rattle.steps.specs.Bare.{copied, endsAfter}
 use Rattle.steps.specs.CopiedLaws.{copied-long, copied-inside, copied-outside}
-use Rattle.variables.specs.declared.RowRead.the-variants as row
+use Rattle.table.specs.declared.variables.RowRead.the-variants as row
 
 pub ends-long : (E : Environment) (R : List ℕ) → length (endsOf E R) ≡ 512
 unfolding endsOf

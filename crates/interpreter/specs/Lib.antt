@@ -1,3 +1,5 @@
+pub mod BareRun
+pub mod RunLaws
 pub mod BegunLaws
 pub mod EndsLaws
 pub mod Outcomes

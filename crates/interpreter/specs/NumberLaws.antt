@@ -7,7 +7,7 @@ use native.Mathlib.Omega.{arith}
 use lib.Dec.{leb, ltb, eqb}
 use lib.IntN.{ℤ}
 use Rattle.sums.specs.Numbers.{bias}
-use Rattle.sections.specs.declared.Sections.{Sections}
+use Rattle.words.specs.declared.sections.Sections.{Sections}
 use Rattle.statements.specs.Statements.{statementAt}
 use Rattle.statements.specs.declared.Simple.{Simple}
 use Rattle.statements.specs.declared.Simple.the-variants.{Literal, AddConstant, Arithmetic, Null, Address, PointerOffset, PointerIndex, Load, Store}
@@ -15,16 +15,16 @@ use Rattle.statements.specs.declared.Simple.the-variants as simple
 use Rattle.statements.specs.declared.Statement.the-variants.{Plain, If, While, Bundle}
 use Rattle.statements.specs.declared.StatementRead.{StatementRead}
 use Rattle.statements.specs.declared.StatementRead.the-variants.{Read, Unread}
-use Rattle.flow.specs.Flow.{Successors}
+use Rattle.blocks.specs.Flow.{Successors}
 use Rattle.rules.specs.BoundsRules.{inForce, isString}
 use Rattle.rules.specs.declared.Environment.{Environment}
 use Rattle.machine.specs.Machine.{value, address, lowerEnd, upperEnd, conditionHolds, Failing, none, fails, firstOf}
 use Rattle.machine.specs.Machine.{firstUnless, accessFailing, arithmeticFailing, failing, Status, going, stopped, stuck}
 use Rattle.machine.specs.Machine.{Point, Performed, done, no-step, performed, memoryOf, afterPerformed, afterChecks, branched}
 use Rattle.machine.specs.Machine.{statementStep, successorsOf, stepIfDue, nextPoint, pointAfter, beyond, terminatorFailing}
-use Rattle.stops.specs.Checks.{checkNumber, checkStatement, checkOf}
-use Rattle.stops.specs.declared.Check.{Check}
-use Rattle.stops.specs.declared.Check.the-variants.{ConditionFalse, NullAccess, OutOfBounds, NullArithmetic, AddressRange, Terminator}
+use Rattle.answers.specs.Checks.{checkNumber, checkStatement, checkOf}
+use Rattle.answers.specs.declared.stops.Check.{Check}
+use Rattle.answers.specs.declared.stops.Check.the-variants.{ConditionFalse, NullAccess, OutOfBounds, NullArithmetic, AddressRange, Terminator}
 
 -- The check that a stop answers has the machine's number, and the statement that was due.
 pub number-of : (n a : ℕ) → 1 ≤ n → n ≤ 6 → checkNumber (checkOf n a) ≡ n

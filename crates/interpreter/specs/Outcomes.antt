@@ -2,11 +2,11 @@
 use Prim.Native.Nat.{ℕ}
 use mathlib.Core.Bool.{cond}
 use lib.Dec.{ltb}
-use Rattle.sections.specs.declared.Sections.{Sections}
+use Rattle.words.specs.declared.sections.Sections.{Sections}
 use Rattle.machine.specs.Machine.{Status, going, stopped, stuck}
-use Rattle.stops.specs.Checks.{checkOf}
-use Rattle.stops.specs.declared.Outcome.{Outcome}
-use Rattle.stops.specs.declared.Outcome.the-variants.{Done, Spent, Stopped}
+use Rattle.answers.specs.Checks.{checkOf}
+use Rattle.answers.specs.declared.stops.Outcome.{Outcome}
+use Rattle.answers.specs.declared.stops.Outcome.the-variants.{Done, Spent, Stopped}
 
 -- How a run that is given up at a point ends: done where nothing is due, spent where a statement is due, or stopped.
 abbrev pub outcomeShown : Sections → Status → ℕ → ℕ → Outcome

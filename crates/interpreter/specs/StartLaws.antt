@@ -11,24 +11,24 @@ use lib.Dec.{leb, ltb, eqb}
 use lib.IntN.{ℤ}
 use lib.ListN.{length, getD, List·getD-eq-default}
 use Rattle.sums.specs.Numbers.{bias}
-use Rattle.refusals.specs.declared.Refusal.{Refusal}
-use Rattle.refusals.specs.declared.Refusal.the-variants.{MemorySize, DirectoryPair, EntryLengths, EntryValue, LastCell}
-use Rattle.sections.specs.SectionsLaws.{both}
-use Rattle.sections.specs.declared.Sections.{Sections}
+use Rattle.answers.specs.declared.refusals.Refusal.{Refusal}
+use Rattle.answers.specs.declared.refusals.Refusal.the-variants.{MemorySize, DirectoryPair, EntryLengths, EntryValue, LastCell}
+use Rattle.words.specs.SectionsLaws.{both}
+use Rattle.words.specs.declared.sections.Sections.{Sections}
 use Rattle.table.specs.FormLaws.{Formed}
 use Rattle.blocks.specs.Tree.{tree}
 use Rattle.blocks.specs.Layout.{layout}
-use Rattle.flow.specs.Flow.{successors, tableFlow, tableEntry, written}
-use Rattle.flow.specs.FlowLaws.{begins, length-written}
-use Rattle.flow.specs.SuccessorLaws.{written-at}
+use Rattle.blocks.specs.Flow.{successors, tableFlow, tableEntry, written}
+use Rattle.blocks.specs.FlowLaws.{begins, length-written}
+use Rattle.blocks.specs.SuccessorLaws.{written-at}
 use Rattle.rules.specs.BoundsRules.{isPointer, objectLength, ownRows}
 use Rattle.rules.specs.Verdict.{environmentOf}
 use Rattle.rules.specs.declared.Environment.{Environment}
 use Rattle.machine.specs.Machine.{value, lowerEnd, upperEnd, low, high, isObject, top, takesFrom, originHolds, boundsTrue, stuck, start, pointAfter}
 use Rattle.entry.specs.Entry.{memoryRight, endBefore, pairRight, lengthsRight, entryRight, consUnless, failures, entryRefusals, lastRight}
 use Rattle.steps.specs.Bare.{Prepared}
-use Rattle.runs.specs.BareRun.{bareRun, SafeRun}
-use Rattle.ends.specs.Ends.{endsOf}
+use Rattle.interpreter.specs.BareRun.{bareRun, SafeRun}
+use Rattle.entry.specs.Ends.{endsOf}
 use Rattle.interpreter.specs.EndsLaws.{ends-long, ends-small, ends-sizes}
 use Rattle.interpreter.specs.Agreement.{resultShown, Runnable}
 use Rattle.interpreter.specs.AgreementLaws.{safe-run, run-agrees}

@@ -7,7 +7,7 @@ use lib.ListN.{length, getD}
 use Rattle.table.specs.Form.{sectionsOf}
 use Rattle.machine.specs.Points.{Outside}
 use Rattle.machine.specs.Reach.{CellOf, Reachable}
-use Rattle.stops.specs.Answers.{reads}
+use Rattle.answers.specs.Answers.{reads}
 use Rattle.interpreter.specs.Claim.{Lent, Leaves, RunJudged, Begins}
 
 module _ (l : Lent) where

@@ -7,8 +7,8 @@ use native.Mathlib.Omega.{arith}
 use native.Mathlib.Decide.{ℕ-discrete}
 use lib.IntN.{ℤ}
 use lib.ListN.{length, getD}
-use Rattle.refusals.specs.declared.Refusal.{Refusal}
-use Rattle.sections.specs.declared.Sections.{Sections}
+use Rattle.answers.specs.declared.refusals.Refusal.{Refusal}
+use Rattle.words.specs.declared.sections.Sections.{Sections}
 use Rattle.statements.specs.StatementLaws.{read-typed}
 use Rattle.statements.specs.declared.Simple.the-variants.{Address}
 use Rattle.statements.specs.declared.Statement.the-variants.{Plain}
@@ -31,7 +31,7 @@ use Rattle.interpreter.specs.BegunLaws.{one-object}
 use Rattle.interpreter.specs.ClaimLaws.{lends, formed-sections, judged-ran}
 use Rattle.interpreter.specs.Claim.{runFaults, answerOf, Begins}
 use Rattle.interpreter.specs.TwoRuns.{OtherCell, DifferElsewhere, TwoRuns, withCells}
-use Rattle.stops.specs.declared.Outcome.the-variants as outcome
+use Rattle.answers.specs.declared.stops.Outcome.the-variants as outcome
 
 -- ---- a run that begins
 

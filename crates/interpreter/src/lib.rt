@@ -1,16 +1,18 @@
 // The interpreter: the run of an accepted routine.
+mod runs; // runs.rt: the run: steps from a statement on, up to a limit
+
+use answers::stops::Outcome;
+use blocks::flow::write_successors;
 use checker::check;
-use ends::lay_ends;
 use entry::EntryVerdict;
+use entry::ends::lay_ends;
 use entry::enter;
-use flow::write_successors;
 use rules::Verdict;
 use rules::read_environment;
 use runs::resume;
-use sections::Sections;
-use stops::Outcome;
 use table::Form;
 use table::read_form;
+use words::sections::Sections;
 ghost use mathlib.Core.Path.{_≡_};
 ghost use mathlib.Core.List.{[]};
 ghost use Rattle.table.specs.Form.{formOf};

@@ -3,8 +3,8 @@ use Prim.Native.Nat.{ℕ}
 use mathlib.Core.Path.{_≡_, _∙_}
 use mathlib.Core.List.{List, [], _∷_, _++_, append-assoc}
 use borrow.Author.Tests.{eq-eqb, ne-eqb}
-use Rattle.refusals.specs.Refusals.{number, place, pointer}
-use Rattle.refusals.specs.declared.Refusal.{Refusal}
+use Rattle.answers.specs.Refusals.{number, place, pointer}
+use Rattle.answers.specs.declared.refusals.Refusal.{Refusal}
 use Rattle.text.specs.Text.{bytesOf, textOf, decimal, Grown}
 use Rattle.text.specs.declared.Text.{Text}
 use Rattle.lines.specs.Lines.{space, lineFeed, refusedWord, spaced, refusedLine}

@@ -1,8 +1,10 @@
 // A verdict as a line of text.
-use refusals::Refusal;
+pub mod report; // report.rt: what a rehearsal tells a scorer, as lines of text
+
+use answers::refusals::Refusal;
 use rules::Verdict;
 use text::Text;
-ghost use Rattle.refusals.specs.Refusals.{number, place, pointer};
+ghost use Rattle.answers.specs.Refusals.{number, place, pointer};
 ghost use Rattle.rules.specs.Verdict.{verdictReads};
 ghost use Rattle.text.specs.Text.{Line};
 ghost use Rattle.lines.specs.Lines.{lineOf, refusedLine};
@@ -11,16 +13,16 @@ ghost use Rattle.lines.specs.Lines.{lineOf, refusedLine};
 fn refused_line(r: Refusal) -> Text
     ensures { λ t. ⌜ Line (refusedLine (number r) (place r) (pointer r)) t ⌝ }
 {
-    let number = refusals::refusal_number(r);
+    let number = answers::refusals::refusal_number(r);
     let start = Text::new()
         .push_all(b"refused ")
         .push_number(number as u64)
         .push(b' ')
-        .push_number(refusals::refusal_place(r) as u64);
+        .push_number(answers::refusals::refusal_place(r) as u64);
     if number == 8 {
         return start
             .push(b' ')
-            .push_number(refusals::refusal_pointer(r) as u64)
+            .push_number(answers::refusals::refusal_pointer(r) as u64)
             .push(b'\n');
     }
     start.push(b'\n')

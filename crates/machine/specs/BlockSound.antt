@@ -8,7 +8,7 @@ use lib.IntN.{ℤ}
 use lib.ListN.{length}
 use Rattle.chains.specs.Sound.{InRange, Holds, joined-left-holds, joined-right-holds}
 use Rattle.facts.specs.declared.FactSet.{FactSet}
-use Rattle.sections.specs.declared.Sections.{Sections}
+use Rattle.words.specs.declared.sections.Sections.{Sections}
 use Rattle.conditions.specs.Negation.{negatedOf}
 use Rattle.conditions.specs.declared.Condition.{Condition}
 use Rattle.statements.specs.Statements.{statementAt}
@@ -20,10 +20,10 @@ use Rattle.statements.specs.declared.Simple.the-variants.{PointerOffset, Pointe
 use Rattle.statements.specs.declared.Statement.the-variants.{Plain, If, While}
 use Rattle.statements.specs.declared.StatementRead.{StatementRead}
 use Rattle.blocks.specs.Tree.{Block, nil, plain, branch, loop, bundle, unread, target, targets, assigned}
-use Rattle.flow.specs.Flow.{Successors, successors, entry, lead}
-use Rattle.flow.specs.Shape.{size}
+use Rattle.blocks.specs.Flow.{Successors, successors, entry, lead}
+use Rattle.blocks.specs.Shape.{size}
 use Rattle.rules.specs.States.{State}
-use Rattle.flow.specs.Targets.{targetsFrom}
+use Rattle.blocks.specs.Targets.{targetsFrom}
 use Rattle.rules.specs.Stored.{loopFacts, effect, bundleBounds, bundleFaults, sidesJoined, blockFaults, boundsAfter}
 use Rattle.rules.specs.Stored.{stateAfter, assumed, atHead, accessIn, unshownIn, declaredIn, bundleAfter, blockAfter}
 use Rattle.rules.specs.FactsTrue.{Agree, among-left, among-right, loop-facts-hold}

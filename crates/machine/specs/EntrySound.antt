@@ -12,8 +12,8 @@ use lib.ListN.{length, getD, List·getD-eq-default}
 use Rattle.sums.specs.Numbers.{bias, zeroVar}
 use Rattle.arrays.specs.TabulateLaws.{length-tabulate}
 use Rattle.chains.specs.Sound.{InRange, new-holds}
-use Rattle.sections.specs.SectionsLaws.{both}
-use Rattle.sections.specs.declared.Sections.{Sections}
+use Rattle.words.specs.SectionsLaws.{both}
+use Rattle.words.specs.declared.sections.Sections.{Sections}
 use Rattle.rules.specs.BoundsRules.{declared, isPointer, ownRows, inForce, isString, isTerminated}
 use Rattle.rules.specs.Stored.{newState}
 use Rattle.rules.specs.BoundsTrue.{BoundsHold, own-row, own-declared}

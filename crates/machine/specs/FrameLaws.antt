@@ -11,8 +11,8 @@ use lib.IntN.{ℤ}
 use lib.ListN.{length, getD, set, length-set}
 use lib.Seq.{getD-set-other}
 use Rattle.sums.specs.Numbers.{bias}
-use Rattle.sections.specs.SectionsLaws.{both}
-use Rattle.sections.specs.declared.Sections.{Sections}
+use Rattle.words.specs.SectionsLaws.{both}
+use Rattle.words.specs.declared.sections.Sections.{Sections}
 use Rattle.statements.specs.Statements.{statementAt}
 use Rattle.statements.specs.StatementLaws.{read-typed}
 use Rattle.statements.specs.declared.Simple.{Simple}
@@ -21,7 +21,7 @@ use Rattle.statements.specs.declared.Simple.the-variants.{PointerOffset, Pointe
 use Rattle.statements.specs.declared.Statement.the-variants.{Plain, If, While, Bundle}
 use Rattle.statements.specs.declared.StatementRead.{StatementRead}
 use Rattle.statements.specs.declared.StatementRead.the-variants.{Read, Unread}
-use Rattle.flow.specs.Flow.{Successors}
+use Rattle.blocks.specs.Flow.{Successors}
 use Rattle.rules.specs.BoundsRules.{inForce}
 use Rattle.rules.specs.declared.Environment.{Environment}
 use Rattle.machine.specs.Machine.{value, low, high, inOrigin, address, Failing, none, fails, failing, conditionHolds, Status}

@@ -13,7 +13,7 @@ use lib.Seq.{getD-set-same, getD-set-other}
 use Rattle.sums.specs.Numbers.{bias, maxValue}
 use Rattle.chains.specs.Sound.{InRange, Holds, Except}
 use Rattle.facts.specs.declared.FactSet.{FactSet}
-use Rattle.sections.specs.declared.Sections.{Sections}
+use Rattle.words.specs.declared.sections.Sections.{Sections}
 use Rattle.blocks.specs.Tree.{tree}
 use Rattle.blocks.specs.Layout.{layout}
 use Rattle.rules.specs.BoundsRules.{isPointer, declared, known, inForce, isString, upperLimit}

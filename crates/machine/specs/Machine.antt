@@ -6,7 +6,7 @@ use lib.Dec.{leb, ltb, eqb}
 use lib.IntN.{ℤ}
 use lib.ListN.{length, getD, set}
 use Rattle.sums.specs.Numbers.{bias, maxValue}
-use Rattle.sections.specs.declared.Sections.{Sections}
+use Rattle.words.specs.declared.sections.Sections.{Sections}
 use Rattle.conditions.specs.Relations.{relates}
 use Rattle.conditions.specs.declared.Condition.{Condition}
 use Rattle.statements.specs.Statements.{statementAt}
@@ -16,8 +16,8 @@ use Rattle.statements.specs.declared.Simple.the-variants.{PointerOffset, Pointe
 use Rattle.statements.specs.declared.Statement.the-variants.{Plain, If, While, Bundle}
 use Rattle.statements.specs.declared.StatementRead.{StatementRead}
 use Rattle.statements.specs.declared.StatementRead.the-variants.{Read, Unread}
-use Rattle.variables.specs.declared.End.{End}
-use Rattle.flow.specs.Flow.{Successors, successors, tableFlow, tableEntry}
+use Rattle.table.specs.declared.variables.End.{End}
+use Rattle.blocks.specs.Flow.{Successors, successors, tableFlow, tableEntry}
 use Rattle.rules.specs.BoundsRules.{declared, ownRows, inForce, rowsAfter, elementSize, isString, isTerminated, upperLimit}
 use Rattle.rules.specs.declared.KnownEnd.{KnownEnd}
 use Rattle.rules.specs.declared.KnownEnd.the-variants.{Known, Unknown}

@@ -12,10 +12,10 @@ use lib.ListN.{length}
 use Rattle.facts.specs.Store.{contradictory}
 use Rattle.chains.specs.Sound.{holds-clear}
 use Rattle.facts.specs.declared.FactSet.{FactSet}
-use Rattle.sections.specs.declared.Sections.{Sections}
+use Rattle.words.specs.declared.sections.Sections.{Sections}
 use Rattle.statements.specs.declared.Simple.{Simple}
 use Rattle.blocks.specs.Tree.{Block, nil, plain, branch, loop, bundle, unread}
-use Rattle.flow.specs.Shape.{size, Numbered}
+use Rattle.blocks.specs.Shape.{size, Numbered}
 use Rattle.rules.specs.Stored.{store}
 use Rattle.rules.specs.States.{State}
 use Rattle.rules.specs.StateBefore.{lineBefore, stateBefore}

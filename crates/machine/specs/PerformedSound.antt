@@ -15,9 +15,9 @@ use Rattle.facts.specs.Store.{inRange}
 use Rattle.sums.specs.Numbers.{bias, maxValue}
 use Rattle.chains.specs.Sound.{Holds}
 use Rattle.facts.specs.declared.FactSet.{FactSet}
-use Rattle.sections.specs.Sections.{stringAt, objectTerminated}
-use Rattle.sections.specs.Typed.{IsPointer}
-use Rattle.sections.specs.declared.Sections.{Sections}
+use Rattle.words.specs.Sections.{stringAt, objectTerminated}
+use Rattle.words.specs.Typed.{IsPointer}
+use Rattle.words.specs.declared.sections.Sections.{Sections}
 use Rattle.statements.specs.Typed.{SimpleTyped}
 use Rattle.statements.specs.declared.Simple.{Simple}
 use Rattle.statements.specs.declared.Simple.the-variants.{Literal, AddConstant, Arithmetic, Null, Address}

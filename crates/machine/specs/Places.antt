@@ -7,17 +7,17 @@ use lib.IntN.{ℤ}
 use lib.ListN.{length}
 use Rattle.chains.specs.Sound.{InRange, Holds}
 use Rattle.facts.specs.declared.FactSet.{FactSet}
-use Rattle.sections.specs.declared.Sections.{Sections}
+use Rattle.words.specs.declared.sections.Sections.{Sections}
 use Rattle.conditions.specs.Negation.{negatedOf}
 use Rattle.statements.specs.Statements.{statementAt}
 use Rattle.statements.specs.declared.Simple.{Simple}
 use Rattle.statements.specs.declared.Statement.the-variants.{Plain, If, While, Bundle}
 use Rattle.statements.specs.declared.StatementRead.the-variants.{Read}
 use Rattle.blocks.specs.Tree.{Block, nil, plain, branch, loop, bundle, unread, assigned}
-use Rattle.flow.specs.Flow.{Successors, successors, entry, lead}
-use Rattle.flow.specs.Shape.{size, Numbered, Formed, ReadsLine, Reads, RightLine, Right}
-use Rattle.flow.specs.Targets.{targetsFrom}
-use Rattle.flow.specs.ShapeLaws.{body-targets}
+use Rattle.blocks.specs.Flow.{Successors, successors, entry, lead}
+use Rattle.blocks.specs.Shape.{size, Numbered, Formed, ReadsLine, Reads, RightLine, Right}
+use Rattle.blocks.specs.Targets.{targetsFrom}
+use Rattle.blocks.specs.ShapeLaws.{body-targets}
 use Rattle.rules.specs.States.{State}
 use Rattle.rules.specs.Stored.{effect, sidesJoined, boundsAfter, stateAfter, assumed, atHead, declaredIn, bundleAfter, blockAfter}
 use Rattle.rules.specs.FactsTrue.{Agree}

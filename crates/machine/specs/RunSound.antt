@@ -15,7 +15,7 @@ use Rattle.facts.specs.declared.FactSet.{FactSet}
 use Rattle.chains.specs.Facts.{Variables, Contradiction}
 use Rattle.chains.specs.History.{known}
 use Rattle.chains.specs.HistoryLaws.{contradicts-exactly}
-use Rattle.sections.specs.declared.Sections.{Sections}
+use Rattle.words.specs.declared.sections.Sections.{Sections}
 use Rattle.statements.specs.Statements.{statementAt}
 use Rattle.statements.specs.StatementLaws.{read-typed, read-within}
 use Rattle.statements.specs.declared.Simple.{Simple}
@@ -28,9 +28,9 @@ use Rattle.table.specs.Form.{formOf}
 use Rattle.table.specs.FormLaws.{well-formed}
 use Rattle.table.specs.declared.Form.the-variants.{WellFormed}
 use Rattle.blocks.specs.Tree.{tree, assigned}
-use Rattle.flow.specs.Flow.{successors, tableEntry}
-use Rattle.flow.specs.ShapeLaws.{table-laid}
-use Rattle.flow.specs.SuccessorLaws.{flow-right}
+use Rattle.blocks.specs.Flow.{successors, tableEntry}
+use Rattle.blocks.specs.ShapeLaws.{table-laid}
+use Rattle.blocks.specs.SuccessorLaws.{flow-right}
 use Rattle.rules.specs.FactsTrue.{Agree}
 use Rattle.rules.specs.States.{State}
 use Rattle.rules.specs.BoundsRules.{isPointer, declared, ownRows, inForce}

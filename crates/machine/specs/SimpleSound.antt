@@ -14,8 +14,8 @@ use Rattle.sums.specs.Numbers.{bias, maxValue}
 use Rattle.facts.specs.Store.{inRange, dropped, ranged, shifted}
 use Rattle.chains.specs.Sound.{Holds, dropped-holds, ranged-holds, shifted-holds}
 use Rattle.facts.specs.declared.FactSet.{FactSet}
-use Rattle.sections.specs.Typed.{IsInteger, IsPointer}
-use Rattle.sections.specs.declared.Sections.{Sections}
+use Rattle.words.specs.Typed.{IsInteger, IsPointer}
+use Rattle.words.specs.declared.sections.Sections.{Sections}
 use Rattle.statements.specs.declared.Simple.{Simple}
 use Rattle.blocks.specs.Tree.{target}
 use Rattle.rules.specs.Stored.{equated, sumFacts, offsetFacts, effect, effectOn, boundsAfter, stateAfter}

@@ -7,7 +7,7 @@ use mathlib.Core.List.{List}
 use lib.IntN.{ℤ}
 use lib.ListN.{length, getD}
 use Rattle.sums.specs.Numbers.{bias, maxValue}
-use Rattle.sections.specs.declared.Sections.{Sections}
+use Rattle.words.specs.declared.sections.Sections.{Sections}
 use Rattle.blocks.specs.Tree.{tree}
 use Rattle.rules.specs.BoundsRules.{isPointer, objectLength, inForce}
 use Rattle.rules.specs.declared.Environment.{Environment}

@@ -11,7 +11,7 @@ use lib.Dec.{ltb}
 use lib.IntN.{ℤ}
 use lib.ListN.{length}
 use Rattle.facts.specs.declared.FactSet.{FactSet}
-use Rattle.sections.specs.declared.Sections.{Sections}
+use Rattle.words.specs.declared.sections.Sections.{Sections}
 use Rattle.conditions.specs.Negation.{negatedOf}
 use Rattle.statements.specs.Statements.{statementAt}
 use Rattle.statements.specs.StatementLaws.{read-typed, read-within}
@@ -20,8 +20,8 @@ use Rattle.statements.specs.declared.Statement.{Statement}
 use Rattle.statements.specs.declared.Statement.the-variants.{Plain, If, While, Bundle}
 use Rattle.statements.specs.declared.StatementRead.the-variants.{Read}
 use Rattle.blocks.specs.Tree.{Block, nil, plain, branch, loop, bundle, unread}
-use Rattle.flow.specs.Flow.{Successors, entry}
-use Rattle.flow.specs.Shape.{size}
+use Rattle.blocks.specs.Flow.{Successors, entry}
+use Rattle.blocks.specs.Shape.{size}
 use Rattle.rules.specs.States.{State}
 use Rattle.rules.specs.Stored.{effect, bundleFaults, sidesJoined, blockFaults, boundsAfter, stateAfter, assumed, accessIn, declaredIn, bundleAfter, blockAfter}
 use Rattle.rules.specs.FactsTrue.{neither}

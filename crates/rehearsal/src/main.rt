@@ -26,8 +26,8 @@ fn read_routine(name: &[u8], table: &mut [i32]) -> usize
     let mut bytes = io::large_buffer();
     let size = io::read_full(file, &mut bytes);
     libc::close(file);
-    console::write_text(lines::verdict_line(files::check_file(&bytes[..size])));
-    encoding::read_words(&bytes[..size], table)
+    text::console::write_text(lines::verdict_line(files::check_file(&bytes[..size])));
+    files::encoding::read_words(&bytes[..size], table)
 }
 
 // Runs the routine for one late boat; the values are row pointer, count of rows and boat.
@@ -38,11 +38,11 @@ fn register(table: &[i32], cells: &mut [u32], values: &mut [u32], origins: &[u32
     let row = values[0];
     let boat = values[2];
     let outcome = interpreter::run(table, &directory, cells, values, origins, LIMIT);
-    console::write_text(report::entry_line(boat, row, outcome));
+    text::console::write_text(lines::report::entry_line(boat, row, outcome));
 }
 
 fn show_first_row(before: u32, after: u32) {
-    console::write_text(report::first_row_line(before, after));
+    text::console::write_text(lines::report::first_row_line(before, after));
 }
 
 // The entry table, row by row.
@@ -50,7 +50,7 @@ fn show_rows(cells: &[u32])
     requires { ⌜ 13 ≤ length (now cells) ⌝ }
 {
     for row in 1usize..13 {
-        console::write_text(report::row_line(row as u32, cells[row]));
+        text::console::write_text(lines::report::row_line(row as u32, cells[row]));
     }
 }
 
@@ -64,7 +64,7 @@ fn first_club() {
         values[2] = boat;
         register(&table[..count], &mut cells, &mut values, &[1, 0, 0]);
     }
-    console::write_text(report::left_line(values[1]));
+    text::console::write_text(lines::report::left_line(values[1]));
     show_first_row(201, cells[OTHER_ROW]);
     io::write_all(STDOUT_FILENO, b"The scorer opens another block.\n");
     let mut next = [NEXT_ROW, ROWS, 105];

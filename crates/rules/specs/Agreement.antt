@@ -13,9 +13,9 @@ use Rattle.arrays.specs.TabulateLaws.{tabulate-alike}
 use Rattle.facts.specs.declared.FactSet.{FactSet}
 use Rattle.chains.specs.Facts.{Variables}
 use Rattle.chains.specs.History.{History}
-use Rattle.refusals.specs.declared.Refusal.{Refusal}
-use Rattle.sections.specs.Typed.{IsSmall}
-use Rattle.sections.specs.declared.Sections.{Sections}
+use Rattle.answers.specs.declared.refusals.Refusal.{Refusal}
+use Rattle.words.specs.Typed.{IsSmall}
+use Rattle.words.specs.declared.sections.Sections.{Sections}
 use Rattle.conditions.specs.Negation.{negatedOf}
 use Rattle.conditions.specs.Typed.{Sides}
 use Rattle.conditions.specs.declared.Condition.{Condition}
@@ -31,8 +31,8 @@ use Rattle.table.specs.declared.Form.{Form}
 use Rattle.table.specs.declared.Form.the-variants as form
 use Rattle.blocks.specs.Layout.{also, layout}
 use Rattle.blocks.specs.Tree.{Block, nil, plain, branch, loop, bundle, unread, tree}
-use Rattle.flow.specs.Shape.{size, ReadsLine, Reads, Formed as Shaped}
-use Rattle.flow.specs.ShapeLaws.{table-laid}
+use Rattle.blocks.specs.Shape.{size, ReadsLine, Reads, Formed as Shaped}
+use Rattle.blocks.specs.ShapeLaws.{table-laid}
 use Rattle.rules.specs.States.{State}
 use Rattle.rules.specs.BoundsRules.{isPointer, declared, known, names, weight, comparableEnds, consIf, shiftEnd, shiftBounds, effectOn, boundsAfter}
 use Rattle.rules.specs.BoundsRules.{effect, endAtMost, knownAtMost, boundsShown, unshownFrom, unshown, accessShown, rowBound, inForce, rowUnshown}

@@ -7,13 +7,13 @@ use lib.ListN.{length}
 use Rattle.facts.specs.declared.FactSet.{FactSet}
 use Rattle.chains.specs.Facts.{Variables}
 use Rattle.chains.specs.History.{History}
-use Rattle.sections.specs.Sections.{Limits}
-use Rattle.sections.specs.declared.Sections.{Sections}
+use Rattle.words.specs.Sections.{Limits}
+use Rattle.words.specs.declared.sections.Sections.{Sections}
 use Rattle.statements.specs.StatementLaws.{read-typed}
 use Rattle.statements.specs.declared.Simple.{Simple}
 use Rattle.statements.specs.declared.Statement.the-variants.{Plain, If, While}
 use Rattle.blocks.specs.Tree.{Block, nil, plain, branch, loop, bundle, unread}
-use Rattle.flow.specs.Shape.{size, ReadsLine, Reads}
+use Rattle.blocks.specs.Shape.{size, ReadsLine, Reads}
 use Rattle.rules.specs.States.{State}
 use Rattle.rules.specs.Rules.{bundleAfter, blockAfter}
 use Rattle.rules.specs.StateBefore.{lineBefore, stateBefore}

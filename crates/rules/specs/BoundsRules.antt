@@ -9,7 +9,7 @@ use Rattle.arrays.specs.Tabulate.{tabulate}
 use Rattle.statements.specs.declared.Simple.{Simple}
 use Rattle.statements.specs.declared.Simple.the-variants.{Literal, AddConstant, Arithmetic, Null, Address}
 use Rattle.statements.specs.declared.Simple.the-variants.{PointerOffset, PointerIndex, Load, Store, Check, Declare}
-use Rattle.variables.specs.declared.End.{End}
+use Rattle.table.specs.declared.variables.End.{End}
 use Rattle.rules.specs.FactSets.{FactSets}
 use Rattle.rules.specs.FactRules.{inRange}
 use Rattle.rules.specs.declared.KnownEnd.{KnownEnd}

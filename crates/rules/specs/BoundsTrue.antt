@@ -15,9 +15,9 @@ use Rattle.arrays.specs.TabulateLaws.{getD-tabulate, length-tabulate}
 use Rattle.facts.specs.Store.{shown, endShown}
 use Rattle.chains.specs.Sound.{InRange, Holds, Except, end-true}
 use Rattle.facts.specs.declared.FactSet.{FactSet}
-use Rattle.sections.specs.SectionsLaws.{both}
-use Rattle.sections.specs.NameLaws.{either}
-use Rattle.variables.specs.declared.End.{End}
+use Rattle.words.specs.SectionsLaws.{both}
+use Rattle.words.specs.NameLaws.{either}
+use Rattle.table.specs.declared.variables.End.{End}
 use Rattle.rules.specs.FactsTrue.{neither}
 use Rattle.rules.specs.BoundsRules.{nothingKnown, isPointer, declared, known, names, forgetEnd, forgetBounds, objectBounds}
 use Rattle.rules.specs.BoundsRules.{consIf, ownRows, rowBound, inForce, sized, elementSize, weight, comparableEnds}

@@ -9,9 +9,9 @@ use lib.IntN.{ℤ}
 use Rattle.sums.specs.Numbers.{bias}
 use Rattle.chains.specs.Facts.{Variables, Node, Shown, EndShown}
 use Rattle.chains.specs.History.{History, new, add, drop, range, shift, join, known, Legal}
-use Rattle.refusals.specs.declared.Refusal.{Refusal}
-use Rattle.sections.specs.Sections.{Limits}
-use Rattle.sections.specs.declared.Sections.{Sections}
+use Rattle.answers.specs.declared.refusals.Refusal.{Refusal}
+use Rattle.words.specs.Sections.{Limits}
+use Rattle.words.specs.declared.sections.Sections.{Sections}
 use Rattle.table.specs.Form.{formOf}
 use Rattle.table.specs.declared.Form.the-variants as form
 use Rattle.rules.specs.FactSets.{FactSets}

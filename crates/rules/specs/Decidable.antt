@@ -19,7 +19,7 @@ use Rattle.chains.specs.Chains.{sinks, two-chains}
 use Rattle.chains.specs.Exact.{Exact}
 use Rattle.chains.specs.History.{known}
 use Rattle.chains.specs.HistoryLaws.{made, exact, shows-exactly}
-use Rattle.refusals.specs.declared.Refusal.{Refusal}
+use Rattle.answers.specs.declared.refusals.Refusal.{Refusal}
 use Rattle.table.specs.Form.{formOf}
 use Rattle.table.specs.declared.Form.{Form}
 use Rattle.table.specs.declared.Form.the-variants as form

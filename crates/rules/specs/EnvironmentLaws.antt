@@ -11,19 +11,19 @@ use lib.ListN.{length, List·getD-eq-default, getD}
 use lib.Dec.{ltb}
 use Rattle.arrays.specs.Tabulate.{tabulate}
 use Rattle.arrays.specs.TabulateLaws.{getD-tabulate, length-tabulate}
-use Rattle.sections.specs.Sections.{pointerAt, stringAt, objectTerminated}
-use Rattle.sections.specs.Typed.{IsInteger, IsPointer, IsIndex, missing, given}
-use Rattle.sections.specs.NameLaws.{pointer-limits, integer-no-pointer}
-use Rattle.sections.specs.declared.Sections.{Sections}
-use Rattle.variables.specs.Typed.{EndTyped, PointerTyped}
-use Rattle.variables.specs.Variables.{variableAt, rowAt, objectAt}
-use Rattle.variables.specs.VariableLaws.{variable-read-typed, row-read-typed}
-use Rattle.variables.specs.declared.End.{End}
-use Rattle.variables.specs.declared.Variable.{Variable}
-use Rattle.variables.specs.declared.Variable.the-variants.{Integer, Pointer}
-use Rattle.variables.specs.declared.VariableRead.{VariableRead}
-use Rattle.variables.specs.declared.VariableRead.the-variants.{Read, Unread}
-use Rattle.variables.specs.declared.RowRead.{RowRead}
+use Rattle.words.specs.Sections.{pointerAt, stringAt, objectTerminated}
+use Rattle.words.specs.Typed.{IsInteger, IsPointer, IsIndex, missing, given}
+use Rattle.words.specs.NameLaws.{pointer-limits, integer-no-pointer}
+use Rattle.words.specs.declared.sections.Sections.{Sections}
+use Rattle.table.specs.Typed.{EndTyped, PointerTyped}
+use Rattle.table.specs.Variables.{variableAt, rowAt, objectAt}
+use Rattle.table.specs.VariableLaws.{variable-read-typed, row-read-typed}
+use Rattle.table.specs.declared.variables.End.{End}
+use Rattle.table.specs.declared.variables.Variable.{Variable}
+use Rattle.table.specs.declared.variables.Variable.the-variants.{Integer, Pointer}
+use Rattle.table.specs.declared.variables.VariableRead.{VariableRead}
+use Rattle.table.specs.declared.variables.VariableRead.the-variants.{Read, Unread}
+use Rattle.table.specs.declared.variables.RowRead.{RowRead}
 use Rattle.table.specs.FormLaws.{Formed}
 use Rattle.rules.specs.BoundsRules.{nothingKnown, isPointer, declared, rowBound, inForce, elementSize}
 use Rattle.rules.specs.BoundsRules.{sized, isString, isTerminated, objectLength, objectSpan, upperLimit}
@@ -32,7 +32,7 @@ use Rattle.rules.specs.Verdict.{boundsOf, environmentOf, rowBounds, vari
 use Rattle.rules.specs.declared.KnownEnd.the-variants.{Known}
 use Rattle.rules.specs.declared.Bounds.{Bounds}
 use Rattle.rules.specs.declared.Environment.{Environment}
-use Rattle.variables.specs.declared.RowRead.the-variants as row
+use Rattle.table.specs.declared.variables.RowRead.the-variants as row
 
 -- Bounds of the element size s with both ends.
 pub record Ends (s : ℕ) (b : Bounds) : Type 0 where

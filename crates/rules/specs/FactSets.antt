@@ -2,7 +2,7 @@
 -- The rules are written once, over this. `byChains` (ByChains.antt) has the paper's facts and chains; `store` (Stored.antt) has the sums that the code holds.
 use Prim.Native.Nat.{ℕ}
 use mathlib.Core.Bool.{Bool}
-use Rattle.variables.specs.declared.End.{End}
+use Rattle.table.specs.declared.variables.End.{End}
 use Rattle.rules.specs.declared.KnownEnd.{KnownEnd}
 
 pub record FactSets : Type 1 where

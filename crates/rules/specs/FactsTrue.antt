@@ -13,8 +13,8 @@ use Rattle.sums.specs.Numbers.{bias, maxValue, zeroVar}
 use Rattle.facts.specs.Store.{shown, inRange, added, dropped}
 use Rattle.chains.specs.Sound.{InRange, True, Holds, Except, added-holds, dropped-holds}
 use Rattle.facts.specs.declared.FactSet.{FactSet}
-use Rattle.sections.specs.SectionsLaws.{both}
-use Rattle.sections.specs.NameLaws.{either}
+use Rattle.words.specs.SectionsLaws.{both}
+use Rattle.words.specs.NameLaws.{either}
 use Rattle.rules.specs.FactRules.{among}
 use Rattle.rules.specs.Stored.{equated, positive, droppedEach, loopFacts}
 use Rattle.rules.specs.FactRules as factRules

@@ -18,21 +18,21 @@ use Rattle.arrays.specs.TabulateLaws.{length-tabulate, getD-tabulate}
 use Rattle.facts.specs.Store.{inRange}
 use Rattle.chains.specs.Facts.{Variables, Node}
 use Rattle.facts.specs.declared.FactSet.{FactSet}
-use Rattle.sections.specs.Sections.{objectTerminated}
-use Rattle.sections.specs.Typed.{IsIndex, missing, given, IsSmall}
-use Rattle.sections.specs.declared.Sections.{Sections}
+use Rattle.words.specs.Sections.{objectTerminated}
+use Rattle.words.specs.Typed.{IsIndex, missing, given, IsSmall}
+use Rattle.words.specs.declared.sections.Sections.{Sections}
 use Rattle.statements.specs.Typed.{SimpleTyped}
 use Rattle.statements.specs.declared.Simple.{Simple}
 use Rattle.statements.specs.declared.Simple.the-variants.{Literal, AddConstant, Arithmetic, Null, Address}
 use Rattle.statements.specs.declared.Simple.the-variants.{PointerOffset, PointerIndex, Load, Store, Check, Declare}
-use Rattle.variables.specs.Variables.{variableAt, objectAt, rowAt}
-use Rattle.variables.specs.VariableLaws.{variable-read-typed, row-read-typed}
-use Rattle.variables.specs.Typed.{EndTyped}
-use Rattle.variables.specs.declared.End.{End}
-use Rattle.variables.specs.declared.Variable.the-variants.{Integer, Pointer}
-use Rattle.variables.specs.declared.VariableRead.{VariableRead}
-use Rattle.variables.specs.declared.VariableRead.the-variants.{Read, Unread}
-use Rattle.variables.specs.declared.RowRead.{RowRead}
+use Rattle.table.specs.Variables.{variableAt, objectAt, rowAt}
+use Rattle.table.specs.VariableLaws.{variable-read-typed, row-read-typed}
+use Rattle.table.specs.Typed.{EndTyped}
+use Rattle.table.specs.declared.variables.End.{End}
+use Rattle.table.specs.declared.variables.Variable.the-variants.{Integer, Pointer}
+use Rattle.table.specs.declared.variables.VariableRead.{VariableRead}
+use Rattle.table.specs.declared.variables.VariableRead.the-variants.{Read, Unread}
+use Rattle.table.specs.declared.variables.RowRead.{RowRead}
 use Rattle.table.specs.FormLaws.{Formed}
 use Rattle.rules.specs.BoundsRules.{nothingKnown, known, names, forgetEnd, forgetBounds, objectBounds}
 use Rattle.rules.specs.BoundsRules.{effect, rowBound, declared, inForce, weight, objectSpan, upperLimit}
@@ -46,7 +46,7 @@ use Rattle.rules.specs.declared.KnownEnd.the-variants.{Known, Unknown}
 use Rattle.rules.specs.declared.Bounds.{Bounds}
 use Rattle.rules.specs.declared.Effect.{Effect}
 use Rattle.rules.specs.declared.Effect.the-variants.{Keep, Forget, Shift, Copy, Object}
-use Rattle.variables.specs.declared.RowRead.the-variants as row
+use Rattle.table.specs.declared.variables.RowRead.the-variants as row
 
 -- An end after at most n statements: it names variables, and its constant is that of a table or an object's length, moved n times by at most 8 times 65,536.
 pub record FairEnd (vars : Variables) (n : ℕ) (e : End) : Type 0 where

@@ -19,11 +19,11 @@ use Rattle.chains.specs.Exact.{Exact, end-exact}
 use Rattle.chains.specs.History.{History, new, add, drop, range, shift, join, known, Legal, Slight}
 use Rattle.chains.specs.HistoryLaws.{made, exact, shows-exactly}
 use Rattle.facts.specs.declared.FactSet.{FactSet}
-use Rattle.sections.specs.Sections.{pointerAt, Limits}
-use Rattle.sections.specs.NameLaws.{integer-no-pointer}
-use Rattle.sections.specs.SectionsLaws.{both}
-use Rattle.sections.specs.Typed.{IsInteger, IsPointer, IsSmall}
-use Rattle.sections.specs.declared.Sections.{Sections}
+use Rattle.words.specs.Sections.{pointerAt, Limits}
+use Rattle.words.specs.NameLaws.{integer-no-pointer}
+use Rattle.words.specs.SectionsLaws.{both}
+use Rattle.words.specs.Typed.{IsInteger, IsPointer, IsSmall}
+use Rattle.words.specs.declared.sections.Sections.{Sections}
 use Rattle.conditions.specs.Negation.{negatedOf}
 use Rattle.conditions.specs.Typed.{Sides, integers, pointers, literal, null}
 use Rattle.conditions.specs.declared.Condition.{Condition}
@@ -36,7 +36,7 @@ use Rattle.statements.specs.declared.Simple.the-variants.{PointerOffset, Pointe
 use Rattle.statements.specs.declared.Statement.the-variants.{Plain, If, While, Bundle}
 use Rattle.statements.specs.declared.StatementRead.{StatementRead}
 use Rattle.statements.specs.declared.StatementRead.the-variants.{Read, Unread}
-use Rattle.flow.specs.Targets.{targetOf, targetsFrom}
+use Rattle.blocks.specs.Targets.{targetOf, targetsFrom}
 use Rattle.blocks.specs.Tree.{target}
 use Rattle.rules.specs.FactRules.{among, inRange, equated, positive, differs, relationFacts, conditionFacts}
 use Rattle.rules.specs.FactRules.{sumFacts, offsetFacts, factsAfter, droppedEach, loopFacts}

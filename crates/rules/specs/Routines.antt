@@ -7,20 +7,20 @@ use Rattle.facts.specs.Store.{leastSum, shown, endShown, newRow, newSet, lowere
 use Rattle.facts.specs.Store.{reroutedRow, reassigned, ranged, dropped, shifted, joinedSum, joinedRow, joined, withinEnd}
 use Rattle.arrays.specs.Tabulate.{tabulate}
 use Rattle.words.specs.Words.{fieldsAt, biased, word}
-use Rattle.fields.specs.Fields.{indexOf, isBelow, literalValue, isConstant}
-use Rattle.sections.specs.Sections.{inLimits, isVariable, kindAt, integerAt, pointerAt, namesInteger, namesPointer, namesIndex, startRight}
-use Rattle.sections.specs.Sections.{kindOf, kindIs, arrayAt, stringAt, objectTerminated, takesPointer, takesObject, namesArray, namesString}
+use Rattle.words.specs.Fields.{indexOf, isBelow, literalValue, isConstant}
+use Rattle.words.specs.Sections.{inLimits, isVariable, kindAt, integerAt, pointerAt, namesInteger, namesPointer, namesIndex, startRight}
+use Rattle.words.specs.Sections.{kindOf, kindIs, arrayAt, stringAt, objectTerminated, takesPointer, takesObject, namesArray, namesString}
 use Rattle.conditions.specs.Negation.{negation, negatedOf}
 use Rattle.conditions.specs.Conditions.{sameKind, besideLiteral, conditionRight, rightOf, offsetOf, conditionOf}
 use Rattle.statements.specs.Statements.{unusedFrom, literalRead, addConstantRead, arithmeticRead, nullRead, addressRead, pointerOffsetRead}
 use Rattle.statements.specs.Statements.{pointerIndexRead, loadRead, storeRead, bundleRead, checkRead, ifRead, whileRead, kindRead, statementAt, declareRead}
-use Rattle.variables.specs.Variables.{endWordsAt, variableWordsAt, endRight, endZero, endOf, integerRecord, pointerRecord}
-use Rattle.variables.specs.Variables.{variableOf, variableAt, objectAt, rowWordsAt, rowOf, rowAt, isSize, sizeOf, objectCells}
+use Rattle.table.specs.Variables.{endWordsAt, variableWordsAt, endRight, endZero, endOf, integerRecord, pointerRecord}
+use Rattle.table.specs.Variables.{variableOf, variableAt, objectAt, rowWordsAt, rowOf, rowAt, isSize, sizeOf, objectCells}
 use Rattle.table.specs.Form.{lengthRight, isNumber, sectionsOf, directoryRight, objectRight, variableReads, statementReads, lowestFrom}
 use Rattle.table.specs.Form.{lowestObject, lowestVariable, lowestStatement, itemsForm, formOf, fourPairs, fourthRight, rowReads, lowestRow}
 use Rattle.blocks.specs.Layout.{also, when, contents, bundleLayout, blockLayout, layout, verdict}
-use Rattle.flow.specs.Shape.{size}
-use Rattle.flow.specs.Targets.{targetsFrom}
+use Rattle.blocks.specs.Shape.{size}
+use Rattle.blocks.specs.Targets.{targetsFrom}
 use Rattle.blocks.specs.Tree.{simples, parse, tree, targets, assigned}
 use Rattle.rules.specs.BoundsRules.{forgetEnd, forgetBounds, objectBounds, rowBound, rowsAfter, weight, upperLimit}
 use Rattle.rules.specs.Stored.{effect, endAtMost, knownAtMost, boundsShown, unshownFrom, unshown, accessShown, equated, positive, differs}
@@ -32,7 +32,7 @@ use Rattle.rules.specs.Verdict.{environmentOf, verdictOf}
 use Rattle.rules.specs.ByChains.{Decided, chainFaults}
 use Rattle.rules.specs.Decidable.{decided}
 use Rattle.rules.specs.Agreement.{verdict-agrees}
-use Rattle.refusals.specs.declared.Refusal.the-variants.{BoundsNotShown, BundleAccess}
+use Rattle.answers.specs.declared.refusals.Refusal.the-variants.{BoundsNotShown, BundleAccess}
 use Rattle.rules.specs.declared.Verdict.{Verdict}
 use Rattle.rules.specs.declared.Verdict.the-variants.{Accepted, Refused}
 use Rattle.rules.specs.BoundsRules as boundsRules

@@ -4,15 +4,15 @@ use mathlib.Core.Bool.{Bool, true, false, not, _&&_}
 use mathlib.Core.List.{List, [], _∷_}
 use lib.IntN.{ℤ}
 use lib.Dec.{eqb}
-use Rattle.refusals.specs.declared.Refusal.{Refusal}
-use Rattle.refusals.specs.declared.Refusal.the-variants.{StatementRecord, BoundsNotShown, BundleAccess, RowsDiffer}
-use Rattle.sections.specs.declared.Sections.{Sections}
+use Rattle.answers.specs.declared.refusals.Refusal.{Refusal}
+use Rattle.answers.specs.declared.refusals.Refusal.the-variants.{StatementRecord, BoundsNotShown, BundleAccess, RowsDiffer}
+use Rattle.words.specs.declared.sections.Sections.{Sections}
 use Rattle.conditions.specs.Negation.{negatedOf}
 use Rattle.conditions.specs.declared.Condition.{Condition}
 use Rattle.statements.specs.declared.Simple.{Simple}
 use Rattle.blocks.specs.Tree.{Block, nil, plain, branch, loop, bundle, unread}
 use Rattle.blocks.specs.Layout.{also, when}
-use Rattle.flow.specs.Targets.{targetsFrom}
+use Rattle.blocks.specs.Targets.{targetsFrom}
 use Rattle.rules.specs.FactSets.{FactSets}
 use Rattle.rules.specs.States.{State}
 use Rattle.rules.specs.FactRules.{factsAfter, conditionFacts, loopFacts}

@@ -5,12 +5,12 @@ use mathlib.Core.List.{List, [], _∷_}
 use lib.Dec.{ltb, eqb}
 use lib.IntN.{ℤ}
 use lib.ListN.{length}
-use Rattle.sections.specs.declared.Sections.{Sections}
+use Rattle.words.specs.declared.sections.Sections.{Sections}
 use Rattle.conditions.specs.Negation.{negatedOf}
 use Rattle.statements.specs.declared.Simple.{Simple}
 use Rattle.blocks.specs.Tree.{Block, nil, plain, branch, loop, bundle, unread}
-use Rattle.flow.specs.Shape.{size}
-use Rattle.flow.specs.Targets.{targetsFrom}
+use Rattle.blocks.specs.Shape.{size}
+use Rattle.blocks.specs.Targets.{targetsFrom}
 use Rattle.rules.specs.FactSets.{FactSets}
 use Rattle.rules.specs.States.{State}
 use Rattle.rules.specs.Rules.{stateAfter, assumed, atHead, bundleAfter, sidesJoined, blockAfter}

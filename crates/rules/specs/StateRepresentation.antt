@@ -7,14 +7,14 @@ use mathlib.Core.List.{List}
 use Rattle.facts.specs.declared.FactSet.{FactSet}
 use Rattle.chains.specs.Facts.{Variables}
 use Rattle.chains.specs.History.{History}
-use Rattle.sections.specs.Sections.{Limits}
-use Rattle.sections.specs.declared.Sections.{Sections}
+use Rattle.words.specs.Sections.{Limits}
+use Rattle.words.specs.declared.sections.Sections.{Sections}
 use Rattle.conditions.specs.Negation.{negatedOf}
 use Rattle.conditions.specs.Typed.{Sides}
 use Rattle.conditions.specs.declared.Condition.{Condition}
 use Rattle.statements.specs.Typed.{SimpleTyped}
 use Rattle.statements.specs.declared.Simple.{Simple}
-use Rattle.flow.specs.Targets.{targetsFrom}
+use Rattle.blocks.specs.Targets.{targetsFrom}
 use Rattle.rules.specs.States.{State}
 use Rattle.rules.specs.BoundsRules.{rowsAfter}
 use Rattle.rules.specs.Rules.{newState, stateAfter, assumed, atHead, sidesJoined}

@@ -7,11 +7,11 @@ use lib.Dec.{leb, ltb, eqb}
 use Rattle.sums.specs.Numbers.{bias}
 use Rattle.facts.specs.Store as sets
 use Rattle.facts.specs.declared.FactSet.{FactSet}
-use Rattle.refusals.specs.declared.Refusal.{Refusal}
-use Rattle.sections.specs.declared.Sections.{Sections}
+use Rattle.answers.specs.declared.refusals.Refusal.{Refusal}
+use Rattle.words.specs.declared.sections.Sections.{Sections}
 use Rattle.conditions.specs.declared.Condition.{Condition}
 use Rattle.statements.specs.declared.Simple.{Simple}
-use Rattle.variables.specs.declared.End.{End}
+use Rattle.table.specs.declared.variables.End.{End}
 use Rattle.table.specs.declared.Form.{Form}
 use Rattle.blocks.specs.Tree.{Block}
 use Rattle.rules.specs.FactSets.{FactSets}

@@ -4,15 +4,15 @@ use mathlib.Core.Path.{_≡_}
 use mathlib.Core.List.{List, [], _∷_}
 use lib.IntN.{ℤ}
 use Rattle.arrays.specs.Tabulate.{tabulate}
-use Rattle.refusals.specs.Refusals.{number, place, pointer}
-use Rattle.refusals.specs.declared.Refusal.{Refusal}
-use Rattle.sections.specs.Sections.{pointerAt, stringAt, objectTerminated}
-use Rattle.sections.specs.declared.Sections.{Sections}
-use Rattle.variables.specs.Variables.{variableAt, objectAt, rowAt}
-use Rattle.variables.specs.declared.Variable.the-variants.{Integer, Pointer}
-use Rattle.variables.specs.declared.VariableRead.{VariableRead}
-use Rattle.variables.specs.declared.VariableRead.the-variants.{Read, Unread}
-use Rattle.variables.specs.declared.RowRead.{RowRead}
+use Rattle.answers.specs.Refusals.{number, place, pointer}
+use Rattle.answers.specs.declared.refusals.Refusal.{Refusal}
+use Rattle.words.specs.Sections.{pointerAt, stringAt, objectTerminated}
+use Rattle.words.specs.declared.sections.Sections.{Sections}
+use Rattle.table.specs.Variables.{variableAt, objectAt, rowAt}
+use Rattle.table.specs.declared.variables.Variable.the-variants.{Integer, Pointer}
+use Rattle.table.specs.declared.variables.VariableRead.{VariableRead}
+use Rattle.table.specs.declared.variables.VariableRead.the-variants.{Read, Unread}
+use Rattle.table.specs.declared.variables.RowRead.{RowRead}
 use Rattle.table.specs.Form.{formOf}
 use Rattle.table.specs.declared.Form.{Form}
 use Rattle.table.specs.declared.Form.the-variants as form
@@ -26,7 +26,7 @@ use Rattle.rules.specs.declared.Bounds.{Bounds}
 use Rattle.rules.specs.declared.Environment.{Environment}
 use Rattle.rules.specs.declared.Verdict.{Verdict}
 use Rattle.rules.specs.declared.Verdict.the-variants.{Accepted, Refused}
-use Rattle.variables.specs.declared.RowRead.the-variants as row
+use Rattle.table.specs.declared.variables.RowRead.the-variants as row
 
 -- ---- what a table declares
 

@@ -4,7 +4,7 @@ use crate::KnownEnd;
 use crate::declarations::bounds_of;
 use crate::declarations::row_bounds;
 use crate::declarations::variable_size;
-use sections::Sections;
+use words::sections::Sections;
 ghost use mathlib.Core.Path.{_≡_};
 ghost use lib.ListN.{getD};
 ghost use Rattle.rules.specs.BoundsRules.{nothingKnown, elementSize, rowBound};
@@ -15,7 +15,7 @@ fn read_own(table: &[i32], sections: Sections, p: usize) -> Bounds
     ensures { λ r. ⌜ r ≡ getD (environmentOf (now (table .entry)) sections .declared) p nothingKnown ⌝ }
 {
     if p < 16 {
-        return bounds_of(variables::read_variable(table, sections, p));
+        return bounds_of(table::variables::read_variable(table, sections, p));
     }
     Bounds {
         size: 1,
@@ -28,7 +28,7 @@ fn read_size(table: &[i32], sections: Sections, p: usize) -> u64
     ensures { λ r. ⌜ r ≡ elementSize (environmentOf (now (table .entry)) sections) p ⌝ }
 {
     if p < 16 {
-        return variable_size(variables::read_variable(table, sections, p));
+        return variable_size(table::variables::read_variable(table, sections, p));
     }
     1
 }
@@ -37,7 +37,7 @@ fn row_at(table: &[i32], sections: Sections, row: usize) -> Bounds
     ensures { λ r. ⌜ r ≡ getD (environmentOf (now (table .entry)) sections .rows) row nothingKnown ⌝ }
 {
     if row < 64 {
-        return row_bounds(variables::read_row(table, sections, row));
+        return row_bounds(table::variables::read_row(table, sections, row));
     }
     Bounds {
         size: 1,

@@ -2,15 +2,15 @@
 use crate::Bounds;
 use crate::Environment;
 use crate::KnownEnd;
-use sections::Sections;
-use variables::RowRead;
-use variables::Variable;
-use variables::VariableRead;
+use table::variables::RowRead;
+use table::variables::Variable;
+use table::variables::VariableRead;
+use words::sections::Sections;
 ghost use mathlib.Core.Path.{_≡_};
 ghost use Prim.Native.Nat.{_≤_};
 ghost use Rattle.arrays.specs.Tabulate.{tabulate};
-ghost use Rattle.sections.specs.Sections.{pointerAt, stringAt, objectTerminated};
-ghost use Rattle.variables.specs.Variables.{variableAt, rowAt, objectAt};
+ghost use Rattle.words.specs.Sections.{pointerAt, stringAt, objectTerminated};
+ghost use Rattle.table.specs.Variables.{variableAt, rowAt, objectAt};
 ghost use Rattle.rules.specs.BoundsRules.{upperLimit};
 ghost use Rattle.rules.specs.Verdict.{boundsOf, variableSize, rowBounds, environmentOf};
 
@@ -76,7 +76,7 @@ pub fn read_sizes(table: &[i32], sections: Sections) -> [u64; 16]
 {
     let mut sizes = [1; 16];
     for v in 0..16 {
-        sizes[v] = variable_size(variables::read_variable(table, sections, v));
+        sizes[v] = variable_size(table::variables::read_variable(table, sections, v));
     }
     sizes
 }
@@ -86,7 +86,7 @@ pub fn read_pointers(table: &[i32], sections: Sections) -> [bool; 17]
 {
     let mut pointers = [false; 17];
     for v in 0..17 {
-        pointers[v] = sections::is_pointer(table, sections, v);
+        pointers[v] = words::sections::is_pointer(table, sections, v);
     }
     pointers
 }
@@ -96,7 +96,7 @@ fn read_strings(table: &[i32], sections: Sections) -> [bool; 17]
 {
     let mut strings = [false; 17];
     for v in 0..17 {
-        strings[v] = sections::is_string(table, sections, v);
+        strings[v] = words::sections::is_string(table, sections, v);
     }
     strings
 }
@@ -111,7 +111,7 @@ fn read_declared(table: &[i32], sections: Sections) -> [Bounds; 16]
     };
     let mut declared = [unknown; 16];
     for v in 0..16 {
-        declared[v] = bounds_of(variables::read_variable(table, sections, v));
+        declared[v] = bounds_of(table::variables::read_variable(table, sections, v));
     }
     declared
 }
@@ -121,7 +121,7 @@ fn read_lengths(table: &[i32], sections: Sections) -> [u64; 16]
 {
     let mut lengths = [0; 16];
     for o in 0..16 {
-        lengths[o] = variables::read_object(table, sections, o);
+        lengths[o] = table::variables::read_object(table, sections, o);
     }
     lengths
 }
@@ -131,7 +131,7 @@ fn read_terminated(table: &[i32], sections: Sections) -> [bool; 16]
 {
     let mut terminated = [false; 16];
     for o in 0..16 {
-        terminated[o] = sections::object_terminated(table, sections, o);
+        terminated[o] = words::sections::object_terminated(table, sections, o);
     }
     terminated
 }
@@ -152,8 +152,8 @@ pub fn read_spans(table: &[i32], sections: Sections) -> [u64; 16]
     let mut spans = [0; 16];
     for o in 0..16 {
         spans[o] = upper_limit(
-            sections::object_terminated(table, sections, o),
-            variables::read_object(table, sections, o),
+            words::sections::object_terminated(table, sections, o),
+            table::variables::read_object(table, sections, o),
         );
     }
     spans
@@ -169,7 +169,7 @@ fn read_rows(table: &[i32], sections: Sections) -> [Bounds; 64]
     };
     let mut rows = [unknown; 64];
     for v in 0..64 {
-        rows[v] = row_bounds(variables::read_row(table, sections, v));
+        rows[v] = row_bounds(table::variables::read_row(table, sections, v));
     }
     rows
 }

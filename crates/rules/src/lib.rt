@@ -1,6 +1,7 @@
 // The rules: the bounds in force, what a statement does to them and to the facts, and the verdict (specs); and what a table declares.
 mod bound; // bound.rt: one bound that is in force
 mod declarations; // declarations.rt: what a table declares
+pub mod lookups; // lookups.rt: what is declared of a variable or an object by its number; of a number that has none, what the definitions say
 
 pub use bound::read_bound;
 pub use declarations::read_environment;
@@ -8,7 +9,7 @@ pub use declarations::read_pointers;
 pub use declarations::read_sizes;
 pub use declarations::read_spans;
 pub use declarations::upper_limit;
-use variables::End;
+use table::variables::End;
 
 // An end of the bounds that are known of a pointer.
 pub enum KnownEnd {
@@ -60,5 +61,5 @@ pub enum Effect {
 
 pub enum Verdict {
     Accepted,
-    Refused(refusals::Refusal),
+    Refused(answers::refusals::Refusal),
 }

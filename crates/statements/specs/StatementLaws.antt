@@ -9,11 +9,11 @@ use borrow.Author.Tests.{ltb-true}
 use native.Mathlib.Omega.{arith}
 use Rattle.words.specs.Words.{fieldsAt}
 use Rattle.words.specs.declared.Fields.{Fields}
-use Rattle.fields.specs.Fields.{plain, isCount, isBelow, isConstant}
-use Rattle.sections.specs.Sections.{inLimits, statementStart, namesInteger, namesPointer, namesIndex, Limits, takesPointer, takesObject}
-use Rattle.sections.specs.SectionsLaws.{both, statement-limits}
-use Rattle.sections.specs.NameLaws.{below-holds, literal-small, constant-small, integer-named, pointer-named, index-named, takes-pointer, takes-object}
-use Rattle.sections.specs.declared.Sections.{Sections}
+use Rattle.words.specs.Fields.{plain, isCount, isBelow, isConstant}
+use Rattle.words.specs.Sections.{inLimits, statementStart, namesInteger, namesPointer, namesIndex, Limits, takesPointer, takesObject}
+use Rattle.words.specs.SectionsLaws.{both, statement-limits}
+use Rattle.words.specs.NameLaws.{below-holds, literal-small, constant-small, integer-named, pointer-named, index-named, takes-pointer, takes-object}
+use Rattle.words.specs.declared.sections.Sections.{Sections}
 use Rattle.conditions.specs.Conditions.{conditionRight}
 use Rattle.conditions.specs.ConditionLaws.{condition-typed}
 use Rattle.conditions.specs.declared.Condition.{Condition}

@@ -6,9 +6,9 @@ use lib.IntN.{ℤ}
 use lib.Dec.{ltb, eqb}
 use Rattle.words.specs.Words.{fieldsAt}
 use Rattle.words.specs.declared.Fields.{Fields}
-use Rattle.fields.specs.Fields.{plain, indexOf, literalValue, isZero, isBelow, isCount, isConstant}
-use Rattle.sections.specs.Sections.{inLimits, statementStart, namesInteger, namesPointer, namesIndex, takesPointer, takesObject}
-use Rattle.sections.specs.declared.Sections.{Sections}
+use Rattle.words.specs.Fields.{plain, indexOf, literalValue, isZero, isBelow, isCount, isConstant}
+use Rattle.words.specs.Sections.{inLimits, statementStart, namesInteger, namesPointer, namesIndex, takesPointer, takesObject}
+use Rattle.words.specs.declared.sections.Sections.{Sections}
 use Rattle.conditions.specs.Conditions.{conditionRight, conditionOf}
 use Rattle.statements.specs.declared.Simple.the-variants.{Literal, AddConstant, Arithmetic, Null, Address}
 use Rattle.statements.specs.declared.Simple.the-variants.{PointerOffset, PointerIndex, Load, Store, Check, Declare}

@@ -4,10 +4,10 @@ use mathlib.Core.Path.{_≡_}
 use mathlib.Core.Bool.{true}
 use mathlib.Core.List.{List}
 use lib.IntN.{ℤ}
-use Rattle.fields.specs.Fields.{literalLimit}
-use Rattle.sections.specs.Sections.{stringAt, objectTerminated}
-use Rattle.sections.specs.Typed.{IsInteger, IsPointer, IsIndex, IsSmall}
-use Rattle.sections.specs.declared.Sections.{Sections}
+use Rattle.words.specs.Fields.{literalLimit}
+use Rattle.words.specs.Sections.{stringAt, objectTerminated}
+use Rattle.words.specs.Typed.{IsInteger, IsPointer, IsIndex, IsSmall}
+use Rattle.words.specs.declared.sections.Sections.{Sections}
 use Rattle.conditions.specs.Typed.{ConditionTyped}
 use Rattle.conditions.specs.declared.Condition.{Condition}
 use Rattle.statements.specs.declared.Simple.{Simple}

@@ -1,11 +1,12 @@
 // The statements of a table: seven words each, read with every test that cause 5 asks for.
 mod kinds; // kinds.rt: the thirteen kinds of statements, a reader each
+pub mod decode; // decode.rt: the statements of a table that has been checked: decoded by their kind, with no test of a field
 
 use conditions::Condition;
 use kinds::read_kind;
-use sections::Sections;
-use sections::in_limits;
 use words::fields_at;
+use words::sections::Sections;
+use words::sections::in_limits;
 ghost use mathlib.Core.Path.{_≡_};
 ghost use Rattle.statements.specs.Statements.{statementAt};
 

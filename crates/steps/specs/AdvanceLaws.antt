@@ -17,7 +17,7 @@ use Rattle.machine.specs.Machine.{loadFailing, storeFailing, arithmeticFailing,
 use Rattle.checks.specs.Checked.{declaredIn, stepUnless, sizeIn}
 use Rattle.checks.specs.CheckLaws.{size-in}
 use Rattle.steps.specs.Bare.{offsetFailing, indexFailing, changedUnless, valuesAfter, cellsAfter, simpleMove, Moves, Assigns, copied, endsAfter}
-use Rattle.stops.specs.declared.Check.{Check}
+use Rattle.answers.specs.declared.stops.Check.{Check}
 use Rattle.checks.specs.declared.Step.{Step}
 use Rattle.checks.specs.declared.Step.the-variants.{Go, Stop}
 

@@ -7,8 +7,8 @@ use lib.Dec.{eqb}
 use lib.IntN.{ℤ}
 use lib.ListN.{length, getD, set}
 use Rattle.sums.specs.Numbers.{bias}
-use Rattle.sections.specs.Sections.{statementStart}
-use Rattle.sections.specs.declared.Sections.{Sections}
+use Rattle.words.specs.Sections.{statementStart}
+use Rattle.words.specs.declared.sections.Sections.{Sections}
 use Rattle.statements.specs.Statements.{statementAt}
 use Rattle.statements.specs.declared.Simple.{Simple}
 use Rattle.statements.specs.declared.Simple.the-variants.{Literal, AddConstant, Arithmetic, Null, Address, PointerOffset}
@@ -16,9 +16,9 @@ use Rattle.statements.specs.declared.Simple.the-variants.{PointerIndex, Load, S
 use Rattle.statements.specs.declared.Statement.{Statement}
 use Rattle.statements.specs.declared.Statement.the-variants.{Plain, If, While, Bundle}
 use Rattle.statements.specs.declared.StatementRead.the-variants.{Read}
-use Rattle.decode.specs.Decode.{decodedAt}
-use Rattle.flow.specs.Flow.{Successors}
-use Rattle.flow.specs.Shape.{entriesAt}
+use Rattle.statements.specs.Decode.{decodedAt}
+use Rattle.blocks.specs.Flow.{Successors}
+use Rattle.blocks.specs.Shape.{entriesAt}
 use Rattle.machine.specs.Machine.{value, low, conditionHolds, Failing, none, fails, firstUnless, failing}
 use Rattle.machine.specs.Machine.{loadFailing, storeFailing, arithmeticFailing, address, combined, indexed}
 use Rattle.checks.specs.Checked.{declaredIn, stepUnless, sizeIn}

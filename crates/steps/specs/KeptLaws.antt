@@ -5,15 +5,15 @@ use mathlib.Core.List.{List, [], _∷_}
 use native.Mathlib.Omega.{arith}
 use lib.IntN.{ℤ}
 use lib.ListN.{length, getD, set}
-use Rattle.sections.specs.declared.Sections.{Sections}
+use Rattle.words.specs.declared.sections.Sections.{Sections}
 use Rattle.statements.specs.declared.Simple.{Simple}
 use Rattle.statements.specs.declared.Simple.the-variants.{Literal, AddConstant, Arithmetic, Null, Address}
 use Rattle.statements.specs.declared.Simple.the-variants.{PointerOffset, PointerIndex, Load, Store, Check, Declare}
 use Rattle.statements.specs.declared.Statement.{Statement}
 use Rattle.statements.specs.declared.Statement.the-variants.{Plain, If, While, Bundle}
-use Rattle.decode.specs.Decode.{decodedAt}
-use Rattle.flow.specs.Flow.{Successors}
-use Rattle.flow.specs.Shape.{entriesAt}
+use Rattle.statements.specs.Decode.{decodedAt}
+use Rattle.blocks.specs.Flow.{Successors}
+use Rattle.blocks.specs.Shape.{entriesAt}
 use Rattle.machine.specs.Machine.{Failing, none, fails, failing}
 use Rattle.checks.specs.Checked.{declaredIn, sizeIn}
 use Rattle.checks.specs.declared.Step.{Step}

@@ -6,8 +6,8 @@ use mathlib.Core.List.{List}
 use native.Mathlib.Omega.{arith}
 use lib.IntN.{ℤ}
 use lib.ListN.{length, getD}
-use Rattle.sections.specs.Sections.{Limits}
-use Rattle.sections.specs.declared.Sections.{Sections}
+use Rattle.words.specs.Sections.{Limits}
+use Rattle.words.specs.declared.sections.Sections.{Sections}
 use Rattle.conditions.specs.ConditionLaws.{offset-small}
 use Rattle.conditions.specs.declared.Condition.{Condition}
 use Rattle.statements.specs.Statements.{statementAt}
@@ -19,8 +19,8 @@ use Rattle.statements.specs.declared.Simple.the-variants.{PointerIndex, Load, S
 use Rattle.statements.specs.declared.Statement.{Statement}
 use Rattle.statements.specs.declared.Statement.the-variants.{Plain, If, While, Bundle}
 use Rattle.statements.specs.declared.StatementRead.the-variants.{Read}
-use Rattle.decode.specs.Decode.{decodeStart, decodedAt}
-use Rattle.decode.specs.DecodeLaws.{read-decoded}
+use Rattle.statements.specs.Decode.{decodeStart, decodedAt}
+use Rattle.statements.specs.DecodeLaws.{read-decoded}
 use Rattle.machine.specs.Machine.{address, conditionHolds, Failing, none, failing}
 use Rattle.checks.specs.Checked.{declaredIn}
 use Rattle.steps.specs.Bare.{InCells, InsideSimple, Inside, Accessible, Operable, Ready, Prepared, simpleMove, statementMove, bareMove, Moves}

@@ -5,11 +5,11 @@ mod simple; // simple.rt: the step of kinds 1 to 10 and 14
 use checks::Step;
 use checks::condition_holds;
 use conditions::Condition;
-use decode::decode_statement;
 use machine::wide;
-use sections::Sections;
 use simple::advance_simple;
 use statements::Statement;
+use statements::decode::decode_statement;
+use words::sections::Sections;
 ghost use mathlib.Core.Bool.{cond};
 ghost use mathlib.Core.Path.{_≡_};
 ghost use Prim.Native.Nat.{_^_, _<_};

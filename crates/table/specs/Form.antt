@@ -6,21 +6,21 @@ use lib.IntN.{ℤ}
 use lib.ListN.{length}
 use lib.Dec.{leb, ltb, eqb}
 use Rattle.sums.specs.Numbers.{bias}
-use Rattle.refusals.specs.declared.Refusal.the-variants.{Length, Directory, ObjectLength, VariableRecord, StatementRecord}
+use Rattle.answers.specs.declared.refusals.Refusal.the-variants.{Length, Directory, ObjectLength, VariableRecord, StatementRecord}
 use Rattle.words.specs.Words.{word}
-use Rattle.fields.specs.Fields.{plain}
-use Rattle.sections.specs.Sections.{inLimits, variablesStart, statementsStart, rowsStart, tableEnd}
-use Rattle.sections.specs.declared.Sections.{Sections}
+use Rattle.words.specs.Fields.{plain}
+use Rattle.words.specs.Sections.{inLimits, variablesStart, statementsStart, rowsStart, tableEnd}
+use Rattle.words.specs.declared.sections.Sections.{Sections}
 use Rattle.statements.specs.Statements.{statementAt}
 use Rattle.statements.specs.declared.StatementRead.{StatementRead}
 use Rattle.statements.specs.declared.StatementRead.the-variants as statement
-use Rattle.variables.specs.Variables.{variableAt, objectAt, rowAt}
-use Rattle.variables.specs.declared.VariableRead.{VariableRead}
-use Rattle.variables.specs.declared.VariableRead.the-variants as variable
-use Rattle.variables.specs.declared.RowRead.{RowRead}
+use Rattle.table.specs.Variables.{variableAt, objectAt, rowAt}
+use Rattle.table.specs.declared.variables.VariableRead.{VariableRead}
+use Rattle.table.specs.declared.variables.VariableRead.the-variants as variable
+use Rattle.table.specs.declared.variables.RowRead.{RowRead}
 use Rattle.table.specs.declared.Form.{Form}
 use Rattle.table.specs.declared.Form.the-variants.{WellFormed, Refused}
-use Rattle.variables.specs.declared.RowRead.the-variants as row
+use Rattle.table.specs.declared.variables.RowRead.the-variants as row
 
 -- The word is the number n.
 unfoldable pub isNumber : ℕ → ℕ → Bool

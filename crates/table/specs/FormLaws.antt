@@ -8,29 +8,29 @@ use lib.ListN.{length}
 use lib.Dec.{leb, ltb, eqb}
 use borrow.Author.Tests.{leb-true, eqb-true, ltb-false}
 use native.Mathlib.Omega.{arith}
-use Rattle.refusals.specs.declared.Refusal.{Refusal}
-use Rattle.refusals.specs.declared.Refusal.the-variants.{Length, Directory, ObjectLength, VariableRecord, StatementRecord}
+use Rattle.answers.specs.declared.refusals.Refusal.{Refusal}
+use Rattle.answers.specs.declared.refusals.Refusal.the-variants.{Length, Directory, ObjectLength, VariableRecord, StatementRecord}
 use Rattle.words.specs.Words.{word}
-use Rattle.sections.specs.Sections.{inLimits, Limits, variablesStart, statementsStart, tableEnd}
-use Rattle.sections.specs.SectionsLaws.{both, limits}
-use Rattle.sections.specs.declared.Sections.{Sections}
+use Rattle.words.specs.Sections.{inLimits, Limits, variablesStart, statementsStart, tableEnd}
+use Rattle.words.specs.SectionsLaws.{both, limits}
+use Rattle.words.specs.declared.sections.Sections.{Sections}
 use Rattle.statements.specs.Statements.{statementAt}
 use Rattle.statements.specs.declared.Statement.{Statement}
 use Rattle.statements.specs.declared.StatementRead.{StatementRead}
 use Rattle.statements.specs.declared.StatementRead.the-variants as statement
-use Rattle.variables.specs.Variables.{variableAt, objectAt, rowAt}
-use Rattle.variables.specs.declared.End.{End}
-use Rattle.variables.specs.declared.RowRead.{RowRead}
-use Rattle.variables.specs.declared.Variable.{Variable}
-use Rattle.variables.specs.declared.VariableRead.{VariableRead}
-use Rattle.variables.specs.declared.VariableRead.the-variants as variable
+use Rattle.table.specs.Variables.{variableAt, objectAt, rowAt}
+use Rattle.table.specs.declared.variables.End.{End}
+use Rattle.table.specs.declared.variables.RowRead.{RowRead}
+use Rattle.table.specs.declared.variables.Variable.{Variable}
+use Rattle.table.specs.declared.variables.VariableRead.{VariableRead}
+use Rattle.table.specs.declared.variables.VariableRead.the-variants as variable
 use Rattle.table.specs.Form.{lengthRight, isNumber, sectionsOf, directoryRight, objectRight, isVariableRead}
 use Rattle.table.specs.Form.{variableReads, isStatementRead, statementReads, lowestObject, lowestVariable}
 use Rattle.table.specs.Form.{lowestStatement, itemsForm, formOf, fourthRight, isRowRead, rowReads, lowestRow}
 use Rattle.table.specs.Searches.{holds-below}
 use Rattle.table.specs.declared.Form.{Form}
 use Rattle.table.specs.declared.Form.the-variants.{WellFormed, Refused}
-use Rattle.variables.specs.declared.RowRead.the-variants as row
+use Rattle.table.specs.declared.variables.RowRead.the-variants as row
 
 pub record Formed (table : List ℤ) (h : Sections) : Type 0 where
   pub limits : Limits h

@@ -1,8 +1,7 @@
 // The form of a whole table: causes of refusal 1 to 5.
-use fields::plain;
-use refusals::Refusal;
-use sections::Sections;
-use sections::in_limits;
+pub mod variables; // variables.rt: the variables of a table, eight words each, read with every test that cause 4 asks for; and the lengths of the objects
+
+use answers::refusals::Refusal;
 use statements::StatementRead;
 use statements::read_statement;
 use sums::BIAS;
@@ -11,10 +10,13 @@ use variables::VariableRead;
 use variables::read_object;
 use variables::read_row;
 use variables::read_variable;
+use words::field::plain;
+use words::sections::Sections;
+use words::sections::in_limits;
 use words::word;
 ghost use mathlib.Core.Path.{_≡_};
 ghost use mathlib.Core.Bool.{true};
-ghost use Rattle.sections.specs.Sections.{inLimits};
+ghost use Rattle.words.specs.Sections.{inLimits};
 ghost use Rattle.table.specs.Form.{isNumber, fourPairs, lengthRight, sectionsOf, fourthRight, directoryRight, objectRight, variableReads};
 ghost use Rattle.table.specs.Form.{rowReads, statementReads, lowestObject, lowestVariable, lowestRow, lowestStatement, itemsForm, formOf};
 

@@ -1,4 +1,6 @@
 // A line of text that grows at its end.
+pub mod console; // console.rt: text on standard output
+
 ghost use mathlib.Core.List.{_∷_, []};
 ghost use Prim.Native.Nat.{_+_, _<_, _≤_};
 ghost use lib.ListN.{length};

@@ -1,4 +1,7 @@
 // The words of a table as natural numbers, 2^33 more than the signed words. Only `biased` sees a signed word; everything else works on natural numbers.
+pub mod field; // field.rt: one field of a record: the number, index or literal that its word is, and what it may be
+pub mod sections; // sections.rt: the sections of a table, and what a field of a record names: a variable of some kind, an index
+
 use sums::BIAS;
 ghost use mathlib.Core.Path.{_≡_};
 ghost use Prim.Native.Nat.{_+_, _%_, _<_, _≤_};

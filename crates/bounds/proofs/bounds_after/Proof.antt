@@ -8,8 +8,8 @@ use mathlib.Core.Logic.{⊎-elim}
 use Rattle.arrays.specs.TabulateLaws.{Filled, filled-none, filled-whole, length-under}
 use Rattle.rules.specs.Stored.{effectOn, boundsAfter}
 use Rattle.rules.specs.BoundsRules as boundsRules
-use Rattle.stays.specs.StaysLaws.{stays-read}
-use Rattle.transfer.specs.TransferLaws.{source-below}
+use Rattle.bounds.specs.StaysLaws.{stays-read}
+use Rattle.bounds.specs.TransferLaws.{source-below}
 use Rattle.bounds.specs.BoundsRulesLaws.{all-kept, filled-stays, filled-anew}
 use Rattle.bounds.proofs.bounds_after.Statement.{statement}
 use Rattle.bounds.proofs.bounds_after.Tie as tie

@@ -14,7 +14,7 @@ use Rattle.bundles.proofs.walk_bundle.Statement.{statement}
 use Rattle.bundles.proofs.walk_bundle.Tie as tie
 use denote.Ref.{now}
 use Rattle.rules.specs.Verdict.{environmentOf}
-use Rattle.force.specs.Force.{stateOf}
+use Rattle.declared.specs.Force.{stateOf}
 
 abbrev Inv-loop : tie.InvT-loop
 Inv-loop table sections head count sizes spans rows₀ seen₀ known₀ facts₀ at₀ left₀ rows seen known facts at left =

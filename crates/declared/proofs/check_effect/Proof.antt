@@ -7,8 +7,8 @@ use mathlib.Core.Logic.{⊎-elim}
 use Rattle.arrays.specs.TabulateLaws.{length-under}
 use Rattle.rules.specs.BoundsRules.{known}
 use Rattle.rules.specs.Stored.{boundsAfter}
-use Rattle.transfer.specs.TransferLaws.{source-below, effect-known}
-use Rattle.touched.specs.Touched.{seenAs}
+use Rattle.bounds.specs.TransferLaws.{source-below, effect-known}
+use Rattle.bounds.specs.Touched.{seenAs}
 use Rattle.declared.specs.ShownLaws.{Passed, passed-none, passed-more, passed-missed, passed-all, unasked, asked-shown, asked-missed}
 use Rattle.declared.proofs.check_effect.Statement.{statement}
 use Rattle.declared.proofs.check_effect.Tie as tie

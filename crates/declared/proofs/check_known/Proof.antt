@@ -5,8 +5,8 @@ use mathlib.Core.Path.{_≡_, _∙_}
 use mathlib.Core.Logic.{⊎-elim}
 use Rattle.arrays.specs.TabulateLaws.{length-under}
 use Rattle.rules.specs.BoundsRules.{known}
-use Rattle.stays.specs.StaysLaws.{stored, stored-known}
-use Rattle.touched.specs.Touched.{seenAs}
+use Rattle.bounds.specs.StaysLaws.{stored, stored-known}
+use Rattle.bounds.specs.Touched.{seenAs}
 use Rattle.declared.specs.ShownLaws.{Passed, passed-none, passed-more, passed-missed, passed-all, unasked, asked-shown, asked-missed}
 use Rattle.declared.proofs.check_known.Statement.{statement}
 use Rattle.declared.proofs.check_known.Tie as tie

@@ -38,9 +38,9 @@ use denote.Triple.Table.{entered, cited}
 use denote.Triple.Walked.{says, Stays, stay-none, stay-none-slice, walkOf, goes-none, goes-none-slice, Walks, ends-at, walked, walk-meets}
 use denote.Exit.{yes}
 use denote.Triple.Clauses.{ensured, lasts}
-use Rattle.sections.specs.declared.Sections.{Sections}
-use Rattle.sections.proofs.Sections as S
-use Rattle.sections.proofs.Sections.Laws as S′
+use Rattle.words.specs.declared.sections.Sections.{Sections}
+use Rattle.words.proofs.sections.Sections as S
+use Rattle.words.proofs.sections.Sections.Laws as S′
 use Rattle.statements.specs.Statements.{statementAt}
 use Rattle.statements.specs.declared.StatementRead.{StatementRead}
 use Rattle.statements.proofs.StatementRead as R

@@ -3,7 +3,7 @@ use Rattle.table.specs.Form.{itemsForm}
 use Rattle.table.proofs.items_form.Statement.{statement}
 use Rattle.table.proofs.items_form.Tie as tie
 use native.Mathlib.Omega.{arith}
-use Rattle.sections.specs.SectionsLaws.{limits}
+use Rattle.words.specs.SectionsLaws.{limits}
 
 pub items-form-spec : {M : Type 1} → statement M
 unfolding itemsForm

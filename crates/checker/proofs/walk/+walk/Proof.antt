@@ -17,26 +17,26 @@ use Rattle.checker.specs.WalkLaws.{turn-plain, turn-untouched, then-refu
 use Rattle.checker.proofs.walk.walk.Reads as walk
 use Rattle.checker.proofs.walk.walk.Kinds as walk-kinds
 use Rattle.checker.proofs.walk.+walk.Lts-walk as walk-lts
-use Rattle.asked.proofs.ask_statement.Reads as ask-statement-reads
-use Rattle.asked.proofs.ask_condition.Reads as ask-condition-reads
+use Rattle.effects.proofs.asked.ask_statement.Reads as ask-statement-reads
+use Rattle.effects.proofs.asked.ask_condition.Reads as ask-condition-reads
 use Rattle.effects.proofs.plan_statement.Reads as plan-statement-reads
-use Rattle.shown.proofs.answer.Reads as answer-reads
+use Rattle.chains.proofs.shown.answer.Reads as answer-reads
 use Rattle.facts.proofs.FactSet.after.Reads as after-reads
-use Rattle.touched.proofs.touches.Reads as touches-reads
+use Rattle.bounds.proofs.touched.touches.Reads as touches-reads
 use Rattle.effects.proofs.assume.Reads as assume-reads
 use Rattle.declared.proofs.check_effect.Reads as check-effect-reads
-use Rattle.loops.proofs.lose.Reads as lose-reads
+use Rattle.effects.proofs.loops.lose.Reads as lose-reads
 use Rattle.bundles.proofs.walk_bundle.Reads as walk-bundle-reads
 use Rattle.facts.proofs.FactSet.join.Reads as join-reads
 use Rattle.conditions.proofs.negated.Reads as negated-reads
 use Rattle.reader.proofs.read_due.Reads as read-due-reads
 use Rattle.checker.proofs.walk.+walk.{statement}
 use Rattle.checker.proofs.walk.+walk.Tie.{close}
-use Rattle.force.specs.Force.{stateOf}
+use Rattle.declared.specs.Force.{stateOf}
 use Rattle.declared.proofs.declares_of.Reads as declares-of-reads
-use Rattle.force.proofs.declare_row.Reads as declare-row-reads
-use Rattle.force.proofs.force_of.Reads as force-of-reads
-use Rattle.force.proofs.same_rows.Reads as same-rows-reads
+use Rattle.declared.proofs.force.declare_row.Reads as declare-row-reads
+use Rattle.declared.proofs.force.force_of.Reads as force-of-reads
+use Rattle.declared.proofs.force.same_rows.Reads as same-rows-reads
 
 abbrev μ-walk : Measures 1 walk-kinds.ps ℕ
 μ-walk κs a = a .1 .1 .1 .1 .1 .1 .0

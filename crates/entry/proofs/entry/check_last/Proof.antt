@@ -4,7 +4,7 @@ use mathlib.Core.Path.{_≡_, sym, ap, _∙_}
 use native.Mathlib.Omega.{arith}
 use borrow.Author.Needs.{needs}
 use borrow.Author.Tests.{not-true, not-false}
-use Rattle.refusals.specs.declared.Refusal.the-variants.{LastCell}
+use Rattle.answers.specs.declared.refusals.Refusal.the-variants.{LastCell}
 use Rattle.entry.specs.Entry.{lastRight, failures}
 use Rattle.entry.specs.Entered.{entered}
 use Rattle.entry.specs.EntryLaws.{failures-none, failures-first, failures-next}

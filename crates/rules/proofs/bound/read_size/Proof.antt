@@ -2,8 +2,8 @@
 use borrow.Author.Needs.{needs}
 use mathlib.Core.Path.{ap, _∙_}
 use denote.Ref.{now}
-use Rattle.variables.specs.Variables.{variableAt}
-use Rattle.variables.specs.declared.VariableRead.{VariableRead}
+use Rattle.table.specs.Variables.{variableAt}
+use Rattle.table.specs.declared.variables.VariableRead.{VariableRead}
 use Rattle.rules.specs.BoundLaws.{within, beyond}
 use Rattle.rules.specs.Verdict.{variableSize, environmentOf}
 use Rattle.rules.proofs.bound.read_size.Statement.{statement}

@@ -2,8 +2,8 @@
 use borrow.Author.Needs.{needs}
 use mathlib.Core.Path.{ap, _∙_}
 use denote.Ref.{now}
-use Rattle.variables.specs.Variables.{rowAt}
-use Rattle.variables.specs.declared.RowRead.{RowRead}
+use Rattle.table.specs.Variables.{rowAt}
+use Rattle.table.specs.declared.variables.RowRead.{RowRead}
 use Rattle.rules.specs.BoundsRules.{nothingKnown}
 use Rattle.rules.specs.BoundLaws.{within, beyond}
 use Rattle.rules.specs.Verdict.{rowBounds, environmentOf}

@@ -3,8 +3,8 @@ use borrow.Author.Needs.{needs}
 use Prim.Native.Nat.{_-_}
 use mathlib.Core.Path.{ap, _∙_}
 use Rattle.arrays.specs.TabulateLaws.{Filled, filled-none, filled-more, filled-whole}
-use Rattle.variables.specs.Variables.{variableAt}
-use Rattle.variables.specs.declared.VariableRead.{VariableRead}
+use Rattle.table.specs.Variables.{variableAt}
+use Rattle.table.specs.declared.variables.VariableRead.{VariableRead}
 use Rattle.rules.specs.Verdict.{boundsOf}
 use Rattle.rules.proofs.declarations.read_declared.Statement.{statement}
 use Rattle.rules.proofs.declarations.read_declared.Tie as tie

@@ -2,7 +2,7 @@
 use borrow.Author.Needs.{needs}
 use Prim.Native.Nat.{_-_}
 use Rattle.arrays.specs.TabulateLaws.{Filled, filled-none, filled-more, filled-whole}
-use Rattle.variables.specs.Variables.{objectAt}
+use Rattle.table.specs.Variables.{objectAt}
 use Rattle.rules.proofs.declarations.read_lengths.Statement.{statement}
 use Rattle.rules.proofs.declarations.read_lengths.Tie as tie
 

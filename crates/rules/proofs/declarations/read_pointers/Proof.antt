@@ -2,7 +2,7 @@
 use borrow.Author.Needs.{needs}
 use Prim.Native.Nat.{_-_}
 use Rattle.arrays.specs.TabulateLaws.{Filled, filled-none, filled-more, filled-whole}
-use Rattle.sections.specs.Sections.{pointerAt}
+use Rattle.words.specs.Sections.{pointerAt}
 use Rattle.rules.proofs.declarations.read_pointers.Statement.{statement}
 use Rattle.rules.proofs.declarations.read_pointers.Tie as tie
 

@@ -3,8 +3,8 @@ use borrow.Author.Needs.{needs}
 use Prim.Native.Nat.{_-_}
 use mathlib.Core.Path.{ap, _∙_}
 use Rattle.arrays.specs.TabulateLaws.{Filled, filled-none, filled-more, filled-whole}
-use Rattle.variables.specs.Variables.{rowAt}
-use Rattle.variables.specs.declared.RowRead.{RowRead}
+use Rattle.table.specs.Variables.{rowAt}
+use Rattle.table.specs.declared.variables.RowRead.{RowRead}
 use Rattle.rules.specs.Verdict.{rowBounds}
 use Rattle.rules.proofs.declarations.read_rows.Statement.{statement}
 use Rattle.rules.proofs.declarations.read_rows.Tie as tie

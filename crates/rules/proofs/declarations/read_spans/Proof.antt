@@ -3,8 +3,8 @@ use borrow.Author.Needs.{needs}
 use Prim.Native.Nat.{_-_}
 use Rattle.arrays.specs.TabulateLaws.{Filled, filled-none, filled-more, filled-whole}
 use mathlib.Core.Path.{_∙_, ap₂}
-use Rattle.sections.specs.Sections.{objectTerminated}
-use Rattle.variables.specs.Variables.{objectAt}
+use Rattle.words.specs.Sections.{objectTerminated}
+use Rattle.table.specs.Variables.{objectAt}
 use Rattle.rules.specs.BoundsRules.{upperLimit}
 use Rattle.rules.specs.BoundsRules as boundsRules
 use Rattle.rules.proofs.declarations.read_spans.Statement.{statement}

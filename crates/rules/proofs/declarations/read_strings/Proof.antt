@@ -2,7 +2,7 @@
 use borrow.Author.Needs.{needs}
 use Prim.Native.Nat.{_-_}
 use Rattle.arrays.specs.TabulateLaws.{Filled, filled-none, filled-more, filled-whole}
-use Rattle.sections.specs.Sections.{stringAt}
+use Rattle.words.specs.Sections.{stringAt}
 use Rattle.rules.proofs.declarations.read_strings.Statement.{statement}
 use Rattle.rules.proofs.declarations.read_strings.Tie as tie
 

@@ -2,7 +2,7 @@
 use borrow.Author.Needs.{needs}
 use Prim.Native.Nat.{_-_}
 use Rattle.arrays.specs.TabulateLaws.{Filled, filled-none, filled-more, filled-whole}
-use Rattle.sections.specs.Sections.{objectTerminated}
+use Rattle.words.specs.Sections.{objectTerminated}
 use Rattle.rules.proofs.declarations.read_terminated.Statement.{statement}
 use Rattle.rules.proofs.declarations.read_terminated.Tie as tie
 

@@ -1,6 +1,6 @@
 use mathlib.Core.Path.{_∙_, sym}
 use borrow.Author.Tests.{ne-eqb}
-use Rattle.fields.specs.Fields.{plain}
+use Rattle.words.specs.Fields.{plain}
 use Rattle.statements.specs.Statements.{kindRead}
 use Rattle.statements.proofs.kinds.read_kind.Statement.{statement}
 use Rattle.statements.proofs.kinds.read_kind.Tie as tie

@@ -1,7 +1,0 @@
--- `asked::ask_sum` meets its contract.
-use borrow.Author.Needs.{needs}
-use Rattle.asked.proofs.ask_sum.Statement.{statement}
-use Rattle.asked.proofs.ask_sum.Tie as tie
-
-pub ask-sum-spec : {M : Type 1} → statement M
-ask-sum-spec = tie.close (tie.spec (λ c κs. search needs) (λ c. simp (c .room-above .ensures)))

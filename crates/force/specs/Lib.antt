@@ -1,2 +1,0 @@
-pub mod Force
-pub mod ForceLaws

@@ -1,2 +1,0 @@
-pub mod BareRun
-pub mod RunLaws

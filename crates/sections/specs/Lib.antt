@@ -1,4 +1,0 @@
-pub mod Sections
-pub mod SectionsLaws
-pub mod Typed
-pub mod NameLaws

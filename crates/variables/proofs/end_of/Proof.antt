@@ -1,8 +1,0 @@
-use borrow.Author.Needs.{needs}
-use Rattle.variables.specs.Variables.{endOf}
-use Rattle.variables.proofs.end_of.Statement.{statement}
-use Rattle.variables.proofs.end_of.Tie as tie
-
-pub end-of-spec : {M : Type 1} → statement M
-unfolding endOf
-end-of-spec = tie.close (tie.spec (λ c κs. tt) (λ c κs. search needs) (λ c. simp (c .index-of .ensures, c .before .plain .ensures)))

@@ -1,9 +1,0 @@
-use mathlib.Core.Path.{refl}
-use borrow.Author.Needs.{needs}
-use Rattle.variables.specs.Variables.{isSize}
-use Rattle.variables.proofs.is_size.Statement.{statement}
-use Rattle.variables.proofs.is_size.Tie as tie
-
-pub is-size-spec : {M : Type 1} → statement M
-unfolding isSize
-is-size-spec = tie.close (tie.spec (λ c. search needs) (λ c. refl))

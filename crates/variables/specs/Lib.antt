@@ -1,3 +1,0 @@
-pub mod Variables
-pub mod Typed
-pub mod VariableLaws
