@@ -19,7 +19,7 @@ use Rattle.blocks.specs.Tree.{Block, nil, plain, branch, loop, bundle, u
 use Rattle.blocks.specs.Layout.{maxDepth, contents, contentsFrom, kindLayout, nodeLayout, blockLayout, layout}
 use Rattle.blocks.specs.LayoutLaws.{no-first, no-rest, passed, bundle-within, bundle-counted, bundle-contents}
 use Rattle.blocks.specs.Shape.{size, Numbered, ReadsLine, Reads, Laid}
-use Rattle.blocks.specs.Targets.{targetOf, targetsFrom}
+use Rattle.blocks.specs.Tree.{targetOf, targetsFrom}
 
 -- The contents of a bundle that are not refused are its list, none missing.
 pub record Held (T : List ℤ) (h : Sections) (n x : ℕ) (ss : List Simple) : Type 0 where

@@ -83,3 +83,16 @@ assigned (branch a c t e r) = assigned t ++ (assigned e ++ assigned r)
 assigned (loop a c n t r) = assigned t ++ assigned r
 assigned (bundle a ss r) = targets ss ++ assigned r
 assigned (unread a) = []
+
+-- ---- "variables assigned in the body" (document 01, "Facts"): the targets of a part of the table
+abbrev pub targetOf : StatementRead → List ℕ
+targetOf Unread = []
+targetOf (Read (Plain s)) = target s
+targetOf (Read (If c n m)) = []
+targetOf (Read (While c n)) = []
+targetOf (Read (Bundle n)) = []
+
+-- Those of the n statements from a on, at any nesting and in bundles.
+unfoldable pub targetsFrom : List ℤ → Sections → ℕ → ℕ → List ℕ
+targetsFrom T h a zero = []
+targetsFrom T h a (suc n) = targetOf (statementAt T h a) ++ targetsFrom T h (a + 1) n

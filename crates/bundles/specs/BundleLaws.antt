@@ -20,7 +20,7 @@ use Rattle.statements.specs.StatementLaws.{read-typed, read-limits}
 use Rattle.blocks.specs.Tree.{simples, simplesFrom}
 use Rattle.blocks.specs.Layout.{also}
 use Rattle.blocks.specs.FlowLaws.{simples-some}
-use Rattle.rules.specs.States.{State}
+use Rattle.rules.specs.FactSets.{State}
 use Rattle.rules.specs.Stored.{factsAfter, effect, unshown, accessShown, bundleBounds, bundleFaults}
 use Rattle.rules.specs.Stored.{boundsAfter, stateAfter, unshownIn, rowUnshown, accessIn, bundleAfter}
 use Rattle.rules.specs.BoundsRules.{inForce, rowsAfter}

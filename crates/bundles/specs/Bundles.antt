@@ -4,7 +4,7 @@ use mathlib.Core.Path.{_≡_}
 use mathlib.Core.List.{List, []}
 use Rattle.facts.specs.declared.FactSet.{FactSet}
 use Rattle.statements.specs.declared.Simple.{Simple}
-use Rattle.rules.specs.States.{State}
+use Rattle.rules.specs.FactSets.{State}
 use Rattle.rules.specs.Stored.{bundleBounds, bundleFaults, unshownIn, bundleAfter}
 use Rattle.answers.specs.declared.refusals.Refusal.{Refusal}
 use Rattle.blocks.specs.Layout.{also}

@@ -4,7 +4,7 @@ use lib.IntN.{ℤ}
 use Rattle.facts.specs.declared.FactSet.{FactSet}
 use Rattle.words.specs.declared.sections.Sections.{Sections}
 use Rattle.blocks.specs.Tree.{Block}
-use Rattle.rules.specs.States.{State}
+use Rattle.rules.specs.FactSets.{State}
 use Rattle.rules.specs.Stored.{blockAfter, blockFaults}
 use Rattle.rules.specs.declared.Environment.{Environment}
 use Rattle.bundles.specs.Bundles.{Passes}

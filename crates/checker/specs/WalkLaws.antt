@@ -13,7 +13,7 @@ use Rattle.answers.specs.declared.refusals.Refusal.the-variants.{StatementRecor
 use Rattle.words.specs.declared.sections.Sections.{Sections}
 use Rattle.conditions.specs.ConditionLaws.{offset-small}
 use Rattle.conditions.specs.declared.Condition.{Condition}
-use Rattle.conditions.specs.Negation.{negatedOf}
+use Rattle.conditions.specs.Conditions.{negatedOf}
 use Rattle.statements.specs.declared.Simple.{Simple}
 use Rattle.statements.specs.declared.Simple.the-variants.{Declare}
 use Rattle.statements.specs.declared.Statement.{Statement}
@@ -21,11 +21,10 @@ use Rattle.statements.specs.declared.Statement.the-variants.{Plain, If, While, 
 use Rattle.statements.specs.declared.StatementRead.the-variants.{Read, Unread}
 use Rattle.statements.specs.Statements.{statementAt}
 use Rattle.statements.specs.StatementLaws.{read-typed, read-limits, read-counts-if, read-counts-while, read-counts-bundle}
-use Rattle.blocks.specs.Tree.{Block, nil, unread, simples, node, parse}
+use Rattle.blocks.specs.Tree.{Block, nil, unread, simples, node, parse, targetsFrom}
 use Rattle.blocks.specs.TreeLaws.{parse-none, parse-end, parse-some}
 use Rattle.blocks.specs.Layout.{also, when}
-use Rattle.rules.specs.States.{State}
-use Rattle.blocks.specs.Targets.{targetsFrom}
+use Rattle.rules.specs.FactSets.{State}
 use Rattle.rules.specs.Stored.{factsAfter, conditionFacts, loopFacts, effect, unshown, bundleBounds, bundleFaults, blockFaults, boundsAfter}
 use Rattle.rules.specs.Stored.{stateAfter, assumed, atHead, unshownIn, rowUnshown, declaredIn, bundleAfter, sidesJoined, blockAfter}
 use Rattle.rules.specs.BoundsRules.{inForce}

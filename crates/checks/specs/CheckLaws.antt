@@ -8,7 +8,7 @@ use Rattle.sums.specs.Numbers.{bias, maxValue}
 use Rattle.arrays.specs.TabulateLaws.{getD-tabulate}
 use Rattle.rules.specs.BoundsRules.{nothingKnown, elementSize}
 use Rattle.rules.specs.declared.Environment.{Environment}
-use Rattle.conditions.specs.Relations.{relates}
+use Rattle.conditions.specs.Conditions.{relates}
 use Rattle.machine.specs.Machine.{value, endValue, none, firstOf, accessFailing, arithmeticFailing, beyond, terminatorFailing, storeFailing}
 use Rattle.checks.specs.Checked.{endIn, boundsIn, declaredIn, stepUnless, sizeIn, stringIn}
 use Rattle.answers.specs.declared.stops.Check.the-variants.{NullAccess, OutOfBounds, NullArithmetic, AddressRange, Terminator}

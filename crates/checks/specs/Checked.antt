@@ -10,7 +10,7 @@ use Rattle.rules.specs.declared.KnownEnd.the-variants.{Known}
 use Rattle.rules.specs.declared.Bounds.{Bounds}
 use Rattle.rules.specs.declared.Environment.{Environment}
 use Rattle.machine.specs.Machine.{Failing, none, fails}
-use Rattle.answers.specs.Checks.{checkOf}
+use Rattle.answers.specs.Answers.{checkOf}
 use Rattle.checks.specs.declared.Step.{Step}
 use Rattle.checks.specs.declared.Step.the-variants.{Go, Stop}
 

@@ -8,7 +8,7 @@ ghost use mathlib.Core.Path.{_≡_};
 ghost use mathlib.Core.Bool.{not, cond};
 ghost use Prim.Native.Nat.{ℕ, _+_, _^_, _<_, _≤_};
 ghost use lib.ListN.{length, getD};
-ghost use Rattle.conditions.specs.Relations.{relates};
+ghost use Rattle.conditions.specs.Conditions.{relates};
 ghost use Rattle.machine.specs.Machine.{endValue, conditionHolds, none, firstOf, beyond, loadFailing, storeFailing, arithmeticFailing};
 ghost use Rattle.checks.specs.Checked.{sizeIn, stringIn, endIn, declaredIn, stepUnless};
 ghost use Rattle.checks.specs.declared.Step.the-variants.{Go, Stop};

@@ -1,9 +1,9 @@
 -- The condition of a record: "A condition is left variable, relation, form, right".
-use Prim.Native.Nat.{ℕ, _+_}
-use mathlib.Core.Bool.{Bool, _&&_, _||_, cond}
+use Prim.Native.Nat.{ℕ, _+_, zero, suc, _-_, _%_}
+use mathlib.Core.Bool.{Bool, _&&_, _||_, cond, not}
 use mathlib.Core.List.{List}
 use lib.IntN.{ℤ}
-use lib.Dec.{eqb}
+use lib.Dec.{eqb, leb, ltb}
 use Rattle.sums.specs.Numbers.{bias, zeroVar}
 use Rattle.words.specs.declared.Fields.{Fields}
 use Rattle.words.specs.Fields.{plain, literalValue, isZero, isBelow}
@@ -36,3 +36,22 @@ offsetOf form w = cond (isZero form) 0 (literalValue w)
 unfoldable pub conditionOf : Fields → Condition
 conditionOf f =
     record { left = plain (f .first); relation = plain (f .second); right = rightOf (f .third) (f .fourth); offset = offsetOf (f .third) (f .fourth) }
+
+-- ---- relations
+-- "Relations: 0 <, 1 >=, 2 >, 3 <=, 4 ==, 5 !=", of two values. "Conditions compare values, pointers by address."
+unfoldable pub relates : ℕ → ℕ → ℕ → Bool
+relates zero a b = ltb a b
+relates (suc zero) a b = leb b a
+relates (suc (suc zero)) a b = ltb b a
+relates (suc (suc (suc zero))) a b = leb a b
+relates (suc (suc (suc (suc zero)))) a b = eqb a b
+relates (suc (suc (suc (suc (suc n))))) a b = not (eqb a b)
+
+-- ---- the negation of a condition (document 02, point 3)
+
+-- Point 3: "an even relation goes up by one, an odd one down."
+unfoldable pub negation : ℕ → ℕ
+negation relation = cond (eqb (relation % 2) 0) (relation + 1) (relation - 1)
+
+unfoldable pub negatedOf : Condition → Condition
+negatedOf c = record { left = c .left; relation = negation (c .relation); right = c .right; offset = c .offset }

@@ -12,7 +12,7 @@ use words::sections::names_pointer;
 use words::sections::names_string;
 ghost use mathlib.Core.Path.{_≡_};
 ghost use Rattle.conditions.specs.Conditions.{sameKind, besideLiteral, conditionRight, rightOf, offsetOf, conditionOf};
-ghost use Rattle.conditions.specs.Negation.{negation, negatedOf};
+ghost use Rattle.conditions.specs.Conditions.{negation, negatedOf};
 
 // left RELATION right + offset. Form 0: right is a variable, offset 0. Form 1: right is 16 (zero), offset the literal.
 pub struct Condition {

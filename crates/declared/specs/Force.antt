@@ -6,7 +6,7 @@ use lib.ListN.{set}
 use Rattle.facts.specs.declared.FactSet.{FactSet}
 use Rattle.statements.specs.declared.Simple.the-variants.{Declare}
 use Rattle.blocks.specs.Layout.{also}
-use Rattle.rules.specs.States.{State}
+use Rattle.rules.specs.FactSets.{State}
 use Rattle.rules.specs.BoundsRules.{inForce}
 use Rattle.rules.specs.Stored.{unshown, rowUnshown, boundsAfter}
 use Rattle.rules.specs.Rules.{boundsAt}

@@ -18,7 +18,7 @@ use Rattle.facts.specs.declared.FactSet.{FactSet}
 use Rattle.words.specs.declared.sections.Sections.{Sections}
 use Rattle.words.specs.Sections.{Limits}
 use Rattle.conditions.specs.ConditionLaws.{offset-small}
-use Rattle.conditions.specs.Negation.{negation, negatedOf}
+use Rattle.conditions.specs.Conditions.{negation, negatedOf}
 use Rattle.conditions.specs.declared.Condition.{Condition}
 use Rattle.changes.specs.declared.Change.{Change}
 use Rattle.statements.specs.declared.Simple.{Simple}

@@ -21,8 +21,7 @@ use Rattle.statements.specs.declared.Statement.the-variants.{Plain, If, While, 
 use Rattle.statements.specs.declared.StatementRead.{StatementRead}
 use Rattle.statements.specs.declared.StatementRead.the-variants.{Read}
 use Rattle.statements.specs.Statements.{statementAt}
-use Rattle.blocks.specs.Tree.{target}
-use Rattle.blocks.specs.Targets.{targetOf, targetsFrom}
+use Rattle.blocks.specs.Tree.{target, targetOf, targetsFrom}
 use Rattle.rules.specs.FactRules.{among}
 use Rattle.rules.specs.Stored.{droppedEach, loopFacts}
 use Rattle.effects.specs.Marks.{targetNumber, noMarks, marked}

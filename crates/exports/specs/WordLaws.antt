@@ -13,9 +13,8 @@ use Rattle.rules.specs.ByChains.{chainFaults, Judged}
 use Rattle.rules.specs.Decidable.{decided}
 use Rattle.rules.specs.declared.Verdict.{Verdict}
 use Rattle.rules.specs.declared.Verdict.the-variants as verdict
-use Rattle.answers.specs.Checks.{checkNumber, checkStatement}
+use Rattle.answers.specs.Answers.{checkNumber, checkStatement, reads}
 use Rattle.interpreter.specs.Claim.{Lent, RunJudged}
-use Rattle.answers.specs.Answers.{reads}
 use Rattle.answers.specs.declared.stops.Check.{Check}
 use Rattle.answers.specs.declared.stops.Outcome.{Outcome}
 use Rattle.answers.specs.declared.stops.Outcome.the-variants.{Done, Spent, Stopped, Refused}

@@ -18,9 +18,8 @@ use Rattle.rules.specs.ByChains.{byChains, Judged}
 use Rattle.rules.specs.Decidable.{decided, says}
 use Rattle.rules.specs.declared.Verdict.{Verdict}
 use Rattle.rules.specs.declared.Verdict.the-variants.{Refused}
-use Rattle.files.specs.Words.{wordAt}
+use Rattle.files.specs.Files.{wordAt, wordsOf, fileFaults, FileJudged}
 use Rattle.files.specs.Reading.{WordsRead}
-use Rattle.files.specs.Files.{wordsOf, fileFaults, FileJudged}
 
 and-false : (a : Bool) → (a && false) ≡ false
 and-false true = refl

@@ -1,10 +1,10 @@
 -- "The verdict program reads a file on standard input": the verdict on a file's bytes.
-use Prim.Native.Nat.{ℕ, _*_, _/_, _%_}
+use Prim.Native.Nat.{ℕ, _*_, _/_, _%_, _+_, _-_, _^_}
 use mathlib.Core.Bool.{cond}
 use mathlib.Core.List.{List, [], _∷_}
-use lib.Dec.{eqb}
-use lib.IntN.{ℤ}
-use lib.ListN.{length}
+use lib.Dec.{eqb, ltb}
+use lib.IntN.{ℤ, pos, negsuc}
+use lib.ListN.{length, getD}
 use Rattle.arrays.specs.Tabulate.{tabulate}
 use Rattle.answers.specs.declared.refusals.Refusal.{Refusal}
 use Rattle.answers.specs.declared.refusals.Refusal.the-variants.{Length}
@@ -12,7 +12,16 @@ use Rattle.rules.specs.Verdict.{faults, Says}
 use Rattle.rules.specs.FactSets.{FactSets}
 use Rattle.rules.specs.ByChains.{byChains, Decided}
 use Rattle.rules.specs.declared.Verdict.{Verdict}
-use Rattle.files.specs.Words.{wordAt}
+
+-- ---- words: "Signed 32-bit words; in a file two's complement, little-endian."
+-- "two's complement": a pattern of 32 bits from 2^31 on stands for the number 2^32 less.
+unfoldable pub signedOf : ℕ → ℤ
+signedOf u = cond (ltb u (2 ^ 31)) (pos u) (negsuc (2 ^ 32 - 1 - u))
+
+-- "little-endian": four bytes, the lowest first.
+unfoldable pub wordAt : List ℕ → ℕ → ℤ
+wordAt bytes i =
+    signedOf (getD bytes i 0 + 256 * getD bytes (i + 1) 0 + 65536 * (getD bytes (i + 2) 0 + 256 * getD bytes (i + 3) 0))
 
 -- The words of a file.
 unfoldable pub wordsOf : List ℕ → List ℤ

@@ -34,7 +34,7 @@ use Rattle.machine.specs.Machine.{memoryOf, afterChecks, branched, statementSte
 use Rattle.checks.specs.Checked.{stepUnless}
 use Rattle.steps.specs.Bare.{valuesAfter, cellsAfter, changedUnless, Move, move, simpleMove, statementMove, bareMove, InCells, InsideSimple, Inside, Ready}
 use Rattle.interpreter.specs.BareRun.{Result, result, follow, bareRun, IfTrue, Onward, SafeRun}
-use Rattle.answers.specs.Checks.{checkOf}
+use Rattle.answers.specs.Answers.{checkOf}
 use Rattle.interpreter.specs.Agreement.{stepShown, moveShown, resultShown, Runnable}
 use Rattle.interpreter.specs.Outcomes.{outcomeShown}
 use Rattle.entry.specs.Ends.{endsOf}

@@ -22,7 +22,7 @@ use Rattle.machine.specs.Machine.{value, address, lowerEnd, upperEnd, condition
 use Rattle.machine.specs.Machine.{firstUnless, accessFailing, arithmeticFailing, failing, Status, going, stopped, stuck}
 use Rattle.machine.specs.Machine.{Point, Performed, done, no-step, performed, memoryOf, afterPerformed, afterChecks, branched}
 use Rattle.machine.specs.Machine.{statementStep, successorsOf, stepIfDue, nextPoint, pointAfter, beyond, terminatorFailing}
-use Rattle.answers.specs.Checks.{checkNumber, checkStatement, checkOf}
+use Rattle.answers.specs.Answers.{checkNumber, checkStatement, checkOf}
 use Rattle.answers.specs.declared.stops.Check.{Check}
 use Rattle.answers.specs.declared.stops.Check.the-variants.{ConditionFalse, NullAccess, OutOfBounds, NullArithmetic, AddressRange, Terminator}
 

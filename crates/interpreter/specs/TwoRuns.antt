@@ -5,8 +5,7 @@ use mathlib.Core.Logic.{_≢_, _⊎_}
 use mathlib.Core.List.{List}
 use lib.ListN.{length, getD}
 use Rattle.table.specs.Form.{sectionsOf}
-use Rattle.machine.specs.Points.{Outside}
-use Rattle.machine.specs.Reach.{CellOf, Reachable}
+use Rattle.machine.specs.Points.{Outside, CellOf, Reachable}
 use Rattle.answers.specs.Answers.{reads}
 use Rattle.interpreter.specs.Claim.{Lent, Leaves, RunJudged, Begins}
 

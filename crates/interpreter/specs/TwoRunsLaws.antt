@@ -23,7 +23,7 @@ use Rattle.rules.specs.AcceptedLaws.{faults-clear}
 use Rattle.blocks.specs.LayoutLaws.{no-first, no-rest}
 use Rattle.machine.specs.Machine.{Point}
 use Rattle.machine.specs.Frame.{Elsewhere, SameCells}
-use Rattle.machine.specs.Reach.{CellOf, Reachable}
+use Rattle.machine.specs.Points.{CellOf, Reachable}
 use Rattle.machine.specs.FrameLaws.{two-alike, others-untouched}
 use Rattle.entry.specs.Entry.{entryRefusals}
 use Rattle.interpreter.specs.StartLaws.{Admitted, admitted, origin-inside}

@@ -5,7 +5,7 @@ use mathlib.Core.List.{List, [], _++_}
 use borrow.Author.Tests.{eq-eqb, ne-eqb}
 use Rattle.answers.specs.Refusals.{number, place, pointer}
 use Rattle.answers.specs.declared.refusals.Refusal.{Refusal}
-use Rattle.answers.specs.Checks.{checkNumber, checkStatement}
+use Rattle.answers.specs.Answers.{checkNumber, checkStatement}
 use Rattle.answers.specs.declared.stops.Check.{Check}
 use Rattle.answers.specs.declared.stops.Outcome.{Outcome}
 use Rattle.answers.specs.declared.stops.Outcome.the-variants.{Done, Spent, Stopped, Refused}

@@ -9,7 +9,7 @@ use lib.ListN.{length}
 use Rattle.chains.specs.Sound.{InRange, Holds, joined-left-holds, joined-right-holds}
 use Rattle.facts.specs.declared.FactSet.{FactSet}
 use Rattle.words.specs.declared.sections.Sections.{Sections}
-use Rattle.conditions.specs.Negation.{negatedOf}
+use Rattle.conditions.specs.Conditions.{negatedOf}
 use Rattle.conditions.specs.declared.Condition.{Condition}
 use Rattle.statements.specs.Statements.{statementAt}
 use Rattle.statements.specs.StatementLaws.{read-typed}
@@ -19,11 +19,10 @@ use Rattle.statements.specs.declared.Simple.the-variants.{Literal, AddConstant,
 use Rattle.statements.specs.declared.Simple.the-variants.{PointerOffset, PointerIndex, Load, Store, Check, Declare}
 use Rattle.statements.specs.declared.Statement.the-variants.{Plain, If, While}
 use Rattle.statements.specs.declared.StatementRead.{StatementRead}
-use Rattle.blocks.specs.Tree.{Block, nil, plain, branch, loop, bundle, unread, target, targets, assigned}
+use Rattle.blocks.specs.Tree.{Block, nil, plain, branch, loop, bundle, unread, target, targets, assigned, targetsFrom}
 use Rattle.blocks.specs.Flow.{Successors, successors, entry, lead}
 use Rattle.blocks.specs.Shape.{size}
-use Rattle.rules.specs.States.{State}
-use Rattle.blocks.specs.Targets.{targetsFrom}
+use Rattle.rules.specs.FactSets.{State}
 use Rattle.rules.specs.Stored.{loopFacts, effect, bundleBounds, bundleFaults, sidesJoined, blockFaults, boundsAfter}
 use Rattle.rules.specs.Stored.{stateAfter, assumed, atHead, accessIn, unshownIn, declaredIn, bundleAfter, blockAfter}
 use Rattle.rules.specs.FactsTrue.{Agree, among-left, among-right, loop-facts-hold}

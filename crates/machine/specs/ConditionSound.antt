@@ -11,8 +11,7 @@ use Rattle.sums.specs.Numbers.{bias}
 use Rattle.facts.specs.Store.{shown, added}
 use Rattle.chains.specs.Sound.{InRange, Holds, added-holds}
 use Rattle.facts.specs.declared.FactSet.{FactSet}
-use Rattle.conditions.specs.Relations.{relates}
-use Rattle.conditions.specs.Negation.{negation, negatedOf}
+use Rattle.conditions.specs.Conditions.{relates, negation, negatedOf}
 use Rattle.conditions.specs.NegationLaws.{negation-decides}
 use Rattle.conditions.specs.declared.Condition.{Condition}
 use Rattle.rules.specs.Stored.{differs, relationFacts, conditionFacts}

@@ -10,7 +10,7 @@ use Rattle.statements.specs.declared.Simple.the-variants.{Address}
 use Rattle.statements.specs.declared.Statement.the-variants.{Plain}
 use Rattle.statements.specs.declared.StatementRead.the-variants.{Read}
 use Rattle.machine.specs.Machine.{Point}
-use Rattle.machine.specs.Reach.{CellOf}
+use Rattle.machine.specs.Points.{CellOf}
 
 -- Cell i is in none of the objects R.
 abbrev pub Elsewhere : List ℕ → (ℕ → Type 0) → ℕ → Type 0

@@ -27,9 +27,8 @@ use Rattle.rules.specs.declared.Environment.{Environment}
 use Rattle.machine.specs.Machine.{value, low, high, inOrigin, address, Failing, none, fails, failing, conditionHolds, Status}
 use Rattle.machine.specs.Machine.{going, stopped, stuck, Point, done, setInteger, stepIf, performed, memoryOf, moved}
 use Rattle.machine.specs.Machine.{afterPerformed, afterChecks, branched, statementStep, stepIfDue, nextPoint, start, pointAfter}
-use Rattle.machine.specs.Points.{Outside}
+use Rattle.machine.specs.Points.{Outside, CellOf, Reachable}
 use Rattle.machine.specs.Frame.{Elsewhere, Names, Origins, SameCells, withCells, Alike, Framed, Own}
-use Rattle.machine.specs.Reach.{CellOf, Reachable}
 
 -- ---- lists
 

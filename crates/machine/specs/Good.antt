@@ -17,7 +17,7 @@ use Rattle.words.specs.declared.sections.Sections.{Sections}
 use Rattle.blocks.specs.Tree.{tree}
 use Rattle.blocks.specs.Layout.{layout}
 use Rattle.rules.specs.BoundsRules.{isPointer, declared, known, inForce, isString, upperLimit}
-use Rattle.rules.specs.States.{State}
+use Rattle.rules.specs.FactSets.{State}
 use Rattle.rules.specs.Stored.{boundsShown, blockFaults, effectOn, boundsAfter, newState, unshownIn, declaredIn}
 use Rattle.rules.specs.BoundsTrue.{BoundsHold, known-after, all-shown, shown-holds, ProperEnd}
 use Rattle.rules.specs.EnvironmentLaws.{Declares, DeclaredEnds, Named}

@@ -1,7 +1,6 @@
 pub mod Machine
 pub mod Points
 pub mod Soundness
-pub mod Reach
 pub mod Frame
 pub mod FrameLaws
 pub mod Good

@@ -17,7 +17,7 @@ use Rattle.statements.specs.declared.Simple.{Simple}
 use Rattle.blocks.specs.Tree.{Block, nil, plain, branch, loop, bundle, unread}
 use Rattle.blocks.specs.Shape.{size, Numbered}
 use Rattle.rules.specs.Stored.{store}
-use Rattle.rules.specs.States.{State}
+use Rattle.rules.specs.FactSets.{State}
 use Rattle.rules.specs.StateBefore.{lineBefore, stateBefore}
 use Rattle.rules.specs.declared.Bounds.{Bounds}
 use Rattle.rules.specs.declared.Environment.{Environment}

@@ -8,17 +8,16 @@ use lib.ListN.{length}
 use Rattle.chains.specs.Sound.{InRange, Holds}
 use Rattle.facts.specs.declared.FactSet.{FactSet}
 use Rattle.words.specs.declared.sections.Sections.{Sections}
-use Rattle.conditions.specs.Negation.{negatedOf}
+use Rattle.conditions.specs.Conditions.{negatedOf}
 use Rattle.statements.specs.Statements.{statementAt}
 use Rattle.statements.specs.declared.Simple.{Simple}
 use Rattle.statements.specs.declared.Statement.the-variants.{Plain, If, While, Bundle}
 use Rattle.statements.specs.declared.StatementRead.the-variants.{Read}
-use Rattle.blocks.specs.Tree.{Block, nil, plain, branch, loop, bundle, unread, assigned}
+use Rattle.blocks.specs.Tree.{Block, nil, plain, branch, loop, bundle, unread, assigned, targetsFrom}
 use Rattle.blocks.specs.Flow.{Successors, successors, entry, lead}
 use Rattle.blocks.specs.Shape.{size, Numbered, Formed, ReadsLine, Reads, RightLine, Right}
-use Rattle.blocks.specs.Targets.{targetsFrom}
 use Rattle.blocks.specs.ShapeLaws.{body-targets}
-use Rattle.rules.specs.States.{State}
+use Rattle.rules.specs.FactSets.{State}
 use Rattle.rules.specs.Stored.{effect, sidesJoined, boundsAfter, stateAfter, assumed, atHead, declaredIn, bundleAfter, blockAfter}
 use Rattle.rules.specs.FactsTrue.{Agree}
 use Rattle.rules.specs.declared.Bounds.{Bounds}

@@ -1,6 +1,6 @@
 -- Points of a run (document 01, "The plain machine"): which are in a bundle, the access that the step from a point performs, the cells outside of all
 -- objects, the last cells of terminated ones.
-use Prim.Native.Nat.{ℕ, _+_, _-_, _≤_, _<_}
+use Prim.Native.Nat.{ℕ, _+_, _-_, _≤_, _<_, suc}
 use mathlib.Core.Path.{_≡_}
 use mathlib.Core.Bool.{Bool, true, false, _&&_, _||_}
 use mathlib.Core.List.{List}
@@ -19,6 +19,7 @@ use Rattle.blocks.specs.Tree.{Block, nil, plain, branch, loop, bundle, unread}
 use Rattle.rules.specs.BoundsRules.{isTerminated, inForce}
 use Rattle.rules.specs.declared.Environment.{Environment}
 use Rattle.machine.specs.Machine.{low, high, Failing, none, fails, failing, address, Status, going, stopped, stuck, Point, Memory, memoryOf, inOrigin}
+use mathlib.Core.Logic.{_⊎_}
 
 -- "A point is in a bundle when a statement inside one is due": of the statement d that is due. A bundle's head is not inside it.
 unfoldable pub inBundle : Block → ℕ → Bool
@@ -89,3 +90,16 @@ failingAt E Unread vs = none
 abbrev pub AccessInside : List ℕ → Access → Type 0
 AccessInside D no-access = Unit {0}
 AccessInside D (access a origin) = inOrigin D origin a ≡ true
+
+-- ---- objects in reach of a run, and the cells of objects (document 02, point 12)
+-- Point 12: "Call an object reachable when an entry pointer has it as origin or some kind 5 statement names it." A variable that has an object
+-- as origin is a pointer, since integers and null have origin 0; and the statement need not be one that a run comes to.
+abbrev pub Reachable : List ℤ → Sections → List ℕ → ℕ → Type 0
+Reachable T h os o = ((v : ℕ) × (getD os v 0 ≡ suc o)) ⊎ ((a p : ℕ) × (statementAt T h a ≡ Read (Plain (Address p o))))
+
+-- Cell i is a cell of one of the objects R.
+pub record CellOf (D : List ℕ) (R : ℕ → Type 0) (i : ℕ) : Type 0 where
+  pub object : ℕ
+  pub chosen : R object
+  pub above : low D object ≤ i
+  pub below : i < high D object

@@ -32,7 +32,7 @@ use Rattle.blocks.specs.Flow.{successors, tableEntry}
 use Rattle.blocks.specs.ShapeLaws.{table-laid}
 use Rattle.blocks.specs.SuccessorLaws.{flow-right}
 use Rattle.rules.specs.FactsTrue.{Agree}
-use Rattle.rules.specs.States.{State}
+use Rattle.rules.specs.FactSets.{State}
 use Rattle.rules.specs.BoundsRules.{isPointer, declared, ownRows, inForce}
 use Rattle.rules.specs.EnvironmentLaws.{Declares, environment-declares, Named}
 use Rattle.rules.specs.Stored.{store, faults, newState, declaredIn, blockAfter}

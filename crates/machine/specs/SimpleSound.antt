@@ -30,7 +30,7 @@ use Rattle.rules.specs.declared.Environment.{Environment}
 use Rattle.machine.specs.Machine.{value, low, high, Memory, Performed, done, no-step, combined, top}
 use Rattle.machine.specs.Good.{Setting, TrueOf, Good, carry, Assigned, set-good}
 use Rattle.rules.specs.FactRules as factRules
-use Rattle.rules.specs.States.{State}
+use Rattle.rules.specs.FactSets.{State}
 
 -- A statement that has a step leaves a memory.
 abbrev pub Done : (Memory → Type 0) → Performed → Type 0

@@ -16,7 +16,7 @@ use Rattle.chains.specs.History.{History}
 use Rattle.answers.specs.declared.refusals.Refusal.{Refusal}
 use Rattle.words.specs.Typed.{IsSmall}
 use Rattle.words.specs.declared.sections.Sections.{Sections}
-use Rattle.conditions.specs.Negation.{negatedOf}
+use Rattle.conditions.specs.Conditions.{negatedOf}
 use Rattle.conditions.specs.Typed.{Sides}
 use Rattle.conditions.specs.declared.Condition.{Condition}
 use Rattle.statements.specs.StatementLaws.{read-typed}
@@ -33,7 +33,7 @@ use Rattle.blocks.specs.Layout.{also, layout}
 use Rattle.blocks.specs.Tree.{Block, nil, plain, branch, loop, bundle, unread, tree}
 use Rattle.blocks.specs.Shape.{size, ReadsLine, Reads, Formed as Shaped}
 use Rattle.blocks.specs.ShapeLaws.{table-laid}
-use Rattle.rules.specs.States.{State}
+use Rattle.rules.specs.FactSets.{State}
 use Rattle.rules.specs.BoundsRules.{isPointer, declared, known, names, weight, comparableEnds, consIf, shiftEnd, shiftBounds, effectOn, boundsAfter}
 use Rattle.rules.specs.BoundsRules.{effect, endAtMost, knownAtMost, boundsShown, unshownFrom, unshown, accessShown, rowBound, inForce, rowUnshown}
 use Rattle.rules.specs.Rules.{accessAt, boundsAt, bundleBounds, bundleFaults, blockFaults, rowsAt, stateAfter}

@@ -14,7 +14,7 @@ use Rattle.statements.specs.declared.Simple.{Simple}
 use Rattle.statements.specs.declared.Statement.the-variants.{Plain, If, While}
 use Rattle.blocks.specs.Tree.{Block, nil, plain, branch, loop, bundle, unread}
 use Rattle.blocks.specs.Shape.{size, ReadsLine, Reads}
-use Rattle.rules.specs.States.{State}
+use Rattle.rules.specs.FactSets.{State}
 use Rattle.rules.specs.Rules.{bundleAfter, blockAfter}
 use Rattle.rules.specs.StateBefore.{lineBefore, stateBefore}
 use Rattle.rules.specs.Verdict.{environmentOf}

@@ -4,6 +4,7 @@ use Prim.Native.Nat.{ℕ}
 use mathlib.Core.Bool.{Bool}
 use Rattle.table.specs.declared.variables.End.{End}
 use Rattle.rules.specs.declared.KnownEnd.{KnownEnd}
+use mathlib.Core.List.{List}
 
 pub record FactSets : Type 1 where
   pub Facts : Type 0
@@ -24,3 +25,9 @@ pub record FactSets : Type 1 where
   pub endShown : Facts → ℕ → ℕ → ℕ → ℕ → ℕ → ℕ → ℕ → Bool
   -- endLess w k e: the end e less w times k, with the bias in k.
   pub endLess : ℕ → ℕ → End → KnownEnd
+
+-- ---- what a walk hands on from each statement to the next: what is known, and the rows in force (document 02, point 2)
+-- Point 2: "it is the pointer's declared bound until another kind 14 for it". For each pointer one number: 0 its own bound ("row -1"), r + 1 the row r.
+pub record State (F : Type 0) : Type 0 where
+  pub facts : F
+  pub rows : List ℕ

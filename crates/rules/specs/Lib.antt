@@ -4,7 +4,6 @@ pub mod Representation
 pub mod Fair
 pub mod Agreement
 pub mod FactSets
-pub mod States
 pub mod Stored
 pub mod FactRules
 pub mod BoundLaws

@@ -24,7 +24,7 @@ use Rattle.words.specs.NameLaws.{integer-no-pointer}
 use Rattle.words.specs.SectionsLaws.{both}
 use Rattle.words.specs.Typed.{IsInteger, IsPointer, IsSmall}
 use Rattle.words.specs.declared.sections.Sections.{Sections}
-use Rattle.conditions.specs.Negation.{negatedOf}
+use Rattle.conditions.specs.Conditions.{negatedOf}
 use Rattle.conditions.specs.Typed.{Sides, integers, pointers, literal, null}
 use Rattle.conditions.specs.declared.Condition.{Condition}
 use Rattle.statements.specs.Statements.{statementAt}
@@ -36,8 +36,7 @@ use Rattle.statements.specs.declared.Simple.the-variants.{PointerOffset, Pointe
 use Rattle.statements.specs.declared.Statement.the-variants.{Plain, If, While, Bundle}
 use Rattle.statements.specs.declared.StatementRead.{StatementRead}
 use Rattle.statements.specs.declared.StatementRead.the-variants.{Read, Unread}
-use Rattle.blocks.specs.Targets.{targetOf, targetsFrom}
-use Rattle.blocks.specs.Tree.{target}
+use Rattle.blocks.specs.Tree.{targetOf, targetsFrom, target}
 use Rattle.rules.specs.FactRules.{among, inRange, equated, positive, differs, relationFacts, conditionFacts}
 use Rattle.rules.specs.FactRules.{sumFacts, offsetFacts, factsAfter, droppedEach, loopFacts}
 use Rattle.rules.specs.Stored.{store}

@@ -10,8 +10,7 @@ use Rattle.words.specs.Words.{fieldsAt, biased, word}
 use Rattle.words.specs.Fields.{indexOf, isBelow, literalValue, isConstant}
 use Rattle.words.specs.Sections.{inLimits, isVariable, kindAt, integerAt, pointerAt, namesInteger, namesPointer, namesIndex, startRight}
 use Rattle.words.specs.Sections.{kindOf, kindIs, arrayAt, stringAt, objectTerminated, takesPointer, takesObject, namesArray, namesString}
-use Rattle.conditions.specs.Negation.{negation, negatedOf}
-use Rattle.conditions.specs.Conditions.{sameKind, besideLiteral, conditionRight, rightOf, offsetOf, conditionOf}
+use Rattle.conditions.specs.Conditions.{negation, negatedOf, sameKind, besideLiteral, conditionRight, rightOf, offsetOf, conditionOf}
 use Rattle.statements.specs.Statements.{unusedFrom, literalRead, addConstantRead, arithmeticRead, nullRead, addressRead, pointerOffsetRead}
 use Rattle.statements.specs.Statements.{pointerIndexRead, loadRead, storeRead, bundleRead, checkRead, ifRead, whileRead, kindRead, statementAt, declareRead}
 use Rattle.table.specs.Variables.{endWordsAt, variableWordsAt, endRight, endZero, endOf, integerRecord, pointerRecord}
@@ -20,8 +19,7 @@ use Rattle.table.specs.Form.{lengthRight, isNumber, sectionsOf, directoryRight,
 use Rattle.table.specs.Form.{lowestObject, lowestVariable, lowestStatement, itemsForm, formOf, fourPairs, fourthRight, rowReads, lowestRow}
 use Rattle.blocks.specs.Layout.{also, when, contents, bundleLayout, blockLayout, layout, verdict}
 use Rattle.blocks.specs.Shape.{size}
-use Rattle.blocks.specs.Targets.{targetsFrom}
-use Rattle.blocks.specs.Tree.{simples, parse, tree, targets, assigned}
+use Rattle.blocks.specs.Tree.{targetsFrom, simples, parse, tree, targets, assigned}
 use Rattle.rules.specs.BoundsRules.{forgetEnd, forgetBounds, objectBounds, rowBound, rowsAfter, weight, upperLimit}
 use Rattle.rules.specs.Stored.{effect, endAtMost, knownAtMost, boundsShown, unshownFrom, unshown, accessShown, equated, positive, differs}
 use Rattle.rules.specs.Stored.{relationFacts, conditionFacts, sumFacts, offsetFacts, factsAfter, droppedEach, loopFacts, bundleBounds, bundleFaults}

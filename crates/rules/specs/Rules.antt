@@ -7,14 +7,12 @@ use lib.Dec.{eqb}
 use Rattle.answers.specs.declared.refusals.Refusal.{Refusal}
 use Rattle.answers.specs.declared.refusals.Refusal.the-variants.{StatementRecord, BoundsNotShown, BundleAccess, RowsDiffer}
 use Rattle.words.specs.declared.sections.Sections.{Sections}
-use Rattle.conditions.specs.Negation.{negatedOf}
+use Rattle.conditions.specs.Conditions.{negatedOf}
 use Rattle.conditions.specs.declared.Condition.{Condition}
 use Rattle.statements.specs.declared.Simple.{Simple}
-use Rattle.blocks.specs.Tree.{Block, nil, plain, branch, loop, bundle, unread}
+use Rattle.blocks.specs.Tree.{Block, nil, plain, branch, loop, bundle, unread, targetsFrom}
 use Rattle.blocks.specs.Layout.{also, when}
-use Rattle.blocks.specs.Targets.{targetsFrom}
-use Rattle.rules.specs.FactSets.{FactSets}
-use Rattle.rules.specs.States.{State}
+use Rattle.rules.specs.FactSets.{FactSets, State}
 use Rattle.rules.specs.FactRules.{factsAfter, conditionFacts, loopFacts}
 use Rattle.rules.specs.BoundsRules.{isPointer, effect, boundsAfter, unshown, accessShown, ownRows, inForce, rowsAfter, rowUnshown}
 use Rattle.rules.specs.declared.Bounds.{Bounds}

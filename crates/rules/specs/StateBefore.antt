@@ -6,13 +6,11 @@ use lib.Dec.{ltb, eqb}
 use lib.IntN.{ℤ}
 use lib.ListN.{length}
 use Rattle.words.specs.declared.sections.Sections.{Sections}
-use Rattle.conditions.specs.Negation.{negatedOf}
+use Rattle.conditions.specs.Conditions.{negatedOf}
 use Rattle.statements.specs.declared.Simple.{Simple}
-use Rattle.blocks.specs.Tree.{Block, nil, plain, branch, loop, bundle, unread}
+use Rattle.blocks.specs.Tree.{Block, nil, plain, branch, loop, bundle, unread, targetsFrom}
 use Rattle.blocks.specs.Shape.{size}
-use Rattle.blocks.specs.Targets.{targetsFrom}
-use Rattle.rules.specs.FactSets.{FactSets}
-use Rattle.rules.specs.States.{State}
+use Rattle.rules.specs.FactSets.{FactSets, State}
 use Rattle.rules.specs.Rules.{stateAfter, assumed, atHead, bundleAfter, sidesJoined, blockAfter}
 use Rattle.rules.specs.declared.Environment.{Environment}
 

@@ -9,13 +9,13 @@ use Rattle.chains.specs.Facts.{Variables}
 use Rattle.chains.specs.History.{History}
 use Rattle.words.specs.Sections.{Limits}
 use Rattle.words.specs.declared.sections.Sections.{Sections}
-use Rattle.conditions.specs.Negation.{negatedOf}
+use Rattle.conditions.specs.Conditions.{negatedOf}
 use Rattle.conditions.specs.Typed.{Sides}
 use Rattle.conditions.specs.declared.Condition.{Condition}
 use Rattle.statements.specs.Typed.{SimpleTyped}
 use Rattle.statements.specs.declared.Simple.{Simple}
-use Rattle.blocks.specs.Targets.{targetsFrom}
-use Rattle.rules.specs.States.{State}
+use Rattle.blocks.specs.Tree.{targetsFrom}
+use Rattle.rules.specs.FactSets.{State}
 use Rattle.rules.specs.BoundsRules.{rowsAfter}
 use Rattle.rules.specs.Rules.{newState, stateAfter, assumed, atHead, sidesJoined}
 use Rattle.rules.specs.Verdict.{environmentOf}

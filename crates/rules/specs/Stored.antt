@@ -14,8 +14,7 @@ use Rattle.statements.specs.declared.Simple.{Simple}
 use Rattle.table.specs.declared.variables.End.{End}
 use Rattle.table.specs.declared.Form.{Form}
 use Rattle.blocks.specs.Tree.{Block}
-use Rattle.rules.specs.FactSets.{FactSets}
-use Rattle.rules.specs.States.{State}
+use Rattle.rules.specs.FactSets.{FactSets, State}
 use Rattle.rules.specs.FactRules as facts
 use Rattle.rules.specs.BoundsRules as bounds
 use Rattle.rules.specs.Rules as walk
