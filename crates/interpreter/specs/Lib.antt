@@ -9,6 +9,7 @@ pub mod StartLaws
 pub mod NumberLaws
 pub mod Claim
 pub mod StepLaws
+pub mod PointLaws
 pub mod ClaimLaws
 pub mod TwoRuns
 pub mod TwoRunsLaws

@@ -28,7 +28,8 @@ use Rattle.machine.specs.FrameLaws.{two-alike, others-untouched}
 use Rattle.entry.specs.Entry.{entryRefusals}
 use Rattle.interpreter.specs.StartLaws.{Admitted, admitted, origin-inside}
 use Rattle.interpreter.specs.BegunLaws.{one-object}
-use Rattle.interpreter.specs.ClaimLaws.{lends, formed-sections, judged-ran}
+use Rattle.interpreter.specs.ClaimLaws.{formed-sections, judged-ran}
+use Rattle.interpreter.specs.PointLaws.{lends}
 use Rattle.interpreter.specs.Claim.{runFaults, answerOf, Begins}
 use Rattle.interpreter.specs.TwoRuns.{OtherCell, DifferElsewhere, TwoRuns, withCells}
 use Rattle.answers.specs.declared.stops.Outcome.the-variants as outcome
