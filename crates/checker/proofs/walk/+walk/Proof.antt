@@ -117,7 +117,7 @@ pub +walk-spec : {M : Type 1} → statement M
       (turn t
           (c .before .before .before .before .before .before .before)) .so-far .forced,
       l .0,
-      l .1,
+      omega (arith, l .0, l .1),
     ))
     (λ c. search needs) (λ c. search needs)
     (λ c. row-refused (arm (turn t (c .before .before .before .before .before .before .before .before .before .before .before)) (c .before .before .before .before .before .before .before .before .before .statement .given .1)) (sym
