@@ -252,15 +252,8 @@ unfolding boundsRules.unshown
 seen-unshown E f K = seen-from E f K 16 0
 
 pub seen-access : (E : Environment) (f : FactSet) (K : List Bounds) (s : Simple) → accessShown (seenAs (seenOf E)) f K s ≡ accessShown E f K s
-unfolding boundsRules.accessShown
-seen-access E f K (Literal x k) = refl
-seen-access E f K (AddConstant x y k) = refl
-seen-access E f K (Arithmetic x y z op) = refl
-seen-access E f K (Null p) = refl
-seen-access E f K (Address p o) = refl
-seen-access E f K (PointerOffset p q k) = refl
-seen-access E f K (PointerIndex p q i) = refl
-seen-access E f K (Load x p i k) = refl
-seen-access E f K (Store p i k x) = refl
-seen-access E f K (Check c) = refl
-seen-access E f K (Declare p r) = refl
+seen-access E f K s = sym (access-needs (seenAs (seenOf E)) f K s) ∙ (go (accessOf s) ∙ access-needs E f K s)
+  where
+    go : (a : Access) → needed (seenAs (seenOf E)) f K a ≡ needed E f K a
+    go Nothing = refl
+    go (Through p) = refl

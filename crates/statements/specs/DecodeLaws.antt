@@ -13,7 +13,7 @@ use Rattle.words.specs.Words.{fieldsAt}
 use Rattle.words.specs.declared.Fields.{Fields}
 use Rattle.words.specs.Fields.{plain, indexOf, literalValue, isZero, isCount, isBelow, isConstant}
 use Rattle.words.specs.Sections.{inLimits, statementStart, integerAt, pointerAt, namesInteger, namesPointer}
-use Rattle.words.specs.Sections.{namesIndex, takesPointer, takesObject, namesArray, namesString}
+use Rattle.words.specs.Sections.{Limits, namesIndex, takesPointer, takesObject, namesArray, namesString}
 use Rattle.words.specs.SectionsLaws.{both}
 use Rattle.words.specs.NameLaws.{either, integer-limits, pointer-limits, array-names, string-names}
 use Rattle.words.specs.declared.sections.Sections.{Sections}
@@ -43,34 +43,33 @@ condition-same : (a b c d x y z u : ℕ) → a ≡ x → b ≡ y → c ≡ z →
 condition-same a b c d x y z u p q r s = rw (p, q, r, s)
 
 module _ (table : List ℤ) (h : Sections) where
+  -- A field that names a variable, by a test that variables alone pass.
+  variable-unsigned : (at : ℕ → Bool) → ((v : ℕ) → at v ≡ true → Limits h × (v < h .variables)) → (w : ℕ) → (leb bias w && at (plain w)) ≡ true
+      → unsigned w ≡ plain w
+  variable-unsigned at within w e =
+      let p = both (leb bias w) (at (plain w)) e in
+      let a : bias ≤ w = leb-true bias w (p .0) in
+      let l = within (plain w) (p .1) in
+      omega (arith, a, l .1, l .0 .variables)
+
   integer-unsigned : (w : ℕ) → namesInteger table h w ≡ true → unsigned w ≡ plain w
   unfolding namesInteger
-  integer-unsigned w e =
-      let p = both (leb bias w) (integerAt table h (plain w)) e in
-      let a : bias ≤ w = leb-true bias w (p .0) in
-      let l = integer-limits table h (plain w) (p .1) in
-      omega (arith, a, l .1, l .0 .variables)
+  integer-unsigned = variable-unsigned (integerAt table h) (integer-limits table h)
 
   pointer-unsigned : (w : ℕ) → namesPointer table h w ≡ true → unsigned w ≡ plain w
   unfolding namesPointer
-  pointer-unsigned w e =
-      let p = both (leb bias w) (pointerAt table h (plain w)) e in
-      let a : bias ≤ w = leb-true bias w (p .0) in
-      let l = pointer-limits table h (plain w) (p .1) in
-      omega (arith, a, l .1, l .0 .variables)
+  pointer-unsigned = variable-unsigned (pointerAt table h) (pointer-limits table h)
 
-  -- An object, beside a pointer.
-  object-unsigned : (v w : ℕ) → namesPointer table h v ≡ true → isBelow (h .objects) w ≡ true → unsigned w ≡ plain w
+  -- An object or a row, beside a pointer.
+  item-unsigned : (n v w : ℕ) → (Limits h → n ≤ 2 ^ 32) → namesPointer table h v ≡ true → isBelow n w ≡ true → unsigned w ≡ plain w
   unfolding namesPointer
-  object-unsigned v w e i =
-      let l = pointer-limits table h (plain v) (both (leb bias v) (pointerAt table h (plain v)) e .1) in
-      below-unsigned (h .objects) w (omega (arith, l .0 .objects)) i
+  item-unsigned n v w few e = below-unsigned n w (few (pointer-limits table h (plain v) (both (leb bias v) (pointerAt table h (plain v)) e .1) .0))
+
+  object-unsigned : (v w : ℕ) → namesPointer table h v ≡ true → isBelow (h .objects) w ≡ true → unsigned w ≡ plain w
+  object-unsigned v w = item-unsigned (h .objects) v w (λ l. omega (arith, l .objects))
 
   row-unsigned : (v w : ℕ) → namesPointer table h v ≡ true → isBelow (h .rows) w ≡ true → unsigned w ≡ plain w
-  unfolding namesPointer
-  row-unsigned v w e i =
-      let l = pointer-limits table h (plain v) (both (leb bias v) (pointerAt table h (plain v)) e .1) in
-      below-unsigned (h .rows) w (omega (arith, l .0 .rows)) i
+  row-unsigned v w = item-unsigned (h .rows) v w (λ l. omega (arith, l .rows))
 
   index-unsigned : (w : ℕ) → namesIndex table h w ≡ true → decodedIndex w ≡ indexOf w
   unfolding namesIndex indexOf decodedIndex
