@@ -1,5 +1,5 @@
 -- What the answer of a run reads as, in the paper's numbers (document 01, "The plain machine"): the named checks; "done, spent .. or stopped", or refused.
-use Prim.Native.Nat.{ℕ, zero, suc}
+use Prim.Native.Nat.{ℕ}
 use Rattle.answers.specs.Refusals.{number, place, pointer}
 use Rattle.answers.specs.declared.stops.Outcome.{Outcome}
 use Rattle.answers.specs.declared.stops.Outcome.the-variants.{Done, Spent, Stopped, Refused}
@@ -26,16 +26,6 @@ checkStatement (OutOfBounds s) = s
 checkStatement (NullArithmetic s) = s
 checkStatement (AddressRange s) = s
 checkStatement (Terminator s) = s
-
--- The check of a number of 1 to 6.
-abbrev pub checkOf : ℕ → ℕ → Check
-checkOf zero s = ConditionFalse s
-checkOf (suc zero) s = ConditionFalse s
-checkOf (suc (suc zero)) s = NullAccess s
-checkOf (suc (suc (suc zero))) s = OutOfBounds s
-checkOf (suc (suc (suc (suc zero)))) s = NullArithmetic s
-checkOf (suc (suc (suc (suc (suc zero))))) s = AddressRange s
-checkOf (suc (suc (suc (suc (suc (suc n)))))) s = Terminator s
 
 -- ---- the answer
 pub data Answer : Type 0 where

@@ -1,5 +1,5 @@
 -- What the checks of a run read, and what they say of a step.
-use Prim.Native.Nat.{ℕ, _+_, _*_}
+use Prim.Native.Nat.{ℕ, zero, suc, _+_, _*_}
 use mathlib.Core.Bool.{Bool}
 use mathlib.Core.List.{List, []}
 use lib.Dec.{eqb}
@@ -10,7 +10,8 @@ use Rattle.rules.specs.declared.KnownEnd.the-variants.{Known}
 use Rattle.rules.specs.declared.Bounds.{Bounds}
 use Rattle.rules.specs.declared.Environment.{Environment}
 use Rattle.machine.specs.Machine.{Failing, none, fails}
-use Rattle.answers.specs.Answers.{checkOf}
+use Rattle.answers.specs.declared.stops.Check.{Check}
+use Rattle.answers.specs.declared.stops.Check.the-variants.{ConditionFalse, NullAccess, OutOfBounds, NullArithmetic, AddressRange, Terminator}
 use Rattle.checks.specs.declared.Step.{Step}
 use Rattle.checks.specs.declared.Step.the-variants.{Go, Stop}
 
@@ -43,6 +44,16 @@ declaredIn W = record {
 }
 
 -- ---- steps
+
+-- The check of a number of 1 to 6.
+abbrev pub checkOf : ℕ → ℕ → Check
+checkOf zero s = ConditionFalse s
+checkOf (suc zero) s = ConditionFalse s
+checkOf (suc (suc zero)) s = NullAccess s
+checkOf (suc (suc (suc zero))) s = OutOfBounds s
+checkOf (suc (suc (suc (suc zero)))) s = NullArithmetic s
+checkOf (suc (suc (suc (suc (suc zero))))) s = AddressRange s
+checkOf (suc (suc (suc (suc (suc (suc n)))))) s = Terminator s
 
 -- The step to the statement `next`, unless a check fails at the statement a.
 unfoldable pub stepUnless : Failing → ℕ → ℕ → Step

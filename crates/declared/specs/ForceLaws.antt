@@ -13,10 +13,7 @@ use Rattle.facts.specs.declared.FactSet.{FactSet}
 use Rattle.answers.specs.declared.refusals.Refusal.{Refusal}
 use Rattle.statements.specs.declared.Simple.the-variants.{Declare}
 use Rattle.blocks.specs.Layout.{also}
-use Rattle.arrays.specs.Tabulate.{tabulate}
-use Rattle.arrays.specs.TabulateLaws.{length-tabulate, getD-tabulate}
-use Rattle.rules.specs.BoundsRules.{nothingKnown, ownRows, rowBound, inForce}
-use Rattle.rules.specs.BoundsTrue.{own-row}
+use Rattle.rules.specs.BoundsRules.{inForce}
 use Rattle.rules.specs.Stored.{unshown, rowUnshown, boundsAfter}
 use Rattle.rules.specs.Rules.{boundsAt, sameRows}
 use Rattle.rules.specs.RuleLaws.{same-rows}
@@ -26,7 +23,7 @@ use Rattle.rules.specs.declared.Environment.{Environment}
 use Rattle.rules.specs.declared.Effect.the-variants.{Keep}
 use Rattle.rules.specs.declared.Verdict.{Verdict}
 use Rattle.rules.specs.declared.Verdict.the-variants.{Accepted, Refused}
-use Rattle.bounds.specs.Touched.{seenAs, seenOf}
+use Rattle.bounds.specs.Touched.{seenAs}
 use Rattle.bounds.specs.declared.touched.Seen.{Seen}
 use Rattle.declared.specs.ShownLaws.{seen-unshown}
 use Rattle.declared.specs.Force.{Forced, DeclaresRow}
@@ -104,28 +101,3 @@ module _ {E : Environment} (f : FactSet) {F : Force} (p r a : ℕ) (o : Forced E
             ∙ ap verdictOf (sym (pass _ _ (none-refused _ own q))))));
         kept = λ z. G;
       }
-
--- ---- at entry
-
--- Each pointer's own bound is in force: what the table declares.
-pub own-seen : (E : Environment) → length (E .declared) ≡ 16 → seenOf E ≡ seenOf (inForce E ownRows)
-unfolding rowBound
-own-seen E l =
-    ap (λ (D : List Bounds). seenOf (record {
-      pointers = E .pointers;
-      strings = E .strings;
-      sizes = E .sizes;
-      declared = D;
-      lengths = E .lengths;
-      terminated = E .terminated;
-      spans = E .spans;
-      rows = E .rows;
-    })) (sym whole)
-  where
-    each : (i : ℕ) → i < 16 → rowBound E (getD ownRows i 0) i ≡ getD (E .declared) i nothingKnown
-    each i h = rw (own-row i) refl
-
-    whole : tabulate 16 (λ p. rowBound E (getD ownRows p 0) p) ≡ E .declared
-    whole = ext-getD nothingKnown _ _ (length-tabulate 16 (λ p. rowBound E (getD ownRows p 0) p) ∙ sym l)
-        (λ i h. let q : i < 16 = omega (arith, length-tabulate 16 (λ p. rowBound E (getD ownRows p 0) p)) in
-        getD-tabulate 16 (λ p. rowBound E (getD ownRows p 0) p) i nothingKnown q ∙ each i q)

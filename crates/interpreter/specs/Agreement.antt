@@ -11,7 +11,7 @@ use Rattle.statements.specs.declared.StatementRead.the-variants.{Read}
 use Rattle.blocks.specs.Shape.{entriesAt}
 use Rattle.rules.specs.declared.Environment.{Environment}
 use Rattle.machine.specs.Machine.{high, Status, going, stopped, stuck, Point, successorsOf, pointAfter}
-use Rattle.answers.specs.Answers.{checkOf}
+use Rattle.checks.specs.Checked.{checkOf}
 use Rattle.steps.specs.Bare.{Move, move}
 use Rattle.interpreter.specs.BareRun.{Result, result}
 use Rattle.entry.specs.Ends.{endsOf}

@@ -31,10 +31,9 @@ use Rattle.rules.specs.declared.Environment.{Environment}
 use Rattle.machine.specs.Machine.{low, high, address, inOrigin, conditionHolds, Failing, none, fails, failing, Status}
 use Rattle.machine.specs.Machine.{going, stopped, stuck, Point, Memory, Performed, done, no-step, stepIf, performed}
 use Rattle.machine.specs.Machine.{memoryOf, afterChecks, branched, statementStep, stepIfDue, nextPoint, pointAfter, value}
-use Rattle.checks.specs.Checked.{stepUnless}
+use Rattle.checks.specs.Checked.{stepUnless, checkOf}
 use Rattle.steps.specs.Bare.{valuesAfter, cellsAfter, changedUnless, Move, move, simpleMove, statementMove, bareMove, InCells, InsideSimple, Inside, Ready}
 use Rattle.interpreter.specs.BareRun.{Result, result, follow, bareRun, IfTrue, Onward, SafeRun}
-use Rattle.answers.specs.Answers.{checkOf}
 use Rattle.interpreter.specs.Agreement.{stepShown, moveShown, resultShown, Runnable}
 use Rattle.interpreter.specs.Outcomes.{outcomeShown}
 use Rattle.entry.specs.Ends.{endsOf}

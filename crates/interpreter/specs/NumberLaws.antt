@@ -22,9 +22,9 @@ use Rattle.machine.specs.Machine.{value, address, lowerEnd, upperEnd, condition
 use Rattle.machine.specs.Machine.{firstUnless, accessFailing, arithmeticFailing, failing, Status, going, stopped, stuck}
 use Rattle.machine.specs.Machine.{Point, Performed, done, no-step, performed, memoryOf, afterPerformed, afterChecks, branched}
 use Rattle.machine.specs.Machine.{statementStep, successorsOf, stepIfDue, nextPoint, pointAfter, beyond, terminatorFailing}
-use Rattle.answers.specs.Answers.{checkNumber, checkStatement, checkOf}
+use Rattle.answers.specs.Answers.{checkNumber, checkStatement}
+use Rattle.checks.specs.Checked.{checkOf}
 use Rattle.answers.specs.declared.stops.Check.{Check}
-use Rattle.answers.specs.declared.stops.Check.the-variants.{ConditionFalse, NullAccess, OutOfBounds, NullArithmetic, AddressRange, Terminator}
 
 -- The check that a stop answers has the machine's number, and the statement that was due.
 pub number-of : (n a : ℕ) → 1 ≤ n → n ≤ 6 → checkNumber (checkOf n a) ≡ n
@@ -45,15 +45,6 @@ statement-of (suc (suc (suc zero))) a = refl
 statement-of (suc (suc (suc (suc zero)))) a = refl
 statement-of (suc (suc (suc (suc (suc zero))))) a = refl
 statement-of (suc (suc (suc (suc (suc (suc n)))))) a = refl
-
--- A check is that of its number and its statement.
-pub check-of : (c : Check) (n a : ℕ) → checkNumber c ≡ n → checkStatement c ≡ a → c ≡ checkOf n a
-check-of (ConditionFalse s) n a p q = rw (← p, ← q)
-check-of (NullAccess s) n a p q = rw (← p, ← q)
-check-of (OutOfBounds s) n a p q = rw (← p, ← q)
-check-of (NullArithmetic s) n a p q = rw (← p, ← q)
-check-of (AddressRange s) n a p q = rw (← p, ← q)
-check-of (Terminator s) n a p q = rw (← p, ← q)
 
 abbrev Numbered : Failing → Type 0
 Numbered none = Unit {0}

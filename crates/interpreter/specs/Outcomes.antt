@@ -4,7 +4,7 @@ use mathlib.Core.Bool.{cond}
 use lib.Dec.{ltb}
 use Rattle.words.specs.declared.sections.Sections.{Sections}
 use Rattle.machine.specs.Machine.{Status, going, stopped, stuck}
-use Rattle.answers.specs.Answers.{checkOf}
+use Rattle.checks.specs.Checked.{checkOf}
 use Rattle.answers.specs.declared.stops.Outcome.{Outcome}
 use Rattle.answers.specs.declared.stops.Outcome.the-variants.{Done, Spent, Stopped}
 

@@ -1,8 +1,7 @@
 -- A place of what a table declares, within and beyond.
 use Prim.Native.Nat.{ℕ, _<_, _≤_}
-use mathlib.Core.Path.{_≡_, sym, ap, _∙_}
+use mathlib.Core.Path.{_≡_, sym, _∙_}
 use native.Mathlib.Omega.{arith}
-use lib.IntN.{ℤ}
 use lib.ListN.{List·getD-eq-default, getD}
 use mathlib.Core.List.{List}
 use Rattle.arrays.specs.Tabulate.{tabulate}
