@@ -49,11 +49,12 @@
 #include <stddef.h>
 #include <stdint.h>
 
-/* The version of this header and of the library that it came with. */
+/* The version of this header, and as one number. */
 #define MIZZENGRAPE_VERSION_MAJOR 0
-#define MIZZENGRAPE_VERSION_MINOR 1
+#define MIZZENGRAPE_VERSION_MINOR 2
 #define MIZZENGRAPE_VERSION_PATCH 0
-#define MIZZENGRAPE_VERSION "0.1.0"
+#define MIZZENGRAPE_VERSION "0.2.0"
+#define MIZZENGRAPE_VERSION_NUMBER (MIZZENGRAPE_VERSION_MAJOR * 10000u + MIZZENGRAPE_VERSION_MINOR * 100u + MIZZENGRAPE_VERSION_PATCH)
 
 /* The stack of a thread that is enough for either call. */
 #define MIZZENGRAPE_STACK_BYTES 131072
@@ -62,11 +63,8 @@
 extern "C" {
 #endif
 
-/* The version that a program was compiled with; the library itself does not carry one. */
-static inline const char *mizzengrape_version(void)
-{
-    return MIZZENGRAPE_VERSION;
-}
+/* The version of the library that the program is linked with. Where it is not MIZZENGRAPE_VERSION_NUMBER, header and library come from two releases. */
+uint32_t mizzengrape_version(void);
 
 /* Refusals, with the paper's numbers: answer[0] of a check, answer[1] of a run that is refused. In brackets their place. */
 typedef enum mizzengrape_refusal {

@@ -8,7 +8,7 @@ import re
 import sys
 from pathlib import Path
 
-ENTRY_POINTS = ["checker", "interpreter", "files", "exports"]  # crates whose open functions are what others call
+ENTRY_POINTS = ["checker", "interpreter", "files", "exports", "lines"]  # crates whose open functions are what others call
 USE = re.compile(r"^\s*(?:ghost )?use Rattle·(\w+?)(?:·specs)?\.specs\.([\w.·-]+?)(?:\.\{([^}]*)\})?(?: as [\w-]+)?;?$")
 
 

@@ -98,6 +98,10 @@ static void wrong_pointers(void)
 
 int main(void)
 {
+    if (mizzengrape_version() != MIZZENGRAPE_VERSION_NUMBER) {
+        fprintf(stderr, "header %s and library %u come from two releases\n", MIZZENGRAPE_VERSION, (unsigned)mizzengrape_version());
+        return 1;
+    }
     check("the routine", routine, LENGTH(routine), 3);
     check("the count raised first", raised, LENGTH(raised), 3);
     check("bounds that differ", differing, LENGTH(differing), 3);

@@ -16,6 +16,8 @@ fn one_version_everywhere() {
     for (name, number) in ["MAJOR", "MINOR", "PATCH"].iter().zip(version.split('.')) {
         assert!(header.contains(&format!("#define MIZZENGRAPE_VERSION_{name} {number}\n")), "{name}");
     }
+    let library = mizzengrape::version().map(|number| number.to_string()).join(".");
+    assert_eq!(library, version, "the library's own");
     let changes = read("CHANGELOG.md");
     let mut headings = changes.lines().filter_map(|line| line.strip_prefix("## "));
     assert_eq!(headings.find(|heading| *heading != "Unreleased"), Some(version.as_str()));

@@ -3,7 +3,7 @@ use Prim.Native.Nat.{ℕ, zero, suc}
 use mathlib.Core.List.{List, [], _∷_, _++_}
 
 module _ {A : Type 0} where
-  -- The list f 0, f 1, .. f (n - 1), built from its end, so that one turn of the loop is one step.
+  -- The list f 0, f 1, .. f (n - 1), each behind the ones before, as a loop fills an array.
   unfoldable pub tabulate : ℕ → (ℕ → A) → List A
   tabulate zero f = []
   tabulate (suc n) f = tabulate n f ++ (f n ∷ [])

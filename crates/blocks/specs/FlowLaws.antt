@@ -20,10 +20,11 @@ use Rattle.statements.specs.Statements.{statementAt}
 use Rattle.statements.specs.StatementLaws.{read-within}
 use Rattle.blocks.specs.Tree.{Block, plain, branch, loop, bundle, simples, simplesFrom, node, parse, tree}
 use Rattle.blocks.specs.TreeLaws.{parse-none, parse-end, parse-some}
-use Rattle.blocks.specs.Flow.{Successors, successors, entry, Begins, lead, line, flow, tableFlow, put, written, Written}
+use Rattle.blocks.specs.Flow.{Successors, successors, entry, lead, line, flow, tableFlow}
+use Rattle.blocks.specs.Written.{FirstDue, put, written, Written}
 
 -- Where a block of a to b - 1 begins.
-pub begins : (l : ℕ) (T : List ℤ) (h : Sections) (a b : ℕ) {after r : ℕ} → Begins l a b after r → r ≡ entry (parse l T h a b) after
+pub begins : (l : ℕ) (T : List ℤ) (h : Sections) (a b : ℕ) {after r : ℕ} → FirstDue l a b after r → r ≡ entry (parse l T h a b) after
 unfolding entry parse
 begins zero T h a b k = k .none (omega arith)
 begins (suc l) T h a b {after} {r} k = go (ltb a b) (statementAt T h a) refl
@@ -202,7 +203,7 @@ module _ {T : List ℤ} {h : Sections} {end allowed after : ℕ} {v : List ℕ} 
   room-bundle {k} u z l e = omega (arith, room-put u l e, z, placed u .0, simples-within k T h (at + 1) (omega (arith, placed u .0)))
 
   pub link-plain : {p : Simple} {q : ℕ} {w₁ : List ℕ} → Turn T h end allowed after v n at left w (Plain p)
-      → Begins (left - 1) (at + 1) end after q → w₁ ≡ put w (successors at q q)
+      → FirstDue (left - 1) (at + 1) end after q → w₁ ≡ put w (successors at q q)
       → Kept T h end allowed after v n (at + 1) (left - 1) w₁
   link-plain {p} {q} {w₁} u i e = record {
     same = here (Plain p) u ∙ plain-written _ at after w p q w₁ (begins _ T h _ _ i) e;
@@ -211,9 +212,9 @@ module _ {T : List ℤ} {h : Sections} {end allowed after : ℕ} {v : List ℕ} 
   }
 
   pub link-if : {c : Condition} {k m q x y : ℕ} {w₁ w₂ w₃ : List ℕ} → Turn T h end allowed after v n at left w (If c k m)
-      → Begins (left - 1) (at + 1 + k + m) end after q
-      → Begins (left - 1) (at + 1) (at + 1 + k) q x
-      → Begins (left - 1) (at + 1 + k) (at + 1 + k + m) q y
+      → FirstDue (left - 1) (at + 1 + k + m) end after q
+      → FirstDue (left - 1) (at + 1) (at + 1 + k) q x
+      → FirstDue (left - 1) (at + 1 + k) (at + 1 + k + m) q y
       → w₁ ≡ put w (successors at x y) → w₂ ≡ written (flow (parse (left - 1) T h (at + 1) (at + 1 + k)) q) w₁
       → w₃ ≡ written (flow (parse (left - 1) T h (at + 1 + k) (at + 1 + k + m)) q) w₂
       → Kept T h end allowed after v n (at + 1 + k + m) (left - 1) w₃
@@ -224,7 +225,7 @@ module _ {T : List ℤ} {h : Sections} {end allowed after : ℕ} {v : List ℕ} 
   }
 
   pub link-while : {c : Condition} {k x y : ℕ} {w₁ w₂ : List ℕ} → Turn T h end allowed after v n at left w (While c k)
-      → Begins (left - 1) (at + 1) (at + 1 + k) at x → Begins (left - 1) (at + 1 + k) end after y
+      → FirstDue (left - 1) (at + 1) (at + 1 + k) at x → FirstDue (left - 1) (at + 1 + k) end after y
       → w₁ ≡ put w (successors at x y) → w₂ ≡ written (flow (parse (left - 1) T h (at + 1) (at + 1 + k)) at) w₁
       → Kept T h end allowed after v n (at + 1 + k) (left - 1) w₂
   link-while {c} {k} {x} {y} {w₁} {w₂} u i j e₁ e₂ = record {
@@ -234,7 +235,7 @@ module _ {T : List ℤ} {h : Sections} {end allowed after : ℕ} {v : List ℕ} 
   }
 
   pub link-bundle : {k m q x : ℕ} {w₁ w₂ : List ℕ} → Turn T h end allowed after v n at left w (Bundle k) → m ≡ length (simples k T h (at + 1))
-      → Begins (left - 1) (at + 1 + k) end after q → x ≡ lead (at + 1) m q
+      → FirstDue (left - 1) (at + 1 + k) end after q → x ≡ lead (at + 1) m q
       → w₁ ≡ put w (successors at x x) → w₂ ≡ written (line (at + 1) m q) w₁
       → Kept T h end allowed after v n (at + 1 + k) (left - 1) w₂
   link-bundle {k} {m} {q} {x} {w₁} {w₂} u z i j e₁ e₂ = record {

@@ -12,8 +12,6 @@ use Rattle.statements.specs.declared.Statement.the-variants.{Plain, If, While, 
 use Rattle.statements.specs.declared.StatementRead.{StatementRead}
 use Rattle.statements.specs.declared.StatementRead.the-variants.{Read, Unread}
 use Rattle.statements.specs.Statements.{statementAt}
-use Rattle.blocks.specs.declared.Layout.{Layout}
-use Rattle.blocks.specs.declared.Layout.the-variants.{LaidOut, Refused}
 
 -- "a block may hold blocks, to a depth" of 6 "(top statements have depth 0)". Point 8: "The limit becomes 6; depth 7 is refusal 6."
 abbrev pub maxDepth : ℕ
@@ -75,8 +73,3 @@ blockLayout (suc f) T h d a b = nodeLayout (ltb a b) (statementAt T h a) (λ e x
 -- The whole table.
 unfoldable pub layout : List ℤ → Sections → List Refusal
 layout T h = blockLayout (h .statements) T h 0 0 (h .statements)
-
--- "lowest place first"
-unfoldable pub verdict : List Refusal → Layout
-verdict [] = LaidOut
-verdict (x ∷ xs) = Refused x

@@ -22,8 +22,8 @@ use Rattle.blocks.specs.declared.Layout.{Layout}
 use Rattle.blocks.specs.declared.Layout.the-variants.{LaidOut, Refused}
 use Rattle.blocks.specs.declared.Parts.{Parts}
 use Rattle.blocks.specs.declared.Parts.the-variants as parts
-use Rattle.blocks.specs.Parts.{Leads, Parted}
-use Rattle.blocks.specs.Layout.{maxDepth, maxBundle, also, when, contents, contentsFrom, bundleLayout, nodeLayout, blockLayout, verdict}
+use Rattle.blocks.specs.Parts.{verdict, Leads, Parted}
+use Rattle.blocks.specs.Layout.{maxDepth, maxBundle, also, when, contents, contentsFrom, bundleLayout, nodeLayout, blockLayout}
 
 -- Lists of refusals.
 

@@ -5,6 +5,7 @@ pub mod LayoutLaws
 pub mod Parts
 pub mod PartsLaws
 pub mod Flow
+pub mod Written
 pub mod FlowLaws
 pub mod Along
 pub mod Shape

@@ -1,16 +1,23 @@
 -- What a statement of a block leads to, as the code goes through a block.
 use Prim.Native.Nat.{ℕ, _+_, _-_, _<_, _≤_}
 use mathlib.Core.Path.{_≡_}
-use mathlib.Core.Bool.{Bool, true, false, cond}
-use mathlib.Core.List.{List}
+use mathlib.Core.Bool.{cond}
+use mathlib.Core.List.{List, [], _∷_}
 use lib.IntN.{ℤ}
 use lib.Dec.{ltb}
+use Rattle.answers.specs.declared.refusals.Refusal.{Refusal}
 use Rattle.answers.specs.declared.refusals.Refusal.the-variants.{BlockLayout}
 use Rattle.words.specs.declared.sections.Sections.{Sections}
 use Rattle.blocks.specs.declared.Parts.{Parts}
 use Rattle.blocks.specs.declared.Parts.the-variants.{Refused, Next, Blocks}
+use Rattle.blocks.specs.declared.Layout.{Layout}
 use Rattle.blocks.specs.declared.Layout.the-variants as layout
-use Rattle.blocks.specs.Layout.{maxDepth, also, blockLayout, verdict}
+use Rattle.blocks.specs.Layout.{maxDepth, also, blockLayout}
+
+-- What the layout of a block answers: "lowest place first".
+unfoldable pub verdict : List Refusal → Layout
+verdict [] = layout.LaidOut
+verdict (x ∷ xs) = layout.Refused x
 
 -- Blocks of n and m statements behind the head a, in a block that ends at b.
 abbrev pub blocksOf : ℕ → ℕ → ℕ → ℕ → Parts

@@ -19,9 +19,9 @@ use Rattle.statements.specs.Statements.{statementAt}
 use Rattle.blocks.specs.declared.Layout.{Layout}
 use Rattle.blocks.specs.declared.Layout.the-variants as layout
 use Rattle.blocks.specs.declared.Parts.the-variants.{Refused, Next, Blocks}
-use Rattle.blocks.specs.Layout.{maxDepth, bundleLayout, kindLayout, blockLayout, verdict}
+use Rattle.blocks.specs.Layout.{maxDepth, bundleLayout, kindLayout, blockLayout}
 use Rattle.blocks.specs.LayoutLaws.{none-refused, skip, pass, refuse, refuse-part, block-end, block-some}
-use Rattle.blocks.specs.Parts.{blocksOf, Leads, Parted}
+use Rattle.blocks.specs.Parts.{verdict, blocksOf, Leads, Parted}
 
 pub blocks-past : (a n m b : ℕ) → b < a + 1 + n + m → Refused (BlockLayout a) ≡ blocksOf a n m b
 blocks-past a n m b p = rw (lt-ltb _ _ p)

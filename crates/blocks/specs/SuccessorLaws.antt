@@ -10,7 +10,8 @@ use Rattle.words.specs.declared.sections.Sections.{Sections}
 use Rattle.statements.specs.declared.Simple.{Simple}
 use Rattle.blocks.specs.Tree.{Block, nil, plain, branch, loop, bundle, unread, tree}
 use Rattle.blocks.specs.Layout.{layout}
-use Rattle.blocks.specs.Flow.{Successors, successors, entry, lead, line, flow, tableFlow, put, written}
+use Rattle.blocks.specs.Flow.{Successors, successors, entry, lead, line, flow, tableFlow}
+use Rattle.blocks.specs.Written.{put, written}
 use Rattle.blocks.specs.FlowLaws.{length-put}
 use Rattle.blocks.specs.Along.{Along, along-left, along-right, along-at, along-getD}
 use Rattle.blocks.specs.Shape.{size, Numbered, RightLine, Right, Bounded, Consecutive, entriesAt}

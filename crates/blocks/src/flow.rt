@@ -7,11 +7,12 @@ ghost use mathlib.Core.Path.{_≡_};
 ghost use Prim.Native.Nat.{_+_, _*_, _<_, _≤_};
 ghost use lib.ListN.{length};
 ghost use Rattle.blocks.specs.Tree.{simples, parse};
-ghost use Rattle.blocks.specs.Flow.{successors, Begins, lead, line, flow, put, written, Written};
+ghost use Rattle.blocks.specs.Flow.{successors, lead, line, flow};
+ghost use Rattle.blocks.specs.Written.{FirstDue, put, written, Written};
 
 // What is due where the block of `first` to `end` - 1 begins, with `left` statements left; `after` where it is empty.
 fn first_due(first: usize, end: usize, left: usize, after: usize) -> usize
-    ensures { λ r. ⌜ Begins left first end after r ⌝ }
+    ensures { λ r. ⌜ FirstDue left first end after r ⌝ }
 {
     if left == 0 {
         return after;

@@ -8,8 +8,8 @@ use statements::read_statement;
 use words::sections::Sections;
 ghost use mathlib.Core.Path.{_≡_};
 ghost use Prim.Native.Nat.{_<_};
-ghost use Rattle.blocks.specs.Layout.{verdict, contents, bundleLayout, blockLayout, layout};
-ghost use Rattle.blocks.specs.Parts.{blocksOf, Parted};
+ghost use Rattle.blocks.specs.Layout.{contents, bundleLayout, blockLayout, layout};
+ghost use Rattle.blocks.specs.Parts.{verdict, blocksOf, Parted};
 
 // Blocks hold blocks to this depth; top statements have depth 0.
 const MAX_DEPTH: usize = 6;

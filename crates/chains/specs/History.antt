@@ -11,7 +11,7 @@ pub data History : Type 0 where
   shift : History → ℕ → ℕ → History
   join : History → History → History
 
--- A shift is by at most 2^32 + 1 either way.
+-- A shift is by at most 2^32 + 1 either way, more than any k of a table.
 pub record Slight (k : ℕ) : Type 0 where
   pub floor : maxValue ≤ k
   pub ceiling : k + maxValue ≤ bias + bias

@@ -23,7 +23,8 @@ use Rattle.table.specs.FormLaws.{Formed, well-formed}
 use Rattle.table.specs.declared.Form.{Form}
 use Rattle.table.specs.declared.Form.the-variants as form
 use Rattle.blocks.specs.Tree.{parse, tree}
-use Rattle.blocks.specs.Layout.{also, layout, verdict}
+use Rattle.blocks.specs.Layout.{also, layout}
+use Rattle.blocks.specs.Parts.{verdict}
 use Rattle.blocks.specs.declared.Layout.{Layout}
 use Rattle.blocks.specs.declared.Layout.the-variants as layout-variant
 use Rattle.rules.specs.Stored.{blockFaults, sectionFaults, formFaults}

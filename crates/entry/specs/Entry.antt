@@ -9,7 +9,7 @@ use Rattle.answers.specs.declared.refusals.Refusal.the-variants.{MemorySize, Di
 use Rattle.words.specs.declared.sections.Sections.{Sections}
 use Rattle.rules.specs.BoundsRules.{isPointer, objectLength, isTerminated}
 use Rattle.rules.specs.declared.Environment.{Environment}
-use Rattle.machine.specs.Machine.{value, high, boundsTrue}
+use Rattle.machine.specs.Machine.{value, low, high, boundsTrue}
 
 -- "memory above 16,777,216 cells, wrong number of pairs": one pair per object.
 unfoldable pub memoryRight : Sections → List ℕ → List ℕ → Bool
@@ -18,12 +18,11 @@ memoryRight h D cs = leb (length cs) 16777216 && eqb (length D) (2 * h .objects)
 -- Where the objects before object o end: cell 1 before the first, since "cell 0 is in no object".
 unfoldable pub endBefore : List ℕ → ℕ → ℕ
 endBefore D zero = 1
-endBefore D (suc o) = getD D (2 * o) 0 + getD D (2 * o + 1) 0
+endBefore D (suc o) = high D o
 
 -- "pair at cell 0, out of order, overlapping, outside memory, other length"; "touching objects are allowed".
 unfoldable pub pairRight : Environment → List ℕ → List ℕ → ℕ → Bool
-pairRight E D cs o =
-    leb (endBefore D o) (getD D (2 * o) 0) && leb (getD D (2 * o) 0 + getD D (2 * o + 1) 0) (length cs) && eqb (getD D (2 * o + 1) 0) (objectLength E o)
+pairRight E D cs o = leb (endBefore D o) (low D o) && leb (high D o) (length cs) && eqb (getD D (2 * o + 1) 0) (objectLength E o)
 
 -- "values or origins of another length": "one value per variable and one origin per variable".
 unfoldable pub lengthsRight : Sections → List ℕ → List ℕ → Bool

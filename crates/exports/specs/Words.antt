@@ -13,6 +13,11 @@ use Rattle.answers.specs.Answers.{Answer, done, spent, stopped, refused, reads}
 use Rattle.interpreter.specs.Claim.{Lent, RunJudged}
 use Rattle.answers.specs.declared.stops.Outcome.{Outcome}
 
+-- The version of this release, 0.2.0: 10,000 times its major number, 100 times its minor number, and its patch.
+abbrev pub versionNumber : ℕ
+versionNumber = 200
+
+-- A place as a word. Statements, objects, variables and pairs are few, so that the remainder is the number. (Steps are 32-bit numbers already.)
 abbrev pub wordOf : ℕ → ℕ
 wordOf n = n % 2 ^ 32
 

@@ -8,7 +8,10 @@ ghost use Prim.Native.Nat.{_≤_};
 ghost use lib.ListN.{length};
 ghost use Rattle.rules.specs.Verdict.{verdictReads};
 ghost use Rattle.answers.specs.Answers.{reads};
-ghost use Rattle.exports.specs.Words.{wordOf, putThree, putFour, verdictWords, answerWords, CheckAnswer, RunWords};
+ghost use Rattle.exports.specs.Words.{versionNumber, wordOf, putThree, putFour, verdictWords, answerWords, CheckAnswer, RunWords};
+
+// The version that include/mizzengrape.h gives, as one number.
+const VERSION: u32 = 200;
 
 // A number as an answer word. Statements, objects and variables are few, so that the remainder is the number.
 fn word_of(n: usize) -> u32
@@ -77,6 +80,14 @@ fn put_outcome(answer: &mut [u32], outcome: Outcome)
             put_four(answer, 3, number, place, pointer);
         }
     }
+}
+
+// The version of the library, so that a program can tell whether its header came with it.
+#[no_mangle]
+pub extern "C" fn mizzengrape_version() -> u32
+    ensures { λ r. ⌜ r ≡ versionNumber ⌝ }
+{
+    VERSION
 }
 
 // Checks a routine. False, and nothing written, where the answer has fewer than three words.

@@ -1,6 +1,6 @@
--- THE CLAIM about a run (document 00, demands 1 to 3; document 01, the plain machine and the causes of refusal). `run` promises `RunJudged`, for each input;
--- demand 3 about a whole run is `WholeRun`, which follows from that promise (`whole-run` in ClaimLaws). That each call ends, touches nothing but what it is
--- lent, and writes neither table, directory nor origins is the language's: what is lent to be read cannot be written. An allowance is a 32-bit number.
+-- THE CLAIM about a run (document 00, demands 1 to 3; document 01, the plain machine and the causes of refusal). `run` promises `RunJudged` for each input;
+-- demand 3 about a whole run, `WholeRun`, follows (`whole-run` in ClaimLaws); `check` promises `Judged` (rules/ByChains). By the language each call ends,
+-- touches only what it is lent, and writes neither table, directory nor origins; table words are signed, other words and the allowance unsigned 32-bit numbers.
 use Prim.Native.Nat.{ℕ, _+_, _≤_, _<_}
 use mathlib.Core.Path.{_≡_}
 use mathlib.Core.Logic.{_≢_, _↔_}
@@ -88,14 +88,14 @@ module _ (l : Lent) (h : Sections) where
   abbrev pub answerAt : ℕ → Answer
   answerAt t = answerOf h (pointOf t .status) (pointOf t .steps) (pointOf t .due)
 
-  -- Demand 3 after t steps of a run with the allowance `limit` whose answer reads as `a`. (Its sentence on cells, values, statement and steps is `EndsAt`.)
+  -- Demand 3 after t steps of a run with the allowance `limit` whose answer reads as `a`: of the plain machine's points, which are the run's by `EndsAt`.
   pub record AtPoint (limit : ℕ) (a : Answer) (t : ℕ) : Type 0 where
     -- "Outside a bundle every declared bound is true."
     pub bounds : inBundle (tree (l .table) h) (pointOf t .due) ≡ false
         → (p : ℕ) → isPointer (declaredAt t) p ≡ true → boundsTrue (declaredAt t) (l .directory) (pointOf t .values) (pointOf t .origins) p ≡ true
-    -- "Each cell read or written so far lay in the object that the pointer was derived from", its origin.
+    -- "Each cell read or written so far lay in the object that the pointer was derived from": its origin, lent with it (`start`) or set by kinds 4 to 7.
     pub accesses : (s : ℕ) → s < t → AccessInside (l .directory) (accessFrom (l .table) h (environmentOf (l .table) h) (pointOf s .status) (pointOf s))
-    -- Demand 1: no cell outside the objects has changed.
+    -- More than demand 1 asks: no cell outside the objects has changed.
     pub untouched : (i : ℕ) → Outside (l .directory) (h .objects) i → getD (pointOf t .cells) i 0 ≡ getD (l .cells) i 0
     -- Document 02, point 7: "At every point of a run the last cell of each terminated object is 0."
     pub last-zero : LastZero (environmentOf (l .table) h) (l .directory) (h .objects) (pointOf t .cells)
@@ -134,7 +134,7 @@ unfoldable pub RunAnswer : List Refusal → Lent → ℕ → Leaves → Type 0
 RunAnswer [] l limit m = Ran l (sectionsOf (l .table)) limit m
 RunAnswer (f ∷ fs) l limit m = NotBegun f l m
 
--- THE PROMISE OF `run`, for each input, by each decider of the paper's sentences about chains (there is one).
+-- THE PROMISE OF `run`, for each input, by each decider of the paper's sentences about chains, of which at least one exists (`Decided`).
 unfoldable pub RunJudged : Lent → ℕ → Leaves → Type 0
 RunJudged l limit m = Decided (l .table) (λ d. RunAnswer (runFaults (byChains d) l) l limit m)
 

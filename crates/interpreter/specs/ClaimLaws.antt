@@ -16,7 +16,8 @@ use Rattle.table.specs.Form.{lengthRight, directoryRight, sectionsOf, lowestObj
 use Rattle.table.specs.FormLaws.{well-formed}
 use Rattle.table.specs.declared.Form.{Form}
 use Rattle.table.specs.declared.Form.the-variants.{WellFormed, Refused}
-use Rattle.blocks.specs.Flow.{tableFlow, written, Written}
+use Rattle.blocks.specs.Flow.{tableFlow}
+use Rattle.blocks.specs.Written.{written, Written}
 use Rattle.rules.specs.BoundsRules.{ownRows}
 use Rattle.rules.specs.EnvironmentLaws.{environment-declares}
 use Rattle.rules.specs.AcceptedLaws.{clear, faults-clear}

@@ -18,7 +18,8 @@ use Rattle.words.specs.declared.sections.Sections.{Sections}
 use Rattle.table.specs.FormLaws.{Formed}
 use Rattle.blocks.specs.Tree.{tree}
 use Rattle.blocks.specs.Layout.{layout}
-use Rattle.blocks.specs.Flow.{successors, tableFlow, tableEntry, written}
+use Rattle.blocks.specs.Flow.{successors, tableFlow, tableEntry}
+use Rattle.blocks.specs.Written.{written}
 use Rattle.blocks.specs.FlowLaws.{begins, length-written}
 use Rattle.blocks.specs.SuccessorLaws.{written-at}
 use Rattle.rules.specs.BoundsRules.{isPointer, objectLength, ownRows}

@@ -163,7 +163,7 @@ pub record Point : Type 0 where
   pub steps : ℕ
   pub status : Status
 
--- What a statement of kinds 1 to 10 leaves, where no check fails.
+-- What a statement of kinds 1 to 10 and 14 leaves, where no check fails.
 pub record Memory : Type 0 where
   pub cells : List ℕ
   pub values : List ℕ

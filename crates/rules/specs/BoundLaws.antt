@@ -3,7 +3,6 @@ use Prim.Native.Nat.{ℕ, _<_, _≤_}
 use mathlib.Core.Path.{_≡_, sym, _∙_}
 use native.Mathlib.Omega.{arith}
 use lib.ListN.{List·getD-eq-default, getD}
-use mathlib.Core.List.{List}
 use Rattle.arrays.specs.Tabulate.{tabulate}
 use Rattle.arrays.specs.TabulateLaws.{getD-tabulate, length-tabulate}
 

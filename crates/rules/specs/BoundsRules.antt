@@ -54,7 +54,7 @@ sized s b = record { size = s; lower = b .lower; upper = b .upper }
 
 -- The bounds that a number stands for. Point 10: "the s of the pointer it bounds", of a row the pointer of the kind 14.
 unfoldable pub rowBound : Environment → ℕ → ℕ → Bounds
-rowBound E zero p = getD (E .declared) p nothingKnown
+rowBound E zero p = declared E p
 rowBound E (suc r) p = sized (elementSize E p) (getD (E .rows) r nothingKnown)
 
 -- The environment in force: what each pointer declares is the bound of its row.
@@ -87,11 +87,11 @@ rowsAfter (Declare p r) R = set R p (r + 1)
 abbrev pub objectLength : Environment → ℕ → ℕ
 objectLength E o = getD (E .lengths) o 0
 
--- Point 7: "For every pointer into such an object the upper end must be at most high - 1": the upper limit of an object of n cells, or with the end n.
+-- Point 7: "For every pointer into such an object the upper end must be at most high - 1": the upper limit of an object that ends at n.
 unfoldable pub upperLimit : Bool → ℕ → ℕ
 upperLimit terminated n = cond terminated (n - 1) n
 
--- The upper limit of an object, counted from its address.
+-- The same counted from the object's address, so that its end is its length.
 abbrev pub objectSpan : Environment → ℕ → ℕ
 objectSpan E o = getD (E .spans) o 0
 
@@ -160,7 +160,7 @@ module _ (S : FactSets) where
   effect E f (Literal x k) = Forget x
   effect E f (AddConstant x y k) = cond (inRange S f y k && eqb x y) (Shift x k) (Forget x)
   effect E f (Arithmetic x y z op) = Forget x
-  -- "kind 4 leaves p's own": nothing new is put in their place.
+  -- "kind 4 leaves p's own": nothing new is put in their place, and the ends that name p are unknown as after any assignment.
   effect E f (Null p) = Forget p
   effect E f (Address p o) = Object p (elementSize E p) (objectSpan E o)
   effect E f (PointerOffset p q k) = cond (eqb p q) (Shift p k) (Copy p q)

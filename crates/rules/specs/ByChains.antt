@@ -1,5 +1,5 @@
 -- The verdict in the paper's own words. What is known is told by the operations that were done (a history), and each question is answered by a decider of
--- the paper's sentence about chains. Nothing here speaks of sums or rows.
+-- the paper's sentence about chains. Nothing here speaks of how the code stores facts.
 use Prim.Native.Nat.{ℕ, _+_, _-_, _*_}
 use mathlib.Core.Path.{_≡_}
 use mathlib.Core.Logic.{_↔_}

@@ -27,7 +27,8 @@ module _ (S : FactSets) where
   positive f x = added f zeroVar x (bias - 1)
 
   -- Point 4: "When x != y or x != literal holds, of integers or of pointers, and x <= y is shown there (at a while, after the drop), x <= y - 1 is now a fact,
-  -- and the same from the other side": x != y + k, where `below` tells whether x <= y + k is shown, and `above` whether y + k <= x is.
+  -- and the same from the other side": x != y + k, where `below` tells whether x <= y + k is shown, and `above` whether y + k <= x is. So x != 0 gives x >= 1,
+  -- since 0 <= x is always known.
   unfoldable pub differs : Bool → Bool → Facts → ℕ → ℕ → ℕ → Facts
   differs below above f x y k =
       let lower = cond below (added f x y (bias + k - 1)) f in

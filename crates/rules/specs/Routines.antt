@@ -17,7 +17,8 @@ use Rattle.table.specs.Variables.{endWordsAt, variableWordsAt, endRight, endZer
 use Rattle.table.specs.Variables.{variableOf, variableAt, objectAt, rowWordsAt, rowOf, rowAt, isSize, sizeOf, objectCells}
 use Rattle.table.specs.Form.{lengthRight, isNumber, sectionsOf, directoryRight, objectRight, variableReads, statementReads, lowestFrom}
 use Rattle.table.specs.Form.{lowestObject, lowestVariable, lowestStatement, itemsForm, formOf, fourPairs, fourthRight, rowReads, lowestRow}
-use Rattle.blocks.specs.Layout.{also, when, contents, bundleLayout, blockLayout, layout, verdict}
+use Rattle.blocks.specs.Layout.{also, when, contents, bundleLayout, blockLayout, layout}
+use Rattle.blocks.specs.Parts.{verdict}
 use Rattle.blocks.specs.Shape.{size}
 use Rattle.blocks.specs.Tree.{targetsFrom, simples, parse, tree, targets, assigned}
 use Rattle.rules.specs.BoundsRules.{forgetEnd, forgetBounds, objectBounds, rowBound, rowsAfter, weight, upperLimit}

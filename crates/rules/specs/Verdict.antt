@@ -46,6 +46,7 @@ abbrev pub rowBounds : RowRead → Bounds
 rowBounds (row.Read l u) = record { size = 1; lower = Known l; upper = Known u }
 rowBounds row.Unread = nothingKnown
 
+-- One entry for each number of a variable, and for 16, which stands for zero, where it may be asked about.
 unfoldable pub environmentOf : List ℤ → Sections → Environment
 environmentOf T h =
     record {
@@ -71,7 +72,7 @@ module _ (S : FactSets) where
   formFaults T (form.Refused r) = r ∷ []
   formFaults T (form.WellFormed h) = sectionFaults T h
 
-  -- All faults of a table in the order of the paper; the first is the verdict, and a table with none is accepted.
+  -- The faults of a table in the order of the paper, of causes 1 to 5 the first alone. The first is the verdict; a table with none is accepted.
   unfoldable pub faults : List ℤ → List Refusal
   faults T = formFaults T (formOf T)
 

@@ -1,6 +1,6 @@
 -- Sums of chains, each kept as the natural number that is `bias` more.
 use Prim.Native.Nat.{ℕ, _+_, _-_, _^_}
-use mathlib.Core.Bool.{Bool, true, false, cond}
+use mathlib.Core.Bool.{cond}
 use lib.Dec.{leb}
 use Rattle.sums.specs.Numbers.{bias, maxValue}
 

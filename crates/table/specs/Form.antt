@@ -49,7 +49,8 @@ sectionsOf table =
 unfoldable pub fourthRight : List ℤ → Sections → Bool
 fourthRight table h = eqb (h .start) 6 || isNumber (rowsStart h) (word table 6) && isNumber (6 * h .rows) (word table 7)
 
--- Cause 2: "The first offset is 6, each next one is the previous offset plus its length, and the last section ends the table."
+-- Cause 2: "The first offset is 6", or 8 with a fourth pair (`startRight`), "each next one is the previous offset plus its length, and the last section
+-- ends the table."
 unfoldable pub directoryRight : List ℤ → Sections → Bool
 directoryRight table h =
     inLimits h && (

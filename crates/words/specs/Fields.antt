@@ -1,6 +1,6 @@
 -- What the word of one field is, and what it may be (document 01, "The routine table").
 use Prim.Native.Nat.{ℕ, _+_, _-_, _%_, _^_}
-use mathlib.Core.Bool.{Bool, true, false, _&&_, cond}
+use mathlib.Core.Bool.{Bool, _&&_, cond}
 use lib.Dec.{leb, ltb, eqb}
 use Rattle.sums.specs.Numbers.{bias, zeroVar}
 
@@ -12,7 +12,7 @@ plain w = w - bias
 unfoldable pub indexOf : ℕ → ℕ
 indexOf w = cond (eqb w (bias - 1)) zeroVar (plain w)
 
--- An unused field is 0.
+-- A field that is 0, as unused ones are.
 abbrev pub isZero : ℕ → Bool
 isZero w = eqb w bias
 

@@ -20,7 +20,7 @@ startRight h = eqb (h .start) 6 && eqb (h .rows) 0 || eqb (h .start) 8 && leb (h
 unfoldable pub inLimits : Sections → Bool
 inLimits h = leb (h .objects) 16 && leb 1 (h .variables) && leb (h .variables) 16 && leb (h .statements) 1024 && startRight h
 
--- The same as facts.
+-- What follows from it, as facts about the numbers.
 pub record Limits (h : Sections) : Type 0 where
   pub objects : h .objects ≤ 16
   pub some : 1 ≤ h .variables

@@ -7,6 +7,8 @@
 #![allow(unsafe_code)]
 
 extern "C" {
+    fn mizzengrape_version() -> u32;
+
     fn mizzengrape_check(table: *const i32, table_len: usize, answer: *mut u32, answer_len: usize) -> bool;
 
     fn mizzengrape_run(
@@ -24,6 +26,12 @@ extern "C" {
         answer: *mut u32,
         answer_len: usize,
     ) -> bool;
+}
+
+/// The version of the linked library as one number.
+pub fn version_number() -> u32 {
+    // SAFETY: it takes nothing.
+    unsafe { mizzengrape_version() }
 }
 
 /// The answer words of a check.

@@ -71,6 +71,12 @@ fn check_of(number: u32) -> Check {
     }
 }
 
+/// The version of the linked library: major, minor, patch.
+pub fn version() -> [u32; 3] {
+    let number = extern_c::version_number();
+    [number / 10_000, number / 100 % 100, number % 100]
+}
+
 /// Checks a routine table.
 pub fn check(table: &[i32]) -> Verdict {
     match extern_c::check_words(table) {

@@ -1,7 +1,7 @@
 use mathlib.Core.Path.{ap, _∙_}
 use native.Mathlib.Omega.{arith}
 use borrow.Author.Needs.{needs}
-use Rattle.blocks.specs.Layout.{verdict}
+use Rattle.blocks.specs.Parts.{verdict}
 use Rattle.blocks.specs.LayoutLaws.{bundle-zero, bundle-great, bundle-past, bundle-held}
 use Rattle.blocks.proofs.lay_bundle.Statement.{statement}
 use Rattle.blocks.proofs.lay_bundle.Tie as tie

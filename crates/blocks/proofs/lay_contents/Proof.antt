@@ -4,7 +4,8 @@ use native.Mathlib.Omega.{arith}
 use borrow.Author.Needs.{needs}
 use Rattle.statements.specs.declared.StatementRead.the-variants.{Read}
 use Rattle.statements.specs.StatementLaws.{read-within}
-use Rattle.blocks.specs.Layout.{contents, verdict}
+use Rattle.blocks.specs.Layout.{contents}
+use Rattle.blocks.specs.Parts.{verdict}
 use Rattle.blocks.specs.LayoutLaws.{laid-out, contents-none, contents-unread, contents-plain, contents-other}
 use Rattle.blocks.proofs.Variants.{not-plain}
 use Rattle.blocks.proofs.lay_contents.Statement.{statement}

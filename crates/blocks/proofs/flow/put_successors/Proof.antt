@@ -1,6 +1,6 @@
 use mathlib.Core.Path.{refl}
 use borrow.Author.Needs.{needs}
-use Rattle.blocks.specs.Flow.{put}
+use Rattle.blocks.specs.Written.{put}
 use Rattle.blocks.proofs.flow.put_successors.Statement.{statement}
 use Rattle.blocks.proofs.flow.put_successors.Tie as tie
 
