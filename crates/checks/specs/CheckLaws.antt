@@ -3,6 +3,8 @@ use Prim.Native.Nat.{ℕ, zero, suc, _+_, _*_, _<_}
 use mathlib.Core.Path.{_≡_, refl}
 use mathlib.Core.Bool.{Bool, true, false, not, _||_, cond, _&&_}
 use mathlib.Core.List.{List}
+use native.Mathlib.Omega.{arith}
+use borrow.Author.Tests.{lt-leb, le-ltb, ne-eqb}
 use lib.Dec.{leb, ltb, eqb}
 use Rattle.sums.specs.Numbers.{bias, maxValue}
 use Rattle.arrays.specs.TabulateLaws.{getD-tabulate}
@@ -60,6 +62,26 @@ module _ (at next : ℕ) where
       (access-picked (eqb (value vs p) 0)
       (ltb a (endValue vs (sizeIn W p) (endIn W (6 * p))) || beyond (stringIn W p) (endValue vs (sizeIn W p) (endIn W (6 * p + 3))) a)
       (eqb a (endValue vs (sizeIn W p) (endIn W (6 * p + 3))) && not (eqb x 0)))
+
+  -- Below the upper end neither the kind nor what is stored matters.
+  pub below-step : (W vs : List ℕ) (p a x : ℕ) → p < 16 → a < endValue vs (sizeIn W p) (endIn W (6 * p + 3)) →
+      cond (eqb (value vs p) 0) (Stop (NullAccess at))
+      (cond (ltb a (endValue vs (sizeIn W p) (endIn W (6 * p)))) (Stop (OutOfBounds at)) (Go next))
+      ≡ stepUnless (storeFailing (declaredIn W) vs p a x) at next
+  below-step W vs p a x few below =
+      rw (
+        not-beyond (stringIn W p) _ a below,
+        ne-eqb a (endValue vs (sizeIn W p) (endIn W (6 * p + 3))) (λ e. omega (arith, below, e)),
+        or-false (ltb a (endValue vs (sizeIn W p) (endIn W (6 * p)))),
+      ) at (access-step W vs p a x few)
+    where
+      not-beyond : (s : Bool) (u b : ℕ) → b < u → beyond s u b ≡ false
+      not-beyond true u b l = le-ltb u b (omega (arith, l))
+      not-beyond false u b l = lt-leb u b l
+
+      or-false : (b : Bool) → (b || false) ≡ b
+      or-false true = refl
+      or-false false = refl
 
 -- The element size of a pointer, as the slice has it.
 pub size-in : (W : List ℕ) (p : ℕ) → p < 16 → elementSize (declaredIn W) p ≡ sizeIn W p

@@ -111,7 +111,8 @@ fn access_step(null: bool, outside: bool, spoils: bool, at: usize, next: usize) 
     Step::Go(next)
 }
 
-// Check 2, then 3, then 6: a store of `stored` through `pointer` to an address that has the bias.
+// Check 2, then 3, then 6: a store of `stored` through `pointer` to an address that has the bias. Below the upper end neither the pointer's kind nor what is
+// stored matters, so that most accesses ask for neither.
 pub fn check_store(
     ends: &[u64],
     values: &[u32],
@@ -128,6 +129,9 @@ pub fn check_store(
     let size = size_in(ends, pointer);
     let lower = end_value(ends, values, size, 6 * pointer);
     let upper = end_value(ends, values, size, 6 * pointer + 3);
+    if address < upper {
+        return access_step(null, address < lower, false, at, next);
+    }
     let outside = (address < lower) | beyond(string_in(ends, pointer), upper, address);
     let spoils = (address == upper) & (stored != 0);
     access_step(null, outside, spoils, at, next)
