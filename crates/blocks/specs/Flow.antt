@@ -20,7 +20,7 @@ unfoldable pub entry : Block → ℕ → ℕ
 entry nil after = after
 entry (plain a s r) after = a
 entry (branch a c t e r) after = a
-entry (loop a c n t r) after = a
+entry (loop a c t r) after = a
 entry (bundle a ss r) after = a
 entry (unread a) after = a
 
@@ -44,7 +44,7 @@ flow (plain a s r) after = successors a (entry r after) (entry r after) ∷ flow
 flow (branch a c t e r) after =
     successors a (entry t (entry r after)) (entry e (entry r after))
     ∷ (flow t (entry r after) ++ (flow e (entry r after) ++ flow r after))
-flow (loop a c n t r) after = successors a (entry t a) (entry r after) ∷ (flow t a ++ flow r after)
+flow (loop a c t r) after = successors a (entry t a) (entry r after) ∷ (flow t a ++ flow r after)
 flow (bundle a ss r) after =
     successors a (lead (a + 1) (length ss) (entry r after)) (lead (a + 1) (length ss) (entry r after))
     ∷ (line (a + 1) (length ss) (entry r after) ++ flow r after)

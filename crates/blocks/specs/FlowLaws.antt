@@ -130,11 +130,11 @@ module _ (r : Block) (a after : ℕ) (w : List ℕ) where
       rw (e₃, e₂, e₁, k, j, i)
       (written-append (flow t (entry r after)) _ _ ∙ written-append (flow e (entry r after)) (flow r after) _)
 
-  loop-written : (c : Condition) (n : ℕ) (t : Block) (x y : ℕ) (w₁ w₂ : List ℕ) → x ≡ entry t a → y ≡ entry r after
+  loop-written : (c : Condition) (t : Block) (x y : ℕ) (w₁ w₂ : List ℕ) → x ≡ entry t a → y ≡ entry r after
       → w₁ ≡ put w (successors a x y) → w₂ ≡ written (flow t a) w₁
-      → written (flow (loop a c n t r) after) w ≡ written (flow r after) w₂
+      → written (flow (loop a c t r) after) w ≡ written (flow r after) w₂
   unfolding flow written
-  loop-written c n t x y w₁ w₂ i j e₁ e₂ = rw (e₂, e₁, i, j) (written-append (flow t a) (flow r after) _)
+  loop-written c t x y w₁ w₂ i j e₁ e₂ = rw (e₂, e₁, i, j) (written-append (flow t a) (flow r after) _)
 
   bundle-written : (ss : List Simple) (k q x : ℕ) (w₁ w₂ : List ℕ) → k ≡ length ss → q ≡ entry r after → x ≡ lead (a + 1) k q
       → w₁ ≡ put w (successors a x x) → w₂ ≡ written (line (a + 1) k q) w₁
@@ -229,7 +229,7 @@ module _ {T : List ℤ} {h : Sections} {end allowed after : ℕ} {v : List ℕ} 
       → w₁ ≡ put w (successors at x y) → w₂ ≡ written (flow (parse (left - 1) T h (at + 1) (at + 1 + k)) at) w₁
       → Kept T h end allowed after v n (at + 1 + k) (left - 1) w₂
   link-while {c} {k} {x} {y} {w₁} {w₂} u i j e₁ e₂ = record {
-    same = here (While c k) u ∙ loop-written _ at after w c k _ x y w₁ w₂ (begins _ T h _ _ i) (begins _ T h _ _ j) e₁ e₂;
+    same = here (While c k) u ∙ loop-written _ at after w c _ x y w₁ w₂ (begins _ T h _ _ i) (begins _ T h _ _ j) e₁ e₂;
     less = fewer u;
     long = ap length e₂ ∙ (length-written _ w₁ ∙ (ap length e₁ ∙ (length-put w _ ∙ u .so-far .long)));
   }

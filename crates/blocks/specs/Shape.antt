@@ -18,7 +18,7 @@ unfoldable pub size : Block → ℕ
 size nil = 0
 size (plain a s r) = 1 + size r
 size (branch a c t e r) = 1 + size t + size e + size r
-size (loop a c n t r) = 1 + size t + size r
+size (loop a c t r) = 1 + size t + size r
 size (bundle a ss r) = 1 + length ss + size r
 size (unread a) = 0
 
@@ -27,16 +27,16 @@ abbrev pub Numbered : Block → ℕ → Type 0
 Numbered nil lo = Unit
 Numbered (plain a s r) lo = (a ≡ lo) × Numbered r (a + 1)
 Numbered (branch a c t e r) lo = (a ≡ lo) × Numbered t (a + 1) × Numbered e (a + 1 + size t) × Numbered r (a + 1 + size t + size e)
-Numbered (loop a c n t r) lo = (a ≡ lo) × Numbered t (a + 1) × Numbered r (a + 1 + size t)
+Numbered (loop a c t r) lo = (a ≡ lo) × Numbered t (a + 1) × Numbered r (a + 1 + size t)
 Numbered (bundle a ss r) lo = (a ≡ lo) × Numbered r (a + 1 + length ss)
 Numbered (unread a) lo = ⊥
 
--- Every record reads, no statement is deeper than the limit, a loop holds its body's count, and a bundle has 1 to 16 statements.
+-- Every record reads, no statement is deeper than the limit, and a bundle has 1 to 16 statements.
 abbrev pub Formed : ℕ → Block → Type 0
 Formed d nil = Unit
 Formed d (plain a s r) = (d ≤ maxDepth) × Formed d r
 Formed d (branch a c t e r) = (d ≤ maxDepth) × Formed (d + 1) t × Formed (d + 1) e × Formed d r
-Formed d (loop a c n t r) = (d ≤ maxDepth) × (size t ≡ n) × Formed (d + 1) t × Formed d r
+Formed d (loop a c t r) = (d ≤ maxDepth) × Formed (d + 1) t × Formed d r
 Formed d (bundle a ss r) = (d ≤ maxDepth) × (1 ≤ length ss) × (length ss ≤ maxBundle) × Formed d r
 Formed d (unread a) = ⊥
 
@@ -49,7 +49,7 @@ abbrev pub Reads : List ℤ → Sections → Block → Type 0
 Reads T h nil = Unit
 Reads T h (plain a s r) = (statementAt T h a ≡ Read (Plain s)) × Reads T h r
 Reads T h (branch a c t e r) = (statementAt T h a ≡ Read (If c (size t) (size e))) × Reads T h t × Reads T h e × Reads T h r
-Reads T h (loop a c n t r) = (statementAt T h a ≡ Read (While c (size t))) × Reads T h t × Reads T h r
+Reads T h (loop a c t r) = (statementAt T h a ≡ Read (While c (size t))) × Reads T h t × Reads T h r
 Reads T h (bundle a ss r) = (statementAt T h a ≡ Read (Bundle (length ss))) × ReadsLine T h (a + 1) ss × Reads T h r
 Reads T h (unread a) = ⊥
 
@@ -71,7 +71,7 @@ Right f (plain a s r) after = (f a ≡ successors a (entry r after) (entry r aft
 Right f (branch a c t e r) after =
     (f a ≡ successors a (entry t (entry r after)) (entry e (entry r after)))
     × Right f t (entry r after) × Right f e (entry r after) × Right f r after
-Right f (loop a c n t r) after = (f a ≡ successors a (entry t a) (entry r after)) × Right f t a × Right f r after
+Right f (loop a c t r) after = (f a ≡ successors a (entry t a) (entry r after)) × Right f t a × Right f r after
 Right f (bundle a ss r) after =
     (f a ≡ successors a (lead (a + 1) (length ss) (entry r after)) (lead (a + 1) (length ss) (entry r after)))
     × RightLine f (a + 1) ss (entry r after) × Right f r after

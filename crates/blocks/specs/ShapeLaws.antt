@@ -1,8 +1,8 @@
 -- A table whose layout has no refusal is a tree with every statement in its place.
 use Prim.Native.Nat.{ℕ, zero, suc, _+_, _<_, _≤_}
-use mathlib.Core.Path.{_≡_, refl, sym, _∙_, ap, ap₂}
+use mathlib.Core.Path.{_≡_, refl, ap}
 use mathlib.Core.Bool.{Bool, true, false}
-use mathlib.Core.List.{List, [], _∷_, _++_, append-assoc}
+use mathlib.Core.List.{List, []}
 use native.Mathlib.Omega.{arith}
 use borrow.Author.Tests.{ltb-true, ltb-false}
 use lib.IntN.{ℤ}
@@ -15,11 +15,10 @@ use Rattle.statements.specs.declared.Statement.the-variants.{Plain, If, While, 
 use Rattle.statements.specs.declared.StatementRead.{StatementRead}
 use Rattle.statements.specs.declared.StatementRead.the-variants.{Read, Unread}
 use Rattle.statements.specs.Statements.{statementAt}
-use Rattle.blocks.specs.Tree.{Block, nil, plain, branch, loop, bundle, unread, simples, simplesFrom, node, parse, tree, target, targets, assigned}
+use Rattle.blocks.specs.Tree.{simples, simplesFrom, node, parse, tree}
 use Rattle.blocks.specs.Layout.{maxDepth, contents, contentsFrom, kindLayout, nodeLayout, blockLayout, layout}
 use Rattle.blocks.specs.LayoutLaws.{no-first, no-rest, passed, bundle-within, bundle-counted, bundle-contents}
-use Rattle.blocks.specs.Shape.{size, Numbered, ReadsLine, Reads, Laid}
-use Rattle.blocks.specs.Tree.{targetOf, targetsFrom}
+use Rattle.blocks.specs.Shape.{size, ReadsLine, Laid}
 
 -- The contents of a bundle that are not refused are its list, none missing.
 pub record Held (T : List ℤ) (h : Sections) (n x : ℕ) (ss : List Simple) : Type 0 where
@@ -74,7 +73,7 @@ module _ (l : ℕ) (T : List ℤ) (h : Sections)
       record {
         ends = omega (arith, k .ends);
         numbered = rw x (refl, i .numbered, k .numbered);
-        formed = (w, x, i .formed, k .formed);
+        formed = (w, i .formed, k .formed);
         reads = rw x (r, i .reads, k .reads);
       }
   kind-laid d a b (Bundle n) p q r w e =
@@ -109,57 +108,3 @@ laid (suc l) T h d a b p q e = node-laid l T h (λ d a b p q e. laid l T h d a b
 pub table-laid : (T : List ℤ) (h : Sections) → layout T h ≡ [] → Laid T h 0 0 (h .statements) (tree T h)
 unfolding layout tree
 table-laid T h e = laid (h .statements) T h 0 0 (h .statements) (omega arith) (omega arith) e
-
--- What a block assigns is what its statements assign, record by record.
-
-targets-more : (T : List ℤ) (h : Sections) (a n m k b : ℕ) → k ≡ n + m → b ≡ a + n
-    → targetsFrom T h a k ≡ targetsFrom T h a n ++ targetsFrom T h b m
-unfolding targetsFrom
-targets-more T h a zero m k b e q =
-    let x : k ≡ m = omega arith in
-    let y : b ≡ a = omega arith in
-    rw (x, y)
-targets-more T h a (suc n) m zero b e q = absurd (omega arith)
-targets-more T h a (suc n) m (suc k) b e q =
-    ap (λ (l : List ℕ). targetOf (statementAt T h a) ++ l) (targets-more T h (a + 1) n m k b (omega arith) (omega arith))
-    ∙ sym (append-assoc (targetOf (statementAt T h a)) (targetsFrom T h (a + 1) n) (targetsFrom T h b m))
-
-targets-head : (T : List ℤ) (h : Sections) (a n k : ℕ) (s : StatementRead) → k ≡ 1 + n → statementAt T h a ≡ s
-    → targetOf s ++ targetsFrom T h (a + 1) n ≡ targetsFrom T h a k
-unfolding targetsFrom
-targets-head T h a n zero s e r = absurd (omega arith)
-targets-head T h a n (suc k) s e r = let x : k ≡ n = omega arith in rw (x, r)
-
-targets-line : (T : List ℤ) (h : Sections) (a : ℕ) (ss : List Simple) → ReadsLine T h a ss → targets ss ≡ targetsFrom T h a (length ss)
-unfolding targets targetsFrom
-targets-line T h a [] r = refl
-targets-line T h a (s ∷ ss) r = ap₂ _++_ (ap targetOf (sym (r .0))) (targets-line T h (a + 1) ss (r .1))
-
-pub assigned-targets : (T : List ℤ) (h : Sections) (t : Block) (a : ℕ) → Numbered t a → Reads T h t → assigned t ≡ targetsFrom T h a (size t)
-unfolding assigned size targetsFrom
-assigned-targets T h nil a n r = refl
-assigned-targets T h (plain k s t) a n r =
-    ap (λ (l : List ℕ). target s ++ l) (assigned-targets T h t (k + 1) (n .1) (r .1))
-    ∙ (targets-head T h k (size t) (1 + size t) _ refl (r .0) ∙ ap (λ (x : ℕ). targetsFrom T h x (1 + size t)) (n .0))
-assigned-targets T h (branch k c t e u) a n r =
-    ap₂ _++_ (assigned-targets T h t (k + 1) (n .1) (r .1))
-    (ap₂ _++_ (assigned-targets T h e (k + 1 + size t) (n .2) (r .2)) (assigned-targets T h u (k + 1 + size t + size e) (n .3) (r .3))
-    ∙ sym (targets-more T h (k + 1 + size t) (size e) (size u) (size e + size u) (k + 1 + size t + size e) refl refl))
-    ∙ (sym (targets-more T h (k + 1) (size t) (size e + size u) (size t + size e + size u) (k + 1 + size t) (omega arith) refl)
-    ∙ (targets-head T h k (size t + size e + size u) (1 + size t + size e + size u) _ (omega arith) (r .0)
-    ∙ ap (λ (x : ℕ). targetsFrom T h x (1 + size t + size e + size u)) (n .0)))
-assigned-targets T h (loop k c m t u) a n r =
-    ap₂ _++_ (assigned-targets T h t (k + 1) (n .1) (r .1)) (assigned-targets T h u (k + 1 + size t) (n .2) (r .2))
-    ∙ (sym (targets-more T h (k + 1) (size t) (size u) (size t + size u) (k + 1 + size t) refl refl)
-    ∙ (targets-head T h k (size t + size u) (1 + size t + size u) _ (omega arith) (r .0) ∙ ap (λ (x : ℕ). targetsFrom T h x (1 + size t + size u)) (n .0)))
-assigned-targets T h (bundle k ss u) a n r =
-    ap₂ _++_ (targets-line T h (k + 1) ss (r .1)) (assigned-targets T h u (k + 1 + length ss) (n .1) (r .2))
-    ∙ (sym (targets-more T h (k + 1) (length ss) (size u) (length ss + size u) (k + 1 + length ss) refl refl)
-    ∙ (targets-head T h k (length ss + size u) (1 + length ss + size u) _ (omega arith) (r .0)
-    ∙ ap (λ (x : ℕ). targetsFrom T h x (1 + length ss + size u)) (n .0)))
-assigned-targets T h (unread k) a n r = refl
-
--- The body of a while: what it assigns is what the n statements after the while assign.
-pub body-targets : (T : List ℤ) (h : Sections) (t : Block) (a n : ℕ) → Numbered t (a + 1) → Reads T h t → size t ≡ n
-    → assigned t ≡ targetsFrom T h (a + 1) n
-body-targets T h t a n p r e = assigned-targets T h t (a + 1) p r ∙ ap (targetsFrom T h (a + 1)) e

@@ -29,7 +29,7 @@ length-flow nil after = refl
 length-flow (plain a s r) after = omega (arith, length-flow r after)
 length-flow (branch a c t e r) after =
     simp length-append (omega (arith, length-flow t (entry r after), length-flow e (entry r after), length-flow r after))
-length-flow (loop a c n t r) after = simp length-append (omega (arith, length-flow t a, length-flow r after))
+length-flow (loop a c t r) after = simp length-append (omega (arith, length-flow t a, length-flow r after))
 length-flow (bundle a ss r) after =
     simp length-append (omega (arith, length-line (a + 1) (length ss) (entry r after), length-flow r after))
 length-flow (unread a) after = refl
@@ -55,7 +55,7 @@ right f (branch a c t e r) lo after n h =
       right f e (a + 1 + size t) k (n .2) (along-left f (a + 1 + size t) (flow e k) _ u),
       right f r (a + 1 + size t + size e) after (n .3) (along-right f (a + 1 + size t) _ (flow e k) (flow r after) (omega (arith, length-flow e k)) u),
     )
-right f (loop a c m t r) lo after n h =
+right f (loop a c t r) lo after n h =
     let g = rw (sym (n .0)) at h in (
       g .0,
       right f t (a + 1) a (n .1) (along-left f (a + 1) (flow t a) _ (g .1)),
@@ -86,7 +86,7 @@ unfolding entry size
 small-entry nil lo after m n p q = q
 small-entry (plain a s r) lo after m n p q = omega (arith, n .0)
 small-entry (branch a c t e r) lo after m n p q = omega (arith, n .0)
-small-entry (loop a c k t r) lo after m n p q = omega (arith, n .0)
+small-entry (loop a c t r) lo after m n p q = omega (arith, n .0)
 small-entry (bundle a ss r) lo after m n p q = omega (arith, n .0)
 small-entry (unread a) lo after m n p q = absurd n
 
@@ -118,7 +118,7 @@ bounded-flow (branch a c t e r) lo after m n p q =
           (bounded-append m (flow e (entry r after)) (flow r after) (bounded-flow e (a + 1 + size t) (entry r after) m (n .2) (omega arith) u)
           (bounded-flow r (a + 1 + size t + size e) after m (n .3) (omega arith) q)),
     )
-bounded-flow (loop a c k t r) lo after m n p q =
+bounded-flow (loop a c t r) lo after m n p q =
     let g = n .0 in (
       small-entry t (a + 1) a m (n .1) (omega arith) (omega arith),
       small-entry r (a + 1 + size t) after m (n .2) (omega arith) q,
@@ -158,7 +158,7 @@ consecutive-flow (branch a c t e r) lo after n =
           (consecutive-append (a + 1 + size t) (a + 1 + size t + size e) (flow e k) _ (omega (arith, length-flow e k))
           (consecutive-flow e (a + 1 + size t) k (n .2)) (consecutive-flow r (a + 1 + size t + size e) after (n .3))),
     )
-consecutive-flow (loop a c m t r) lo after n =
+consecutive-flow (loop a c t r) lo after n =
     rw (sym (n .0)) (
       refl,
       consecutive-append (a + 1) (a + 1 + size t) (flow t a) _ (omega (arith, length-flow t a)) (consecutive-flow t (a + 1) a (n .1))

@@ -15,12 +15,12 @@ use Rattle.statements.specs.declared.StatementRead.the-variants.{Read, Unread}
 use Rattle.statements.specs.Statements.{statementAt}
 
 -- A block is its first statement, with that statement's own number and blocks, and the rest of the block.
--- A loop also holds the count of its body. A record that does not read ends the tree.
+-- A record that does not read ends the tree.
 pub data Block : Type 0 where
   nil : Block
   plain : ℕ → Simple → Block → Block
   branch : ℕ → Condition → Block → Block → Block → Block
-  loop : ℕ → Condition → ℕ → Block → Block → Block
+  loop : ℕ → Condition → Block → Block → Block
   bundle : ℕ → List Simple → Block → Block
   unread : ℕ → Block
 
@@ -44,7 +44,7 @@ node true Unread rec T h a b = unread a
 node true (Read (Plain s)) rec T h a b = plain a s (rec (a + 1) b)
 node true (Read (If c n m)) rec T h a b =
     branch a c (rec (a + 1) (a + 1 + n)) (rec (a + 1 + n) (a + 1 + n + m)) (rec (a + 1 + n + m) b)
-node true (Read (While c n)) rec T h a b = loop a c n (rec (a + 1) (a + 1 + n)) (rec (a + 1 + n) b)
+node true (Read (While c n)) rec T h a b = loop a c (rec (a + 1) (a + 1 + n)) (rec (a + 1 + n) b)
 node true (Read (Bundle n)) rec T h a b = bundle a (simples n T h (a + 1)) (rec (a + 1 + n) b)
 
 -- The fuel is the number of statements left; it falls at each statement.
@@ -56,7 +56,7 @@ parse (suc f) T h a b = node (ltb a b) (statementAt T h a) (λ x y. parse f T h 
 unfoldable pub tree : List ℤ → Sections → Block
 tree T h = parse (h .statements) T h 0 (h .statements)
 
--- "variables assigned in the body": the targets of kinds 1 to 8.
+-- "variables assigned in the body" (document 01, "Facts"): the targets of kinds 1 to 8.
 abbrev pub target : Simple → List ℕ
 target (Literal x k) = x ∷ []
 target (AddConstant x y k) = x ∷ []
@@ -80,19 +80,6 @@ unfoldable pub assigned : Block → List ℕ
 assigned nil = []
 assigned (plain a s r) = target s ++ assigned r
 assigned (branch a c t e r) = assigned t ++ (assigned e ++ assigned r)
-assigned (loop a c n t r) = assigned t ++ assigned r
+assigned (loop a c t r) = assigned t ++ assigned r
 assigned (bundle a ss r) = targets ss ++ assigned r
 assigned (unread a) = []
-
--- ---- "variables assigned in the body" (document 01, "Facts"): the targets of a part of the table
-abbrev pub targetOf : StatementRead → List ℕ
-targetOf Unread = []
-targetOf (Read (Plain s)) = target s
-targetOf (Read (If c n m)) = []
-targetOf (Read (While c n)) = []
-targetOf (Read (Bundle n)) = []
-
--- Those of the n statements from a on, at any nesting and in bundles.
-unfoldable pub targetsFrom : List ℤ → Sections → ℕ → ℕ → List ℕ
-targetsFrom T h a zero = []
-targetsFrom T h a (suc n) = targetOf (statementAt T h a) ++ targetsFrom T h (a + 1) n

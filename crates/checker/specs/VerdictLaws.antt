@@ -24,7 +24,9 @@ use Rattle.table.specs.declared.Form.{Form}
 use Rattle.table.specs.declared.Form.the-variants as form
 use Rattle.blocks.specs.Tree.{parse, tree}
 use Rattle.blocks.specs.Layout.{also, layout}
+use Rattle.blocks.specs.LayoutLaws.{none-refused}
 use Rattle.blocks.specs.Parts.{verdict}
+use Rattle.blocks.specs.ShapeLaws.{table-laid}
 use Rattle.blocks.specs.declared.Layout.{Layout}
 use Rattle.blocks.specs.declared.Layout.the-variants as layout-variant
 use Rattle.rules.specs.Stored.{blockFaults, sectionFaults, formFaults}
@@ -33,12 +35,13 @@ use Rattle.rules.specs.Ranges.{Measured}
 use Rattle.rules.specs.ByChains.{Judged}
 use Rattle.rules.specs.Decidable.{judged}
 use Rattle.rules.specs.BoundsRules.{ownRows, upperLimit}
-use Rattle.checker.specs.Walk.{Walks}
+use Rattle.checker.specs.Walk.{InPlace, Walks}
 use Rattle.rules.specs.declared.Verdict.{Verdict}
 use Rattle.rules.specs.declared.Verdict.the-variants.{Refused}
 use Rattle.bundles.specs.declared.Walked.{Walked}
 use Rattle.rules.specs.Verdict as verdictRules
 use Rattle.declared.specs.Force.{stateOf, Forced}
+use Rattle.declared.specs.ForceLaws.{pass}
 use Rattle.declared.specs.declared.force.Force.{Force}
 
 -- The spans that a well-formed table declares are in range.
@@ -83,22 +86,21 @@ unfolding verdict also verdictOf
 first-refused [] ys e = cc
 first-refused (x ∷ xs) ys e = ap Refused (cc)
 
-none-laid : (xs : List Refusal) (ys : List Refusal) → verdict xs ≡ layout-variant.LaidOut → also xs ys ≡ ys
-unfolding verdict also
-none-laid [] ys e = refl
-none-laid (x ∷ xs) ys e = cc
-
 module _ (T : List ℤ) (h : Sections) {l : Layout} (e : l ≡ verdict (layout T h)) where
   pub section-refused : {r : Refusal} → l ≡ layout-variant.Refused r → Refused r ≡ verdictOf (sectionFaults T h)
   unfolding verdictRules.sectionFaults
   section-refused p = first-refused (layout T h) _ (sym e ∙ p)
 
+  pub section-placed : l ≡ layout-variant.LaidOut → InPlace T h 0 (parse (h .statements) T h 0 (h .statements))
+  unfolding tree
+  section-placed p = let w = table-laid T h (none-refused (layout T h) l e p) in record { numbered = w .numbered; reads = w .reads }
+
   pub section-walked : {F : Force} {f : FactSet} {w : Walked} → l ≡ layout-variant.LaidOut → Forced (environmentOf T h) ownRows F → f ≡ newSet
-      → Walks T h (environmentOf T h) (parse (h .statements) T h 0 (h .statements)) (stateOf f (F .rows .each)) w → w .verdict ≡ verdictOf (sectionFaults T h)
+      → Walks (environmentOf T h) (parse (h .statements) T h 0 (h .statements)) (stateOf f (F .rows .each)) w → w .verdict ≡ verdictOf (sectionFaults T h)
   unfolding verdictRules.sectionFaults tree
   section-walked p o n w =
-      w .said ∙ ap verdictOf (ap (blockFaults T h (environmentOf T h) (parse (h .statements) T h 0 (h .statements))) (ap₂ stateOf n (o .rows))
-      ∙ sym (none-laid (layout T h) _ (sym e ∙ p)))
+      w .said ∙ ap verdictOf (ap (blockFaults (environmentOf T h) (parse (h .statements) T h 0 (h .statements))) (ap₂ stateOf n (o .rows))
+      ∙ sym (pass _ _ (none-refused (layout T h) l e p)))
 
 module _ (T : List ℤ) {f : Form} (e : f ≡ formOf T) where
   pub form-refused : {r : Refusal} → f ≡ form.Refused r → Judged T (Refused r)

@@ -5,7 +5,7 @@ use mathlib.Core.Bool.{Bool, true, false}
 use mathlib.Core.List.{List, []}
 use native.Mathlib.Omega.{arith}
 use lib.IntN.{ℤ}
-use lib.ListN.{set, getD}
+use lib.ListN.{length, set, getD}
 use Rattle.facts.specs.Store.{joined}
 use Rattle.facts.specs.declared.FactSet.{FactSet}
 use Rattle.answers.specs.declared.refusals.Refusal.{Refusal}
@@ -21,7 +21,8 @@ use Rattle.statements.specs.declared.Statement.the-variants.{Plain, If, While, 
 use Rattle.statements.specs.declared.StatementRead.the-variants.{Read, Unread}
 use Rattle.statements.specs.Statements.{statementAt}
 use Rattle.statements.specs.StatementLaws.{read-typed, read-limits, read-counts-if, read-counts-while, read-counts-bundle}
-use Rattle.blocks.specs.Tree.{Block, nil, unread, simples, node, parse, targetsFrom}
+use Rattle.blocks.specs.Tree.{Block, nil, plain, branch, loop, bundle, unread, simples, node, parse, assigned}
+use Rattle.blocks.specs.Shape.{size}
 use Rattle.blocks.specs.TreeLaws.{parse-none, parse-end, parse-some}
 use Rattle.blocks.specs.Layout.{also, when}
 use Rattle.rules.specs.FactSets.{State}
@@ -32,11 +33,13 @@ use Rattle.rules.specs.Rules.{boundsAt, sameRows, rowsAt}
 use Rattle.rules.specs.Verdict.{verdictOf}
 use Rattle.rules.specs.Ranges.{InRange}
 use Rattle.effects.specs.Applied.{Applied, applied}
+use Rattle.effects.specs.Marks.{targetsFrom}
+use Rattle.effects.specs.AssignedLaws.{assigned-targets}
 use Rattle.bounds.specs.Touched.{touches, seenAs, seenOf}
 use Rattle.bounds.specs.declared.touched.Seen.{Seen}
 use Rattle.declared.specs.UntouchedLaws.{unnamed}
 use Rattle.bundles.specs.Bundles.{WalksBundle}
-use Rattle.checker.specs.Walk.{Walks}
+use Rattle.checker.specs.Walk.{InPlace, Walks}
 use Rattle.effects.specs.FactRulesLaws.{read-ranged}
 use Rattle.rules.specs.declared.Environment.{Environment}
 use Rattle.rules.specs.declared.lookups.Rows.{Rows}
@@ -58,45 +61,47 @@ use Rattle.rules.specs.Rules as walkRules
 use Rattle.rules.specs.RuleLaws.{same-rows}
 
 -- A walk of the one block is a walk of the other.
-pub record Same (T : List ℤ) (h : Sections) (E : Environment) (b : Block) (v : State FactSet) (c : Block) (w : State FactSet) : Type 0 where
-  pub blamed : blockFaults T h E b v ≡ blockFaults T h E c w
-  pub left : blockAfter T h E b v ≡ blockAfter T h E c w
+pub record Same (E : Environment) (b : Block) (v : State FactSet) (c : Block) (w : State FactSet) : Type 0 where
+  pub blamed : blockFaults E b v ≡ blockFaults E c w
+  pub left : blockAfter E b v ≡ blockAfter E c w
 
 -- The loop's invariant: a walk of what is left, from the facts now and what is in force now, is a walk of the whole.
 pub record Kept (T : List ℤ) (h : Sections) (E : Environment) (end allowed : ℕ) (b : Block) (w₀ : State FactSet)
     (at left : ℕ) (f : FactSet) (F : Force) : Type 0 where
-  pub same : Same T h E b w₀ (parse left T h at end) (stateOf f (F .rows .each))
+  pub same : Same E b w₀ (parse left T h at end) (stateOf f (F .rows .each))
   pub forced : Forced E (F .rows .each) F
   pub less : left ≤ allowed
+  pub in-place : InPlace T h at (parse left T h at end)
 
 pub kept-none : (T : List ℤ) (h : Sections) (E : Environment) (first end allowed : ℕ) (f : FactSet) (F : Force) → Forced E (F .rows .each) F
+    → InPlace T h first (parse allowed T h first end)
     → Kept T h E end allowed (parse allowed T h first end) (stateOf f (F .rows .each)) first allowed f F
-kept-none T h E first end allowed f F o = record { same = record { blamed = refl; left = refl }; forced = o; less = omega arith }
+kept-none T h E first end allowed f F o p = record { same = record { blamed = refl; left = refl }; forced = o; less = omega arith; in-place = p }
 
-nil-passes : (T : List ℤ) (h : Sections) (E : Environment) (b : Block) (v : State FactSet) {w : Walked} → b ≡ nil → w .verdict ≡ Accepted
-    → stateOf (w .facts) (w .rows .each) ≡ v → Walks T h E b v w
+nil-passes : (E : Environment) (b : Block) (v : State FactSet) {w : Walked} → b ≡ nil → w .verdict ≡ Accepted
+    → stateOf (w .facts) (w .rows .each) ≡ v → Walks E b v w
 unfolding walkRules.blockFaults walkRules.blockAfter
-nil-passes T h E b v e p q = rw e (ends refl p q)
+nil-passes E b v e p q = rw e (ends refl p q)
 
-unread-stops : (T : List ℤ) (h : Sections) (E : Environment) (b : Block) (v : State FactSet) (a : ℕ) {w : Walked} → b ≡ unread a
-    → w .verdict ≡ Refused (StatementRecord a) → Walks T h E b v w
+unread-stops : (E : Environment) (b : Block) (v : State FactSet) (a : ℕ) {w : Walked} → b ≡ unread a
+    → w .verdict ≡ Refused (StatementRecord a) → Walks E b v w
 unfolding walkRules.blockFaults verdictOf
-unread-stops T h E b v a e p = rw e (record { said = p; kept = λ q. let o : _≡_ {A = ℕ} 0 1 = cc in absurd (omega arith) })
+unread-stops E b v a e p = rw e (record { said = p; kept = λ q. let o : _≡_ {A = ℕ} 0 1 = cc in absurd (omega arith) })
 
 module _ {T : List ℤ} {h : Sections} {E : Environment} {end allowed : ℕ} {b : Block} {w₀ : State FactSet}
     {at left : ℕ} {f : FactSet} {F : Force} (k : Kept T h E end allowed b w₀ at left f F) where
-  walks : {w : Walked} → Walks T h E (parse left T h at end) (stateOf f (F .rows .each)) w → Walks T h E b w₀ w
+  walks : {w : Walked} → Walks E (parse left T h at end) (stateOf f (F .rows .each)) w → Walks E b w₀ w
   walks p = carry (k .same .blamed) (k .same .left) p
 
-  pub kept-done : {w : Walked} → left ≤ 0 → w .verdict ≡ Accepted → w .facts ≡ f → w .rows ≡ F .rows → Walks T h E b w₀ w
-  kept-done z p q r = walks (nil-passes T h E _ _ (parse-none left T h at end z) p (ap₂ (λ (g : FactSet) (x : Rows). stateOf g (x .each)) q r))
+  pub kept-done : {w : Walked} → left ≤ 0 → w .verdict ≡ Accepted → w .facts ≡ f → w .rows ≡ F .rows → Walks E b w₀ w
+  kept-done z p q r = walks (nil-passes E _ _ (parse-none left T h at end z) p (ap₂ (λ (g : FactSet) (x : Rows). stateOf g (x .each)) q r))
 
-  pub kept-end : {w : Walked} → end ≤ at → w .verdict ≡ Accepted → w .facts ≡ f → w .rows ≡ F .rows → Walks T h E b w₀ w
-  kept-end z p q r = walks (nil-passes T h E _ _ (parse-end left T h at end z) p (ap₂ (λ (g : FactSet) (x : Rows). stateOf g (x .each)) q r))
+  pub kept-end : {w : Walked} → end ≤ at → w .verdict ≡ Accepted → w .facts ≡ f → w .rows ≡ F .rows → Walks E b w₀ w
+  kept-end z p q r = walks (nil-passes E _ _ (parse-end left T h at end z) p (ap₂ (λ (g : FactSet) (x : Rows). stateOf g (x .each)) q r))
 
   module _ (some : 0 < left) (within : at < end) where
-    pub kept-unread : {w : Walked} → statementAt T h at ≡ Unread → w .verdict ≡ Refused (StatementRecord at) → Walks T h E b w₀ w
-    kept-unread e p = walks (unread-stops T h E _ _ at (parse-some left T h at end Unread some within e) p)
+    pub kept-unread : {w : Walked} → statementAt T h at ≡ Unread → w .verdict ≡ Refused (StatementRecord at) → Walks E b w₀ w
+    kept-unread e p = walks (unread-stops E _ _ at (parse-some left T h at end Unread some within e) p)
 
 -- A turn of the loop, once its statement is read.
 pub record Turn (T : List ℤ) (h : Sections) (E : Environment) (end allowed : ℕ) (b : Block) (w₀ : State FactSet)
@@ -115,52 +120,86 @@ module _ (T : List ℤ) (h : Sections) (E : Environment) (at left end : ℕ) (w 
   at-statement s = node true (Read s) (rest T h left) T h at end
 
   abbrev after-then : Condition → ℕ → State FactSet
-  after-then c n = blockAfter T h E (rest T h left (at + 1) (at + 1 + n)) (assumed w c)
+  after-then c n = blockAfter E (rest T h left (at + 1) (at + 1 + n)) (assumed w c)
 
   abbrev after-else : Condition → ℕ → ℕ → State FactSet
-  after-else c n m = blockAfter T h E (rest T h left (at + 1 + n) (at + 1 + n + m)) (assumed w (negatedOf c))
+  after-else c n m = blockAfter E (rest T h left (at + 1 + n) (at + 1 + n + m)) (assumed w (negatedOf c))
 
   abbrev head-state : ℕ → State FactSet
-  head-state n = atHead (targetsFrom T h (at + 1) n) w
+  head-state n = atHead (assigned (rest T h left (at + 1) (at + 1 + n))) w
 
   abbrev kindFaults : Statement → List Refusal
   kindFaults (Plain s) =
       also (boundsAt at (rowUnshown E (w .facts) (declaredIn E w) s))
       (also (boundsAt at (unshownIn E (stateAfter s w) (boundsAfter (effect E (w .facts) s) (declaredIn E w))))
-      (blockFaults T h E (rest T h left (at + 1) end) (stateAfter s w)))
+      (blockFaults E (rest T h left (at + 1) end) (stateAfter s w)))
   kindFaults (If c n m) =
-      also (blockFaults T h E (rest T h left (at + 1) (at + 1 + n)) (assumed w c))
-      (also (blockFaults T h E (rest T h left (at + 1 + n) (at + 1 + n + m)) (assumed w (negatedOf c)))
+      also (blockFaults E (rest T h left (at + 1) (at + 1 + n)) (assumed w c))
+      (also (blockFaults E (rest T h left (at + 1 + n) (at + 1 + n + m)) (assumed w (negatedOf c)))
       (also (rowsAt at (after-then c n .rows) (after-else c n m .rows))
-      (blockFaults T h E (rest T h left (at + 1 + n + m) end) (sidesJoined T h E (after-then c n) (after-else c n m)))))
+      (blockFaults E (rest T h left (at + 1 + n + m) end) (sidesJoined E (after-then c n) (after-else c n m)))))
   kindFaults (While c n) =
-      also (blockFaults T h E (rest T h left (at + 1) (at + 1 + n)) (assumed (head-state n) c))
-      (also (rowsAt at (w .rows) (blockAfter T h E (rest T h left (at + 1) (at + 1 + n)) (assumed (head-state n) c) .rows))
-      (blockFaults T h E (rest T h left (at + 1 + n) end) (assumed (head-state n) (negatedOf c))))
+      also (blockFaults E (rest T h left (at + 1) (at + 1 + n)) (assumed (head-state n) c))
+      (also (rowsAt at (w .rows) (blockAfter E (rest T h left (at + 1) (at + 1 + n)) (assumed (head-state n) c) .rows))
+      (blockFaults E (rest T h left (at + 1 + n) end) (assumed (head-state n) (negatedOf c))))
   kindFaults (Bundle n) =
       also (bundleFaults E (at + 1) (simples n T h (at + 1)) w (declaredIn E w))
       (also (boundsAt at (unshownIn E (bundleAfter (simples n T h (at + 1)) w) (bundleBounds E (simples n T h (at + 1)) w (declaredIn E w))))
-      (blockFaults T h E (rest T h left (at + 1 + n) end) (bundleAfter (simples n T h (at + 1)) w)))
+      (blockFaults E (rest T h left (at + 1 + n) end) (bundleAfter (simples n T h (at + 1)) w)))
 
   abbrev kindAfter : Statement → State FactSet
-  kindAfter (Plain s) = blockAfter T h E (rest T h left (at + 1) end) (stateAfter s w)
-  kindAfter (If c n m) = blockAfter T h E (rest T h left (at + 1 + n + m) end) (sidesJoined T h E (after-then c n) (after-else c n m))
-  kindAfter (While c n) = blockAfter T h E (rest T h left (at + 1 + n) end) (assumed (head-state n) (negatedOf c))
-  kindAfter (Bundle n) = blockAfter T h E (rest T h left (at + 1 + n) end) (bundleAfter (simples n T h (at + 1)) w)
+  kindAfter (Plain s) = blockAfter E (rest T h left (at + 1) end) (stateAfter s w)
+  kindAfter (If c n m) = blockAfter E (rest T h left (at + 1 + n + m) end) (sidesJoined E (after-then c n) (after-else c n m))
+  kindAfter (While c n) = blockAfter E (rest T h left (at + 1 + n) end) (assumed (head-state n) (negatedOf c))
+  kindAfter (Bundle n) = blockAfter E (rest T h left (at + 1 + n) end) (bundleAfter (simples n T h (at + 1)) w)
 
-  faults-here : (s : Statement) → blockFaults T h E (at-statement s) w ≡ kindFaults s
+  faults-here : (s : Statement) → blockFaults E (at-statement s) w ≡ kindFaults s
   unfolding walkRules.blockFaults
   faults-here (Plain s) = refl
   faults-here (If c n m) = refl
   faults-here (While c n) = refl
   faults-here (Bundle n) = refl
 
-  after-here : (s : Statement) → blockAfter T h E (at-statement s) w ≡ kindAfter s
+  after-here : (s : Statement) → blockAfter E (at-statement s) w ≡ kindAfter s
   unfolding walkRules.blockAfter
   after-here (Plain s) = refl
   after-here (If c n m) = refl
   after-here (While c n) = refl
   after-here (Bundle n) = refl
+
+-- Of a block in its place the blocks that its first statement has, and the rest, are in theirs.
+module _ {T : List ℤ} {h : Sections} {a : ℕ} where
+  after-plain : {s : Simple} {r : Block} → InPlace T h a (plain a s r) → InPlace T h (a + 1) r
+  after-plain p = record { numbered = p .numbered .1; reads = p .reads .1 }
+
+  module _ {c : Condition} {n m : ℕ} {t e r : Block} (q : statementAt T h a ≡ Read (If c n m)) (p : InPlace T h a (branch a c t e r)) where
+    counts : (n ≡ size t) × (m ≡ size e)
+    counts = let i = p .reads .0 in (cc, cc)
+
+    pub then-placed : InPlace T h (a + 1) t
+    then-placed = record { numbered = p .numbered .1; reads = p .reads .1 }
+
+    pub else-placed : InPlace T h (a + 1 + n) e
+    else-placed = let x = counts .0 in record { numbered = rw x (p .numbered .2); reads = p .reads .2 }
+
+    after-if : InPlace T h (a + 1 + n + m) r
+    after-if = let x = counts .0 in let y = counts .1 in record { numbered = rw (x, y) (p .numbered .3); reads = p .reads .3 }
+
+  module _ {c : Condition} {n : ℕ} {t r : Block} (q : statementAt T h a ≡ Read (While c n)) (p : InPlace T h a (loop a c t r)) where
+    count : n ≡ size t
+    count = let i = p .reads .0 in cc
+
+    pub body-placed : InPlace T h (a + 1) t
+    body-placed = record { numbered = p .numbered .1; reads = p .reads .1 }
+
+    after-while : InPlace T h (a + 1 + n) r
+    after-while = record { numbered = rw count (p .numbered .2); reads = p .reads .2 }
+
+    body-assigned : assigned t ≡ targetsFrom T h (a + 1) n
+    body-assigned = rw count (assigned-targets T h t (a + 1) (p .numbered .1) (p .reads .1))
+
+  after-bundle : {n : ℕ} {ss : List Simple} {r : Block} → statementAt T h a ≡ Read (Bundle n) → InPlace T h a (bundle a ss r) → InPlace T h (a + 1 + n) r
+  after-bundle {n} {ss} q p = let i = p .reads .0 in let x : n ≡ length ss = cc in record { numbered = rw x (p .numbered .1); reads = p .reads .2 }
 
 -- 13, where the rows are not the same, and nothing where they are.
 rows-refused : (a : ℕ) (R Q : List ℕ) → sameRows R Q ≡ false → Refused (RowsDiffer a) ≡ verdictOf (rowsAt a R Q)
@@ -217,23 +256,27 @@ module _ {T : List ℤ} {h : Sections} {E : Environment} {end allowed : ℕ} {b 
   row-named-within u n = row-limits T h at (u .read) refl n
 
   module _ (s : Statement) (u : Turn T h E end allowed b w₀ at left f F s) where
-    here : blockFaults T h E b w₀ ≡ kindFaults T h E at left end (stateOf f (F .rows .each)) s
-    here = u .so-far .same .blamed ∙ (ap (λ (x : Block). blockFaults T h E x (stateOf f (F .rows .each)))
+    here : blockFaults E b w₀ ≡ kindFaults T h E at left end (stateOf f (F .rows .each)) s
+    here = u .so-far .same .blamed ∙ (ap (λ (x : Block). blockFaults E x (stateOf f (F .rows .each)))
         (parse-some left T h at end _ (u .some) (u .within) (u .read)) ∙ faults-here T h E at left end (stateOf f (F .rows .each)) s)
 
-    whole-after : blockAfter T h E b w₀ ≡ kindAfter T h E at left end (stateOf f (F .rows .each)) s
-    whole-after = u .so-far .same .left ∙ (ap (λ (x : Block). blockAfter T h E x (stateOf f (F .rows .each)))
+    whole-after : blockAfter E b w₀ ≡ kindAfter T h E at left end (stateOf f (F .rows .each)) s
+    whole-after = u .so-far .same .left ∙ (ap (λ (x : Block). blockAfter E x (stateOf f (F .rows .each)))
         (parse-some left T h at end _ (u .some) (u .within) (u .read)) ∙ after-here T h E at left end (stateOf f (F .rows .each)) s)
+
+  pub at-node : {s : Statement} → Turn T h E end allowed b w₀ at left f F s → InPlace T h at (at-statement T h E at left end (stateOf f (F .rows .each)) s)
+  at-node u = let e = parse-some left T h at end _ (u .some) (u .within) (u .read) in rw e at (u .so-far .in-place)
 
   -- The next turn.
   next : {s : Statement} {x : ℕ} {g : FactSet} {G : Force} {i : State FactSet} → Turn T h E end allowed b w₀ at left f F s
-      → blockFaults T h E b w₀ ≡ blockFaults T h E (rest T h left x end) i → blockAfter T h E b w₀ ≡ blockAfter T h E (rest T h left x end) i
-      → stateOf g (G .rows .each) ≡ i
+      → blockFaults E b w₀ ≡ blockFaults E (rest T h left x end) i → blockAfter E b w₀ ≡ blockAfter E (rest T h left x end) i
+      → stateOf g (G .rows .each) ≡ i → InPlace T h x (rest T h left x end)
       → Forced E (G .rows .each) G → Kept T h E end allowed b w₀ x (left - 1) g G
-  next {s} {x} u p q e o = record {
-    same = record { blamed = p ∙ ap (blockFaults T h E (rest T h left x end)) (sym e); left = q ∙ ap (blockAfter T h E (rest T h left x end)) (sym e) };
+  next {s} {x} u p q e n o = record {
+    same = record { blamed = p ∙ ap (blockFaults E (rest T h left x end)) (sym e); left = q ∙ ap (blockAfter E (rest T h left x end)) (sym e) };
     forced = o;
     less = omega (arith, u .so-far .less);
+    in-place = n;
   }
 
   -- Any kind but 14.
@@ -254,18 +297,18 @@ module _ {T : List ℤ} {h : Sections} {E : Environment} {end allowed : ℕ} {b 
         ∙ ap (λ (w : State FactSet).
         verdictOf (boundsAt at (unshownIn E w (boundsAfter (effect E f p) (declaredIn E (stateOf f (F .rows .each))))))) (sym still))))
 
-    plain-here : blockFaults T h E b w₀
+    plain-here : blockFaults E b w₀
         ≡ also (boundsAt at (unshownIn E (stateAfter p (stateOf f (F .rows .each))) (boundsAfter (effect E f p) (declaredIn E (stateOf f (F .rows .each))))))
-        (blockFaults T h E (rest T h left (at + 1) end) (stateAfter p (stateOf f (F .rows .each))))
+        (blockFaults E (rest T h left (at + 1) end) (stateAfter p (stateOf f (F .rows .each))))
     plain-here = here (Plain p) u ∙ pass _ _ (nothing-asked E f (declaredIn E (stateOf f (F .rows .each))) p at n)
 
-    pub plain-refused : {w : Walked} {r : Refusal} → w .verdict ≡ v → v ≡ Refused r → Walks T h E b w₀ w
+    pub plain-refused : {w : Walked} {r : Refusal} → w .verdict ≡ v → v ≡ Refused r → Walks E b w₀ w
     plain-refused q x = stops _ _ plain-here (q ∙ shown-here) (q ∙ x)
 
     pub turn-plain : v ≡ Accepted → Kept T h E end allowed b w₀ (at + 1) (left - 1) (d .facts) F
     turn-plain x =
         next u (plain-here ∙ pass _ _ (none-refused _ shown-here x)) (whole-after (Plain p) u)
-        (ap (λ (g : FactSet). stateOf g (F .rows .each)) (applied-facts E f p e) ∙ sym still) (u .so-far .forced)
+        (ap (λ (g : FactSet). stateOf g (F .rows .each)) (applied-facts E f p e) ∙ sym still) (after-plain (at-node u)) (u .so-far .forced)
 
   -- Nothing has to be shown again.
   pub turn-untouched : {p : Simple} → Turn T h E end allowed b w₀ at left f F (Plain p) → declaresOf p ≡ NoRow → {d : Applied}
@@ -283,56 +326,56 @@ module _ {T : List ℤ} {h : Sections} {E : Environment} {end allowed : ℕ} {b 
     row-after : stateAfter p (stateOf f (F .rows .each)) ≡ stateOf f (set (F .rows .each) y (r + 1))
     row-after = ap (λ (s : Simple). stateAfter s (stateOf f (F .rows .each))) (row-named p y r n) ∙ declare-after y r f (F .rows .each)
 
-    row-here : blockFaults T h E b w₀ ≡ also (also (boundsAt at (rowUnshown E f (declaredIn E (stateOf f (F .rows .each))) (Declare y r)))
+    row-here : blockFaults E b w₀ ≡ also (also (boundsAt at (rowUnshown E f (declaredIn E (stateOf f (F .rows .each))) (Declare y r)))
         (boundsAt at (unshown (inForce E (set (F .rows .each) y (r + 1))) f (boundsAfter Keep (declaredIn E (stateOf f (F .rows .each)))))))
-        (blockFaults T h E (rest T h left (at + 1) end) (stateOf f (set (F .rows .each) y (r + 1))))
+        (blockFaults E (rest T h left (at + 1) end) (stateOf f (set (F .rows .each) y (r + 1))))
     row-here =
         here (Plain p) u ∙ (ap (λ (s : Simple). kindFaults T h E at left end (stateOf f (F .rows .each)) (Plain s)) (row-named p y r n)
         ∙ (ap₂ (λ (w : State FactSet) (x : Effect). also (boundsAt at (rowUnshown E f (declaredIn E (stateOf f (F .rows .each))) (Declare y r)))
-        (also (boundsAt at (unshownIn E w (boundsAfter x (declaredIn E (stateOf f (F .rows .each)))))) (blockFaults T h E (rest T h left (at + 1) end) w)))
+        (also (boundsAt at (unshownIn E w (boundsAfter x (declaredIn E (stateOf f (F .rows .each)))))) (blockFaults E (rest T h left (at + 1) end) w)))
         (declare-after y r f (F .rows .each)) (declare-keeps E f y r)
         ∙ sym (also-assoc _ _ _)))
 
-    pub row-refused : {w : Walked} {x : Refusal} → w .verdict ≡ d .verdict → d .verdict ≡ Refused x → Walks T h E b w₀ w
+    pub row-refused : {w : Walked} {x : Refusal} → w .verdict ≡ d .verdict → d .verdict ≡ Refused x → Walks E b w₀ w
     row-refused q x = stops _ _ row-here (q ∙ z .said) (q ∙ x)
 
     pub turn-row : d .verdict ≡ Accepted → Kept T h E end allowed b w₀ (at + 1) (left - 1) f (d .force)
     turn-row x =
         let o = z .kept x in
-        next u (row-here ∙ pass _ _ (none-refused _ (z .said) x)) (whole-after (Plain p) u ∙ ap (blockAfter T h E (rest T h left (at + 1) end)) row-after)
-        (ap (stateOf f) (o .rows)) (forced-own o)
+        next u (row-here ∙ pass _ _ (none-refused _ (z .said) x)) (whole-after (Plain p) u ∙ ap (blockAfter E (rest T h left (at + 1) end)) row-after)
+        (ap (stateOf f) (o .rows)) (after-plain (at-node u)) (forced-own o)
 
   module _ {c : Condition} {n m : ℕ} (u : Turn T h E end allowed b w₀ at left f F (If c n m))
-      {g : FactSet} (e : g ≡ conditionFacts f c) {r : Walked} (w : Walks T h E (rest T h left (at + 1) (at + 1 + n)) (stateOf g (F .rows .each)) r) where
-    then-walk : Walks T h E (rest T h left (at + 1) (at + 1 + n)) (assumed (stateOf f (F .rows .each)) c) r
+      {g : FactSet} (e : g ≡ conditionFacts f c) {r : Walked} (w : Walks E (rest T h left (at + 1) (at + 1 + n)) (stateOf g (F .rows .each)) r) where
+    then-walk : Walks E (rest T h left (at + 1) (at + 1 + n)) (assumed (stateOf f (F .rows .each)) c) r
     then-walk = rw e at w
 
-    pub then-refused : {v : Refusal} → r .verdict ≡ Refused v → Walks T h E b w₀ r
+    pub then-refused : {v : Refusal} → r .verdict ≡ Refused v → Walks E b w₀ r
     then-refused x = stops _ _ (here (If c n m) u) (then-walk .said) x
 
     module _ (q : r .verdict ≡ Accepted) {i : FactSet} {d : Condition} (j : d ≡ negatedOf c) (k : i ≡ conditionFacts f d) {o : Walked}
-        (z : Walks T h E (rest T h left (at + 1 + n) (at + 1 + n + m)) (stateOf i (F .rows .each)) o) where
-      else-walk : Walks T h E (rest T h left (at + 1 + n) (at + 1 + n + m)) (assumed (stateOf f (F .rows .each)) (negatedOf c)) o
+        (z : Walks E (rest T h left (at + 1 + n) (at + 1 + n + m)) (stateOf i (F .rows .each)) o) where
+      else-walk : Walks E (rest T h left (at + 1 + n) (at + 1 + n + m)) (assumed (stateOf f (F .rows .each)) (negatedOf c)) o
       else-walk = rw (k, j) at z
 
-      then-clear : blockFaults T h E (rest T h left (at + 1) (at + 1 + n)) (assumed (stateOf f (F .rows .each)) c) ≡ []
+      then-clear : blockFaults E (rest T h left (at + 1) (at + 1 + n)) (assumed (stateOf f (F .rows .each)) c) ≡ []
       then-clear = none-refused _ (then-walk .said) q
 
-      pub else-refused : {v : Refusal} → o .verdict ≡ Refused v → Walks T h E b w₀ o
+      pub else-refused : {v : Refusal} → o .verdict ≡ Refused v → Walks E b w₀ o
       else-refused x = stops _ _ (here (If c n m) u ∙ pass _ _ then-clear) (else-walk .said) x
 
       module _ (x : o .verdict ≡ Accepted) {s : Bool} (l : s ≡ sameRows (r .rows .each) (o .rows .each)) where
-        else-clear : blockFaults T h E (rest T h left (at + 1 + n) (at + 1 + n + m)) (assumed (stateOf f (F .rows .each)) (negatedOf c)) ≡ []
+        else-clear : blockFaults E (rest T h left (at + 1 + n) (at + 1 + n + m)) (assumed (stateOf f (F .rows .each)) (negatedOf c)) ≡ []
         else-clear = none-refused _ (else-walk .said) x
 
-        sides-here : blockFaults T h E b w₀ ≡ also (rowsAt at (r .rows .each) (o .rows .each)) (blockFaults T h E (rest T h left (at + 1 + n + m) end)
-            (sidesJoined T h E (stateOf (r .facts) (r .rows .each)) (stateOf (o .facts) (o .rows .each))))
+        sides-here : blockFaults E b w₀ ≡ also (rowsAt at (r .rows .each) (o .rows .each)) (blockFaults E (rest T h left (at + 1 + n + m) end)
+            (sidesJoined E (stateOf (r .facts) (r .rows .each)) (stateOf (o .facts) (o .rows .each))))
         sides-here =
             here (If c n m) u ∙ (pass _ _ then-clear ∙ (pass _ _ else-clear
-            ∙ ap₂ (λ (v w : State FactSet). also (rowsAt at (v .rows) (w .rows)) (blockFaults T h E (rest T h left (at + 1 + n + m) end)
-            (sidesJoined T h E v w))) (sym (then-walk .kept then-clear)) (sym (else-walk .kept else-clear))))
+            ∙ ap₂ (λ (v w : State FactSet). also (rowsAt at (v .rows) (w .rows)) (blockFaults E (rest T h left (at + 1 + n + m) end)
+            (sidesJoined E v w))) (sym (then-walk .kept then-clear)) (sym (else-walk .kept else-clear))))
 
-        pub sides-differ : {w : Walked} → s ≡ false → w .verdict ≡ Refused (RowsDiffer at) → Walks T h E b w₀ w
+        pub sides-differ : {w : Walked} → s ≡ false → w .verdict ≡ Refused (RowsDiffer at) → Walks E b w₀ w
         sides-differ t v = stops _ _ sides-here (v ∙ rows-refused at (r .rows .each) (o .rows .each) (sym l ∙ t)) v
 
         pub turn-if : {y : FactSet} {G : Force} → s ≡ true → {P : List Bool} → P ≡ E .pointers → y ≡ joined (λ v. getD P v false) (r .facts) (o .facts)
@@ -340,49 +383,54 @@ module _ {T : List ℤ} {h : Sections} {E : Environment} {end allowed : ℕ} {b 
             → Kept T h E end allowed b w₀ (at + 1 + n + m) (left - 1) y G
         turn-if t {P} p y a =
             next u (sides-here ∙ pass _ _ (rows-clear at (r .rows .each) (o .rows .each) (sym l ∙ t)))
-            (whole-after (If c n m) u ∙ ap₂ (λ (v w : State FactSet). blockAfter T h E (rest T h left (at + 1 + n + m) end) (sidesJoined T h E v w))
+            (whole-after (If c n m) u ∙ ap₂ (λ (v w : State FactSet). blockAfter E (rest T h left (at + 1 + n + m) end) (sidesJoined E v w))
             (sym (then-walk .kept then-clear)) (sym (else-walk .kept else-clear)))
-            (ap₂ stateOf (y ∙ ap (λ (Q : List Bool). joined (λ v. getD Q v false) (r .facts) (o .facts)) p) (a .rows)) (forced-own a)
+            (ap₂ stateOf (y ∙ ap (λ (Q : List Bool). joined (λ v. getD Q v false) (r .facts) (o .facts)) p) (a .rows)) (after-if (u .read) (at-node u))
+            (forced-own a)
 
   module _ {c : Condition} {n : ℕ} (u : Turn T h E end allowed b w₀ at left f F (While c n))
       {l : FactSet} (y : l ≡ loopFacts (targetsFrom T h (at + 1) n) f) {g : FactSet} (e : g ≡ conditionFacts l c)
-      {r : Walked} (w : Walks T h E (rest T h left (at + 1) (at + 1 + n)) (stateOf g (F .rows .each)) r) where
-    body-walk : Walks T h E (rest T h left (at + 1) (at + 1 + n)) (assumed (head-state T h E at left end (stateOf f (F .rows .each)) n) c) r
-    body-walk = rw (e, y) at w
+      {r : Walked} (w : Walks E (rest T h left (at + 1) (at + 1 + n)) (stateOf g (F .rows .each)) r) where
+    lost : l ≡ loopFacts (assigned (rest T h left (at + 1) (at + 1 + n))) f
+    lost = y ∙ ap (λ (xs : List ℕ). loopFacts xs f) (sym (body-assigned (u .read) (at-node u)))
 
-    pub body-refused : {v : Refusal} → r .verdict ≡ Refused v → Walks T h E b w₀ r
+    body-walk : Walks E (rest T h left (at + 1) (at + 1 + n)) (assumed (head-state T h E at left end (stateOf f (F .rows .each)) n) c) r
+    body-walk = rw (e, lost) at w
+
+    pub body-refused : {v : Refusal} → r .verdict ≡ Refused v → Walks E b w₀ r
     body-refused x = stops _ _ (here (While c n) u) (body-walk .said) x
 
     module _ (x : r .verdict ≡ Accepted) {s : Bool} (o : s ≡ sameRows (F .rows .each) (r .rows .each)) where
-      body-clear : blockFaults T h E (rest T h left (at + 1) (at + 1 + n)) (assumed (head-state T h E at left end (stateOf f (F .rows .each)) n) c) ≡ []
+      body-clear : blockFaults E (rest T h left (at + 1) (at + 1 + n)) (assumed (head-state T h E at left end (stateOf f (F .rows .each)) n) c) ≡ []
       body-clear = none-refused _ (body-walk .said) x
 
-      loop-here : blockFaults T h E b w₀ ≡ also (rowsAt at (F .rows .each) (r .rows .each))
-          (blockFaults T h E (rest T h left (at + 1 + n) end) (assumed (head-state T h E at left end (stateOf f (F .rows .each)) n) (negatedOf c)))
+      loop-here : blockFaults E b w₀ ≡ also (rowsAt at (F .rows .each) (r .rows .each))
+          (blockFaults E (rest T h left (at + 1 + n) end) (assumed (head-state T h E at left end (stateOf f (F .rows .each)) n) (negatedOf c)))
       loop-here =
           here (While c n) u ∙ (pass _ _ body-clear
-          ∙ ap (λ (v : State FactSet). also (rowsAt at (F .rows .each) (v .rows)) (blockFaults T h E (rest T h left (at + 1 + n) end)
+          ∙ ap (λ (v : State FactSet). also (rowsAt at (F .rows .each) (v .rows)) (blockFaults E (rest T h left (at + 1 + n) end)
           (assumed (head-state T h E at left end (stateOf f (F .rows .each)) n) (negatedOf c)))) (sym (body-walk .kept body-clear)))
 
-      pub ends-differ : {w : Walked} → s ≡ false → w .verdict ≡ Refused (RowsDiffer at) → Walks T h E b w₀ w
+      pub ends-differ : {w : Walked} → s ≡ false → w .verdict ≡ Refused (RowsDiffer at) → Walks E b w₀ w
       ends-differ t v = stops _ _ loop-here (v ∙ rows-refused at (F .rows .each) (r .rows .each) (sym o ∙ t)) v
 
       pub turn-while : {d : Condition} {i : FactSet} → s ≡ true → d ≡ negatedOf c → i ≡ conditionFacts l d
           → Kept T h E end allowed b w₀ (at + 1 + n) (left - 1) i F
       turn-while t j k =
           next u (loop-here ∙ pass _ _ (rows-clear at (F .rows .each) (r .rows .each) (sym o ∙ t))) (whole-after (While c n) u)
-          (ap (λ (g : FactSet). stateOf g (F .rows .each)) (k ∙ ap₂ conditionFacts y j)) (u .so-far .forced)
+          (ap (λ (g : FactSet). stateOf g (F .rows .each)) (k ∙ ap₂ conditionFacts lost j)) (after-while (u .read) (at-node u)) (u .so-far .forced)
 
   module _ {n : ℕ} (u : Turn T h E end allowed b w₀ at left f F (Bundle n))
       {r : Walked} (w : WalksBundle E at (simples n T h (at + 1)) (stateOf f (F .rows .each)) (declaredIn E (stateOf f (F .rows .each))) r) where
-    bundle-here : blockFaults T h E b w₀ ≡ also (lineFaults E at (at + 1) (simples n T h (at + 1)) (stateOf f (F .rows .each)) (declaredIn E
-        (stateOf f (F .rows .each)))) (blockFaults T h E (rest T h left (at + 1 + n) end) (bundleAfter (simples n T h (at + 1)) (stateOf f (F .rows .each))))
+    bundle-here : blockFaults E b w₀ ≡ also (lineFaults E at (at + 1) (simples n T h (at + 1)) (stateOf f (F .rows .each)) (declaredIn E
+        (stateOf f (F .rows .each)))) (blockFaults E (rest T h left (at + 1 + n) end) (bundleAfter (simples n T h (at + 1)) (stateOf f (F .rows .each))))
     bundle-here = here (Bundle n) u ∙ sym (also-assoc _ _ _)
 
-    pub bundle-refused : {v : Refusal} → r .verdict ≡ Refused v → Walks T h E b w₀ r
+    pub bundle-refused : {v : Refusal} → r .verdict ≡ Refused v → Walks E b w₀ r
     bundle-refused x = stops _ _ bundle-here (w .said) x
 
     pub turn-bundle : {G : Force} → r .verdict ≡ Accepted → Forced E (r .rows .each) G → Kept T h E end allowed b w₀ (at + 1 + n) (left - 1) (r .facts) G
     turn-bundle x a =
         let clear = none-refused _ (w .said) x in
-        next u (bundle-here ∙ pass _ _ clear) (whole-after (Bundle n) u) (ap (stateOf (r .facts)) (a .rows) ∙ w .kept clear) (forced-own a)
+        next u (bundle-here ∙ pass _ _ clear) (whole-after (Bundle n) u) (ap (stateOf (r .facts)) (a .rows) ∙ w .kept clear)
+        (after-bundle (u .read) (at-node u)) (forced-own a)

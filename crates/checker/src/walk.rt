@@ -28,9 +28,10 @@ ghost use Rattle.blocks.specs.Tree.{parse};
 ghost use Rattle.rules.specs.Verdict.{environmentOf};
 ghost use Rattle.rules.specs.Ranges.{Measured};
 ghost use Rattle.declared.specs.Force.{stateOf, Framed, Forced};
-ghost use Rattle.checker.specs.Walk.{Walks};
+ghost use Rattle.checker.specs.Walk.{InPlace, Walks};
 
-// The block of `first` to `end` - 1 from the facts `given` and what is in force, `begun`. `allowed` is at least the number of its statements; it falls at each.
+// The block of `first` to `end` - 1, which cause 6 does not refuse, from the facts `given` and what is in force, `begun`. `allowed` is at least the number of
+// its statements; it falls at each.
 // The fact set is changed in place by its own methods alone: a function in between would copy it in and out. Its frame stands on the stack once for each depth,
 // and each local has a place of its own there: `now` is the state of this block, `side` what a nested one is walked from and then what it leaves; nothing else
 // is large.
@@ -45,8 +46,9 @@ pub(crate) fn walk(
     given: FactSet,
 ) -> Walked
     requires { ⌜ Measured (environmentOf (now table) sections) × Framed (environmentOf (now table) sections) frame
-        × Forced (environmentOf (now table) sections) (begun .rows .each) begun ⌝ }
-    ensures { λ r. ⌜ Walks (now (table .entry)) sections (environmentOf (now (table .entry)) sections) (parse allowed (now (table .entry)) sections first end)
+        × Forced (environmentOf (now table) sections) (begun .rows .each) begun
+        × InPlace (now table) sections first (parse allowed (now table) sections first end) ⌝ }
+    ensures { λ r. ⌜ Walks (environmentOf (now (table .entry)) sections) (parse allowed (now (table .entry)) sections first end)
         (stateOf given (begun .rows .each)) r ⌝ }
 {
     let sizes = frame.sizes;

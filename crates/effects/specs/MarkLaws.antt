@@ -21,10 +21,10 @@ use Rattle.statements.specs.declared.Statement.the-variants.{Plain, If, While, 
 use Rattle.statements.specs.declared.StatementRead.{StatementRead}
 use Rattle.statements.specs.declared.StatementRead.the-variants.{Read}
 use Rattle.statements.specs.Statements.{statementAt}
-use Rattle.blocks.specs.Tree.{target, targetOf, targetsFrom}
+use Rattle.blocks.specs.Tree.{target}
 use Rattle.rules.specs.FactRules.{among}
 use Rattle.rules.specs.Stored.{droppedEach, loopFacts}
-use Rattle.effects.specs.Marks.{targetNumber, noMarks, marked}
+use Rattle.effects.specs.Marks.{targetOf, targetsFrom, targetNumber, noMarks, marked}
 use Rattle.rules.specs.FactRules as factRules
 
 pub marked-append : (m : List Bool) (xs ys : List ℕ) → marked m (xs ++ ys) ≡ marked (marked m xs) ys

@@ -1,12 +1,32 @@
--- The variables that statements assign, as marks: one for each variable.
-use Prim.Native.Nat.{ℕ}
+-- The variables that statements assign, as the code finds them: record by record, and as marks, one for each variable.
+use Prim.Native.Nat.{ℕ, zero, suc, _+_}
 use mathlib.Core.Bool.{Bool, true, false}
-use mathlib.Core.List.{List, [], _∷_}
+use mathlib.Core.List.{List, [], _∷_, _++_}
+use lib.IntN.{ℤ}
 use lib.ListN.{set, replicate}
 use Rattle.sums.specs.Numbers.{zeroVar}
+use Rattle.words.specs.declared.sections.Sections.{Sections}
 use Rattle.statements.specs.declared.Simple.{Simple}
 use Rattle.statements.specs.declared.Simple.the-variants.{Literal, AddConstant, Arithmetic, Null, Address}
 use Rattle.statements.specs.declared.Simple.the-variants.{PointerOffset, PointerIndex, Load, Store, Check, Declare}
+use Rattle.statements.specs.declared.Statement.the-variants.{Plain, If, While, Bundle}
+use Rattle.statements.specs.declared.StatementRead.{StatementRead}
+use Rattle.statements.specs.declared.StatementRead.the-variants.{Read, Unread}
+use Rattle.statements.specs.Statements.{statementAt}
+use Rattle.blocks.specs.Tree.{target}
+
+-- What a record assigns itself: an if, a while and a bundle assign by the records that follow them.
+abbrev pub targetOf : StatementRead → List ℕ
+targetOf Unread = []
+targetOf (Read (Plain s)) = target s
+targetOf (Read (If c n m)) = []
+targetOf (Read (While c n)) = []
+targetOf (Read (Bundle n)) = []
+
+-- What the n records from a on assign.
+unfoldable pub targetsFrom : List ℤ → Sections → ℕ → ℕ → List ℕ
+targetsFrom T h a zero = []
+targetsFrom T h a (suc n) = targetOf (statementAt T h a) ++ targetsFrom T h (a + 1) n
 
 -- The variable that a statement assigns, or the number of none.
 abbrev pub targetNumber : Simple → ℕ

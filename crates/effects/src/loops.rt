@@ -9,9 +9,8 @@ ghost use mathlib.Core.Path.{_≡_};
 ghost use mathlib.Core.Bool.{false};
 ghost use Prim.Native.Nat.{_+_, _^_, _<_};
 ghost use lib.ListN.{getD};
-ghost use Rattle.blocks.specs.Tree.{targetOf, targetsFrom};
 ghost use Rattle.rules.specs.Stored.{droppedEach, loopFacts};
-ghost use Rattle.effects.specs.Marks.{targetNumber, noMarks, marked};
+ghost use Rattle.effects.specs.Marks.{targetOf, targetsFrom, targetNumber, noMarks, marked};
 
 // The variable that a statement assigns, or 16 for none.
 fn target_of(simple: Simple) -> usize

@@ -19,7 +19,7 @@ use Rattle.statements.specs.declared.Simple.the-variants.{Literal, AddConstant,
 use Rattle.statements.specs.declared.Simple.the-variants.{PointerOffset, PointerIndex, Load, Store, Check, Declare}
 use Rattle.statements.specs.declared.Statement.the-variants.{Plain, If, While}
 use Rattle.statements.specs.declared.StatementRead.{StatementRead}
-use Rattle.blocks.specs.Tree.{Block, nil, plain, branch, loop, bundle, unread, target, targets, assigned, targetsFrom}
+use Rattle.blocks.specs.Tree.{Block, nil, plain, branch, loop, bundle, unread, target, targets, assigned}
 use Rattle.blocks.specs.Flow.{Successors, successors, entry, lead}
 use Rattle.blocks.specs.Shape.{size}
 use Rattle.rules.specs.FactSets.{State}
@@ -38,7 +38,7 @@ use Rattle.machine.specs.ConditionSound.{condition-holds, negated-holds}
 use Rattle.machine.specs.AccessSound.{Ready}
 use Rattle.machine.specs.SimpleSound.{Done, done-map}
 use Rattle.machine.specs.PerformedSound.{performed-good}
-use Rattle.machine.specs.Places.{LinkedLine, Linked, Stands, AtLine, Framed, At, StandsAt, headState}
+use Rattle.machine.specs.Places.{LinkedLine, Linked, Stands, AtLine, Framed, At, StandsAt}
 use Rattle.rules.specs.BoundsRules as boundsRules
 use Rattle.rules.specs.Rules as walkRules
 
@@ -102,26 +102,26 @@ module _ (T : List ℤ) (h : Sections) (E : Environment) (D : List ℕ) (room : 
   ready-outside (Declare p r) F m t g = tt
 
   -- The facts at the head of a loop, from the values that held before it.
-  framed-head : (A : List ℕ) (F : FactSet) (m : Memory) → Framed T h E D room A F m → InRange (value (m .values)) → Holds (loopFacts A F) (value (m .values))
+  framed-head : (A : List ℕ) (F : FactSet) (m : Memory) → Framed A F m → InRange (value (m .values)) → Holds (loopFacts A F) (value (m .values))
   framed-head A F m w r = loop-facts-hold A F (w .old) (value (m .values)) (w .range) r (w .held) (w .agree)
 
   module _ (f : ℕ → Successors) where
     -- Arriving at a block: at its first statement, or at what follows an empty one.
     pub enter : (b : Block) (F : State FactSet) (after d : ℕ) (m : Memory) → Linked T h f b after → d ≡ entry b after → GoodOut F m
-        → At T h E D room b F d m ⊎ StandsAt T h E D room after (blockAfter T h E b F) d m
+        → At h E D room b F d m ⊎ StandsAt h E D room after (blockAfter E b F) d m
     unfolding entry walkRules.blockAfter
     enter nil F after d m l e g = inr (e, g)
     enter (plain a s r) F after d m l e g = inl (inl (e, g))
     enter (branch a c t u r) F after d m l e g = inl (inl (e, g))
-    enter (loop a c n t r) F after d m l e g =
-        let A = targetsFrom T h (a + 1) n in
-        let w : Framed T h E D room A (F .facts) m = record { old = value (m .values); held = g .facts; range = g .steady .range; agree = λ z q. refl } in
+    enter (loop a c t r) F after d m l e g =
+        let A = assigned t in
+        let w : Framed A (F .facts) m = record { old = value (m .values); held = g .facts; range = g .steady .range; agree = λ z q. refl } in
         inl (inl (w, inl (e, with-facts h E D room F (atHead A F) (declaredIn E F) m g refl (framed-head A (F .facts) m w (g .steady .range)))))
     enter (bundle a ss r) F after d m l e g = inl (inl (e, g))
     enter (unread a) F after d m l e g = absurd l
 
     enter-line : (a : ℕ) (ss : List Simple) (F : State FactSet) (K : List Bounds) (after d : ℕ) (m : Memory) → d ≡ lead a (length ss) after → GoodAt F K m
-        → AtLine T h E D room a ss F K d m ⊎ Stands T h E D room after (bundleAfter ss F) (bundleBounds E ss F K) d m
+        → AtLine h E D room a ss F K d m ⊎ Stands h E D room after (bundleAfter ss F) (bundleBounds E ss F K) d m
     unfolding lead walkRules.bundleAfter walkRules.bundleBounds
     enter-line a [] F K after d m e g = inr (e, g)
     enter-line a (s ∷ ss) F K after d m e g = inl (inl (e, g))
@@ -133,19 +133,19 @@ module _ (T : List ℤ) (h : Sections) (E : Environment) (D : List ℕ) (room : 
     step-at P a r s d e q = rw (d, e, q)
 
     abbrev Goal : Block → State FactSet → ℕ → Memory → ℕ → Memory → Type 0
-    Goal b F after m d n = (At T h E D room b F d n ⊎ StandsAt T h E D room after (blockAfter T h E b F) d n)
+    Goal b F after m d n = (At h E D room b F d n ⊎ StandsAt h E D room after (blockAfter E b F) d n)
         × Agree (assigned b) (value (m .values)) (value (n .values))
 
     abbrev GoalLine : ℕ → List Simple → State FactSet → List Bounds → ℕ → Memory → ℕ → Memory → Type 0
     GoalLine a ss F K after m d n =
-        (AtLine T h E D room a ss F K d n ⊎ Stands T h E D room after (bundleAfter ss F) (bundleBounds E ss F K) d n)
+        (AtLine h E D room a ss F K d n ⊎ Stands h E D room after (bundleAfter ss F) (bundleBounds E ss F K) d n)
         × Agree (targets ss) (value (m .values)) (value (n .values))
 
     -- ---- bundles
 
     line-step : (a : ℕ) (ss : List Simple) (F : State FactSet) (K : List Bounds) (after : ℕ) (P : Point) → LinkedLine T h f a ss after
         → bundleFaults E a ss F K ≡ []
-        → AtLine T h E D room a ss F K (P .due) (memoryOf P) → Fine (GoalLine a ss F K after (memoryOf P)) P (step P)
+        → AtLine h E D room a ss F K (P .due) (memoryOf P) → Fine (GoalLine a ss F K after (memoryOf P)) P (step P)
     unfolding walkRules.bundleFaults walkRules.bundleAfter walkRules.bundleBounds targets statementStep
     line-step a [] F K after P l q i = absurd i
     line-step a (s ∷ ss) F K after P l q (inl i) =
@@ -168,9 +168,9 @@ module _ (T : List ℤ) (h : Sections) (E : Environment) (D : List ℕ) (room : 
     -- The end of a bundle: all declared bounds are shown.
     bundle-out : (a : ℕ) (ss : List Simple) (r : Block) (F : State FactSet) (after d : ℕ) (m : Memory) → Linked T h f r after
         → unshownIn E (bundleAfter ss F) (bundleBounds E ss F (declaredIn E F)) ≡ []
-        → AtLine T h E D room (a + 1) ss F (declaredIn E F) d m
-        ⊎ Stands T h E D room (entry r after) (bundleAfter ss F) (bundleBounds E ss F (declaredIn E F)) d m
-        → At T h E D room (bundle a ss r) F d m ⊎ StandsAt T h E D room after (blockAfter T h E (bundle a ss r) F) d m
+        → AtLine h E D room (a + 1) ss F (declaredIn E F) d m
+        ⊎ Stands h E D room (entry r after) (bundleAfter ss F) (bundleBounds E ss F (declaredIn E F)) d m
+        → At h E D room (bundle a ss r) F d m ⊎ StandsAt h E D room after (blockAfter E (bundle a ss r) F) d m
     unfolding walkRules.blockAfter
     bundle-out a ss r F after d m l q (inl x) = inl (inr (inl x))
     bundle-out a ss r F after d m l q (inr x) =
@@ -180,37 +180,37 @@ module _ (T : List ℤ) (h : Sections) (E : Environment) (D : List ℕ) (room : 
     -- ---- ifs
 
     module _ (a : ℕ) (c : Condition) (t e r : Block) (F : State FactSet) (after : ℕ) (l : Linked T h f (branch a c t e r) after)
-        (same : blockAfter T h E t (assumed F c) .rows ≡ blockAfter T h E e (assumed F (negatedOf c)) .rows) where
+        (same : blockAfter E t (assumed F c) .rows ≡ blockAfter E e (assumed F (negatedOf c)) .rows) where
       abbrev thenState : State FactSet
-      thenState = blockAfter T h E t (assumed F c)
+      thenState = blockAfter E t (assumed F c)
 
       abbrev elseState : State FactSet
-      elseState = blockAfter T h E e (assumed F (negatedOf c))
+      elseState = blockAfter E e (assumed F (negatedOf c))
 
       -- Where the sides meet.
-      join-out : (d : ℕ) (m : Memory) → StandsAt T h E D room (entry r after) (sidesJoined T h E thenState elseState) d m
-          → At T h E D room (branch a c t e r) F d m ⊎ StandsAt T h E D room after (blockAfter T h E (branch a c t e r) F) d m
+      join-out : (d : ℕ) (m : Memory) → StandsAt h E D room (entry r after) (sidesJoined E thenState elseState) d m
+          → At h E D room (branch a c t e r) F d m ⊎ StandsAt h E D room after (blockAfter E (branch a c t e r) F) d m
       unfolding walkRules.blockAfter
-      join-out d m x = into (into (into (enter r (sidesJoined T h E thenState elseState) after d m (l .4) (x .0) (x .1))))
+      join-out d m x = into (into (into (enter r (sidesJoined E thenState elseState) after d m (l .4) (x .0) (x .1))))
 
-      then-out : (d : ℕ) (m : Memory) → At T h E D room t (assumed F c) d m ⊎ StandsAt T h E D room (entry r after) thenState d m
-          → At T h E D room (branch a c t e r) F d m ⊎ StandsAt T h E D room after (blockAfter T h E (branch a c t e r) F) d m
+      then-out : (d : ℕ) (m : Memory) → At h E D room t (assumed F c) d m ⊎ StandsAt h E D room (entry r after) thenState d m
+          → At h E D room (branch a c t e r) F d m ⊎ StandsAt h E D room after (blockAfter E (branch a c t e r) F) d m
       then-out d m (inl x) = inl (inr (inl x))
       then-out d m (inr x) =
           join-out d m (
             x .0,
-            with-facts h E D room thenState (sidesJoined T h E thenState elseState) (declaredIn E thenState) m (x .1) refl
+            with-facts h E D room thenState (sidesJoined E thenState elseState) (declaredIn E thenState) m (x .1) refl
                 (joined-left-holds (isPointer E) (thenState .facts) (elseState .facts) (value (m .values)) (x .1 .steady .range) (x .1 .facts)),
           )
 
-      else-out : (d : ℕ) (m : Memory) → At T h E D room e (assumed F (negatedOf c)) d m ⊎ StandsAt T h E D room (entry r after) elseState d m
-          → At T h E D room (branch a c t e r) F d m ⊎ StandsAt T h E D room after (blockAfter T h E (branch a c t e r) F) d m
+      else-out : (d : ℕ) (m : Memory) → At h E D room e (assumed F (negatedOf c)) d m ⊎ StandsAt h E D room (entry r after) elseState d m
+          → At h E D room (branch a c t e r) F d m ⊎ StandsAt h E D room after (blockAfter E (branch a c t e r) F) d m
       else-out d m (inl x) = inl (inr (inr (inl x)))
       else-out d m (inr x) =
           join-out d m (
             x .0,
             rw same
-                (with-facts h E D room elseState (record { facts = sidesJoined T h E thenState elseState .facts; rows = elseState .rows })
+                (with-facts h E D room elseState (record { facts = sidesJoined E thenState elseState .facts; rows = elseState .rows })
                 (declaredIn E elseState) m (x .1) refl
                 (joined-right-holds (isPointer E) (thenState .facts) (elseState .facts) (value (m .values)) (x .1 .steady .range) (x .1 .facts))),
           )
@@ -237,37 +237,37 @@ module _ (T : List ℤ) (h : Sections) (E : Environment) (D : List ℕ) (room : 
 
     -- ---- whiles
 
-    module _ (a : ℕ) (c : Condition) (k : ℕ) (t r : Block) (F : State FactSet) (after : ℕ) (l : Linked T h f (loop a c k t r) after)
-        (same : F .rows ≡ blockAfter T h E t (assumed (headState T h E D room a k F) c) .rows) where
+    module _ (a : ℕ) (c : Condition) (t r : Block) (F : State FactSet) (after : ℕ) (l : Linked T h f (loop a c t r) after)
+        (same : F .rows ≡ blockAfter E t (assumed (atHead (assigned t) F) c) .rows) where
       abbrev dropped : List ℕ
-      dropped = targetsFrom T h (a + 1) k
+      dropped = assigned t
 
       abbrev head : State FactSet
       head = atHead dropped F
 
       -- The end of the body makes the while due: all that the body changed was dropped at the head.
-      loop-out : (d : ℕ) (m : Memory) → Framed T h E D room dropped (F .facts) m
-          → At T h E D room t (assumed head c) d m ⊎ StandsAt T h E D room a (blockAfter T h E t (assumed head c)) d m
-          → At T h E D room (loop a c k t r) F d m ⊎ StandsAt T h E D room after (blockAfter T h E (loop a c k t r) F) d m
+      loop-out : (d : ℕ) (m : Memory) → Framed dropped (F .facts) m
+          → At h E D room t (assumed head c) d m ⊎ StandsAt h E D room a (blockAfter E t (assumed head c)) d m
+          → At h E D room (loop a c t r) F d m ⊎ StandsAt h E D room after (blockAfter E (loop a c t r) F) d m
       loop-out d m w (inl x) = inl (inl (w, inr x))
       loop-out d m w (inr x) =
           inl (inl (
             w,
             inl (
               x .0,
-              rw same (with-facts h E D room (blockAfter T h E t (assumed head c))
-                  (record { facts = head .facts; rows = blockAfter T h E t (assumed head c) .rows })
-                  (declaredIn E (blockAfter T h E t (assumed head c))) m (x .1) refl (framed-head dropped (F .facts) m w (x .1 .steady .range))),
+              rw same (with-facts h E D room (blockAfter E t (assumed head c))
+                  (record { facts = head .facts; rows = blockAfter E t (assumed head c) .rows })
+                  (declaredIn E (blockAfter E t (assumed head c))) m (x .1) refl (framed-head dropped (F .facts) m w (x .1 .steady .range))),
             ),
           ))
 
-      loop-head : (P : Point) → Framed T h E D room dropped (F .facts) (memoryOf P) → GoodOut head (memoryOf P) → (b : Bool) → conditionHolds (P .values) c ≡ b
-          → Fine (Goal (loop a c k t r) F after (memoryOf P)) P (branched b P (successors a (entry t a) (entry r after)))
+      loop-head : (P : Point) → Framed dropped (F .facts) (memoryOf P) → GoodOut head (memoryOf P) → (b : Bool) → conditionHolds (P .values) c ≡ b
+          → Fine (Goal (loop a c t r) F after (memoryOf P)) P (branched b P (successors a (entry t a) (entry r after)))
       unfolding walkRules.blockAfter
       loop-head P w g true q =
           leads (entry t a) (memoryOf P) (
             loop-out (entry t a) (memoryOf P) w
-                (enter t (assumed head c) a (entry t a) (memoryOf P) (l .3) refl
+                (enter t (assumed head c) a (entry t a) (memoryOf P) (l .2) refl
                 (with-facts h E D room head (assumed head c) (declaredIn E F) (memoryOf P) g refl
                 (condition-holds (head .facts) (P .values) (g .steady .range) (g .facts) c q))),
             λ z n. refl,
@@ -275,35 +275,31 @@ module _ (T : List ℤ) (h : Sections) (E : Environment) (D : List ℕ) (room : 
       loop-head P w g false q =
           let typed = read-typed T h a (While c (size t)) (l .0) in
           leads (entry r after) (memoryOf P) (
-            into (enter r (assumed head (negatedOf c)) after (entry r after) (memoryOf P) (l .4) refl
+            into (enter r (assumed head (negatedOf c)) after (entry r after) (memoryOf P) (l .3) refl
                 (with-facts h E D room head (assumed head (negatedOf c)) (declaredIn E F) (memoryOf P) g refl
                 (negated-holds (head .facts) (P .values) (g .steady .range) (g .facts) c (typed .condition .relation) q))),
             λ z n. refl,
           )
 
       -- A step in the body keeps what was dropped apart from what was not.
-      framed-step : (m n : Memory) → Framed T h E D room dropped (F .facts) m → Agree (assigned t) (value (m .values)) (value (n .values))
-          → Framed T h E D room dropped (F .facts) n
-      framed-step m n w u =
-          let same : assigned t ≡ dropped = l .2 in
-          let v : Agree dropped (value (m .values)) (value (n .values)) = rw same at u in
-          record { old = w .old; held = w .held; range = w .range; agree = λ z q. v z q ∙ w .agree z q }
+      framed-step : (m n : Memory) → Framed dropped (F .facts) m → Agree dropped (value (m .values)) (value (n .values)) → Framed dropped (F .facts) n
+      framed-step m n w u = record { old = w .old; held = w .held; range = w .range; agree = λ z q. u z q ∙ w .agree z q }
 
     -- ---- every block
 
     -- 13 does not refuse: the sides of an if leave the same rows in force, and so do the head and the end of a body.
-    sides-same : (a : ℕ) (c : Condition) (t e r : Block) (F : State FactSet) → blockFaults T h E (branch a c t e r) F ≡ []
-        → blockAfter T h E t (assumed F c) .rows ≡ blockAfter T h E e (assumed F (negatedOf c)) .rows
+    sides-same : (a : ℕ) (c : Condition) (t e r : Block) (F : State FactSet) → blockFaults E (branch a c t e r) F ≡ []
+        → blockAfter E t (assumed F c) .rows ≡ blockAfter E e (assumed F (negatedOf c)) .rows
     unfolding walkRules.blockFaults
     sides-same a c t e r F q = rows-passed a _ _ (no-first _ _ (no-rest _ _ (no-rest _ _ q)))
 
-    ends-same : (a : ℕ) (c : Condition) (k : ℕ) (t r : Block) (F : State FactSet) → blockFaults T h E (loop a c k t r) F ≡ []
-        → F .rows ≡ blockAfter T h E t (assumed (headState T h E D room a k F) c) .rows
+    ends-same : (a : ℕ) (c : Condition) (t r : Block) (F : State FactSet) → blockFaults E (loop a c t r) F ≡ []
+        → F .rows ≡ blockAfter E t (assumed (atHead (assigned t) F) c) .rows
     unfolding walkRules.blockFaults
-    ends-same a c k t r F q = rows-passed a _ _ (no-first _ _ (no-rest _ _ q))
+    ends-same a c t r F q = rows-passed a _ _ (no-first _ _ (no-rest _ _ q))
 
-    pub block-step : (b : Block) (F : State FactSet) (after : ℕ) (P : Point) → Linked T h f b after → blockFaults T h E b F ≡ []
-        → At T h E D room b F (P .due) (memoryOf P)
+    pub block-step : (b : Block) (F : State FactSet) (after : ℕ) (P : Point) → Linked T h f b after → blockFaults E b F ≡ []
+        → At h E D room b F (P .due) (memoryOf P)
         → Fine (Goal b F after (memoryOf P)) P (step P)
     unfolding walkRules.blockFaults walkRules.blockAfter assigned statementStep
     block-step nil F after P l q i = absurd i
@@ -343,20 +339,20 @@ module _ (T : List ℤ) (h : Sections) (E : Environment) (D : List ℕ) (room : 
         fine-map
         (λ d n w.
         (into (into (into (w .0))), λ z u. w .1 z (among-right z (assigned e) (assigned r) (among-right z (assigned t) (assigned e ++ assigned r) u))))
-        (block-step r (sidesJoined T h E (blockAfter T h E t (assumed F c)) (blockAfter T h E e (assumed F (negatedOf c)))) after P (l .4)
+        (block-step r (sidesJoined E (blockAfter E t (assumed F c)) (blockAfter E e (assumed F (negatedOf c)))) after P (l .4)
         (no-rest _ _ (no-rest _ _ (no-rest _ _ q))) i)
-    block-step (loop a c k t r) F after P l q (inl (w, inl i)) =
-        rw (step-at P a _ _ (i .0) (l .0) (l .1)) (loop-head a c k t r F after l (ends-same a c k t r F q) P w (i .1) (conditionHolds (P .values) c) refl)
-    block-step (loop a c k t r) F after P l q (inl (w, inr i)) =
+    block-step (loop a c t r) F after P l q (inl (w, inl i)) =
+        rw (step-at P a _ _ (i .0) (l .0) (l .1)) (loop-head a c t r F after l (ends-same a c t r F q) P w (i .1) (conditionHolds (P .values) c) refl)
+    block-step (loop a c t r) F after P l q (inl (w, inr i)) =
         fine-map
         (λ d n x. (
-          loop-out a c k t r F after l (ends-same a c k t r F q) d n (framed-step a c k t r F after l (ends-same a c k t r F q) (memoryOf P) n w (x .1)) (x .0),
+          loop-out a c t r F after l (ends-same a c t r F q) d n (framed-step a c t r F after l (ends-same a c t r F q) (memoryOf P) n w (x .1)) (x .0),
           λ z u. x .1 z (among-left z (assigned t) (assigned r) u),
         ))
-        (block-step t (assumed (headState T h E D room a k F) c) a P (l .3) (no-first _ _ q) i)
-    block-step (loop a c k t r) F after P l q (inr i) =
+        (block-step t (assumed (atHead (assigned t) F) c) a P (l .2) (no-first _ _ q) i)
+    block-step (loop a c t r) F after P l q (inr i) =
         fine-map (λ d n w. (into (w .0), λ z u. w .1 z (among-right z (assigned t) (assigned r) u)))
-        (block-step r (assumed (headState T h E D room a k F) (negatedOf c)) after P (l .4) (no-rest _ _ (no-rest _ _ q)) i)
+        (block-step r (assumed (atHead (assigned t) F) (negatedOf c)) after P (l .3) (no-rest _ _ (no-rest _ _ q)) i)
     block-step (bundle a ss r) F after P l q (inl i) =
         let next = lead (a + 1) (length ss) (entry r after) in
         let shown = bounds-passed a _ (no-first _ _ (no-rest _ _ q)) in

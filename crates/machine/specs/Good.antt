@@ -32,7 +32,7 @@ use Rattle.machine.specs.Soundness.{Placed, Apart}
 -- is placed in a memory of `room` cells.
 pub record Setting (T : List ℤ) (h : Sections) (E : Environment) (D : List ℕ) (room : ℕ) : Type 0 where
   pub laid : layout T h ≡ []
-  pub walked : blockFaults T h E (tree T h) newState ≡ []
+  pub walked : blockFaults E (tree T h) newState ≡ []
   pub declares : Declares T h E
   pub pairs : length D ≡ 2 * h .objects
   pub placed : (o : ℕ) → o < h .objects → Placed E D room o

@@ -13,10 +13,9 @@ use Rattle.statements.specs.Statements.{statementAt}
 use Rattle.statements.specs.declared.Simple.{Simple}
 use Rattle.statements.specs.declared.Statement.the-variants.{Plain, If, While, Bundle}
 use Rattle.statements.specs.declared.StatementRead.the-variants.{Read}
-use Rattle.blocks.specs.Tree.{Block, nil, plain, branch, loop, bundle, unread, assigned, targetsFrom}
+use Rattle.blocks.specs.Tree.{Block, nil, plain, branch, loop, bundle, unread, assigned}
 use Rattle.blocks.specs.Flow.{Successors, successors, entry, lead}
-use Rattle.blocks.specs.Shape.{size, Numbered, Formed, ReadsLine, Reads, RightLine, Right}
-use Rattle.blocks.specs.ShapeLaws.{body-targets}
+use Rattle.blocks.specs.Shape.{size, ReadsLine, Reads, RightLine, Right}
 use Rattle.rules.specs.FactSets.{State}
 use Rattle.rules.specs.Stored.{effect, sidesJoined, boundsAfter, stateAfter, assumed, atHead, declaredIn, bundleAfter, blockAfter}
 use Rattle.rules.specs.FactsTrue.{Agree}
@@ -25,7 +24,7 @@ use Rattle.rules.specs.declared.Environment.{Environment}
 use Rattle.machine.specs.Machine.{value, Memory}
 use Rattle.machine.specs.Good.{Good}
 
--- ---- a block in its place: each node is the record of its number, has the successors of the flow, and a loop drops what its body assigns
+-- ---- a block in its place: each node is the record of its number and has the successors of the flow
 
 module _ (T : List ℤ) (h : Sections) (f : ℕ → Successors) where
   abbrev pub LinkedLine : ℕ → List Simple → ℕ → Type 0
@@ -40,9 +39,8 @@ module _ (T : List ℤ) (h : Sections) (f : ℕ → Successors) where
   Linked (branch a c t e r) after =
       (statementAt T h a ≡ Read (If c (size t) (size e))) × (f a ≡ successors a (entry t (entry r after)) (entry e (entry r after)))
       × Linked t (entry r after) × Linked e (entry r after) × Linked r after
-  Linked (loop a c n t r) after =
-      (statementAt T h a ≡ Read (While c (size t))) × (f a ≡ successors a (entry t a) (entry r after))
-      × (assigned t ≡ targetsFrom T h (a + 1) n) × Linked t a × Linked r after
+  Linked (loop a c t r) after =
+      (statementAt T h a ≡ Read (While c (size t))) × (f a ≡ successors a (entry t a) (entry r after)) × Linked t a × Linked r after
   Linked (bundle a ss r) after =
       (statementAt T h a ≡ Read (Bundle (length ss)))
       × (f a ≡ successors a (lead (a + 1) (length ss) (entry r after)) (lead (a + 1) (length ss) (entry r after)))
@@ -53,30 +51,25 @@ module _ (T : List ℤ) (h : Sections) (f : ℕ → Successors) where
   linked-line a [] after r l = tt
   linked-line a (s ∷ ss) after r l = (r .0, l .0, linked-line (a + 1) ss after (r .1) (l .1))
 
-  pub linked : (b : Block) (lo d after : ℕ) → Numbered b lo → Formed d b → Reads T h b → Right f b after → Linked b after
-  linked nil lo d after n w r l = tt
-  linked (plain a s u) lo d after n w r l = (r .0, l .0, linked u (a + 1) d after (n .1) (w .1) (r .1) (l .1))
-  linked (branch a c t e u) lo d after n w r l = (
-    r .0,
-    l .0,
-    linked t (a + 1) (d + 1) (entry u after) (n .1) (w .1) (r .1) (l .1),
-    linked e (a + 1 + size t) (d + 1) (entry u after) (n .2) (w .2) (r .2) (l .2),
-    linked u (a + 1 + size t + size e) d after (n .3) (w .3) (r .3) (l .3),
-  )
-  linked (loop a c k t u) lo d after n w r l = (
-    r .0,
-    l .0,
-    body-targets T h t a k (n .1) (r .1) (w .1),
-    linked t (a + 1) (d + 1) a (n .1) (w .2) (r .1) (l .1),
-    linked u (a + 1 + size t) d after (n .2) (w .3) (r .2) (l .2),
-  )
-  linked (bundle a ss u) lo d after n w r l =
-      (r .0, l .0, linked-line (a + 1) ss (entry u after) (r .1) (l .1), linked u (a + 1 + length ss) d after (n .1) (w .3) (r .2) (l .2))
-  linked (unread a) lo d after n w r l = absurd r
+  pub linked : (b : Block) (after : ℕ) → Reads T h b → Right f b after → Linked b after
+  linked nil after r l = tt
+  linked (plain a s u) after r l = (r .0, l .0, linked u after (r .1) (l .1))
+  linked (branch a c t e u) after r l =
+      (r .0, l .0, linked t (entry u after) (r .1) (l .1), linked e (entry u after) (r .2) (l .2), linked u after (r .3) (l .3))
+  linked (loop a c t u) after r l = (r .0, l .0, linked t a (r .1) (l .1), linked u after (r .2) (l .2))
+  linked (bundle a ss u) after r l = (r .0, l .0, linked-line (a + 1) ss (entry u after) (r .1) (l .1), linked u after (r .2) (l .2))
+  linked (unread a) after r l = absurd r
 
 -- ---- the places
 
-module _ (T : List ℤ) (h : Sections) (E : Environment) (D : List ℕ) (room : ℕ) where
+-- Some values made F true before the loop, and those now differ from them only at what the body assigns.
+pub record Framed (A : List ℕ) (F : FactSet) (m : Memory) : Type 0 where
+  pub old : ℕ → ℕ
+  pub held : Holds F old
+  pub range : InRange old
+  pub agree : Agree A old (value (m .values))
+
+module _ (h : Sections) (E : Environment) (D : List ℕ) (room : ℕ) where
   -- The statement a is due, and F and K are true.
   abbrev pub Stands : ℕ → State FactSet → List Bounds → ℕ → Memory → Type 0
   Stands a F K d m = (d ≡ a) × Good h E D room F K m
@@ -85,17 +78,6 @@ module _ (T : List ℤ) (h : Sections) (E : Environment) (D : List ℕ) (room : 
   abbrev pub AtLine : ℕ → List Simple → State FactSet → List Bounds → ℕ → Memory → Type 0
   AtLine a [] F K d m = ⊥
   AtLine a (s ∷ ss) F K d m = Stands a F K d m ⊎ AtLine (a + 1) ss (stateAfter s F) (boundsAfter (effect E (F .facts) s) K) d m
-
-  -- Some values made F true before the loop, and those now differ from them only at what the body assigns.
-  pub record Framed (A : List ℕ) (F : FactSet) (m : Memory) : Type 0 where
-    pub old : ℕ → ℕ
-    pub held : Holds F old
-    pub range : InRange old
-    pub agree : Agree A old (value (m .values))
-
-  -- What holds at the head of a loop.
-  abbrev pub headState : ℕ → ℕ → State FactSet → State FactSet
-  headState a n F = atHead (targetsFrom T h (a + 1) n) F
 
   -- At a statement outside a bundle: the known bounds are the declared ones.
   abbrev pub StandsAt : ℕ → State FactSet → ℕ → Memory → Type 0
@@ -109,9 +91,9 @@ module _ (T : List ℤ) (h : Sections) (E : Environment) (D : List ℕ) (room : 
       StandsAt a F d m
       ⊎ (At t (assumed F c) d m
       ⊎ (At e (assumed F (negatedOf c)) d m
-      ⊎ At r (sidesJoined T h E (blockAfter T h E t (assumed F c)) (blockAfter T h E e (assumed F (negatedOf c)))) d m))
-  At (loop a c n t r) F d m =
-      (Framed (targetsFrom T h (a + 1) n) (F .facts) m × (StandsAt a (headState a n F) d m ⊎ At t (assumed (headState a n F) c) d m))
-      ⊎ At r (assumed (headState a n F) (negatedOf c)) d m
+      ⊎ At r (sidesJoined E (blockAfter E t (assumed F c)) (blockAfter E e (assumed F (negatedOf c)))) d m))
+  At (loop a c t r) F d m =
+      (Framed (assigned t) (F .facts) m × (StandsAt a (atHead (assigned t) F) d m ⊎ At t (assumed (atHead (assigned t) F) c) d m))
+      ⊎ At r (assumed (atHead (assigned t) F) (negatedOf c)) d m
   At (bundle a ss r) F d m = StandsAt a F d m ⊎ (AtLine (a + 1) ss F (declaredIn E F) d m ⊎ At r (bundleAfter ss F) d m)
   At (unread a) F d m = ⊥

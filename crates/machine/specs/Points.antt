@@ -26,7 +26,7 @@ unfoldable pub inBundle : Block → ℕ → Bool
 inBundle nil d = false
 inBundle (plain a s r) d = inBundle r d
 inBundle (branch a c t e r) d = inBundle t d || (inBundle e d || inBundle r d)
-inBundle (loop a c n t r) d = inBundle t d || inBundle r d
+inBundle (loop a c t r) d = inBundle t d || inBundle r d
 inBundle (bundle a ss r) d = (ltb a d && ltb d (a + 1 + length ss)) || inBundle r d
 inBundle (unread a) d = false
 

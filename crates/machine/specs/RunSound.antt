@@ -60,20 +60,20 @@ module _ (T : List ℤ) (h : Sections) (E : Environment) (D : List ℕ) (room : 
   -- What the proof carries from point to point: the place in the tree with its facts and bounds, or the end of the table.
   pub record Invariant (P : Point) : Type 0 where
     pub has-step : P .status ≢ stuck
-    pub place : At T h E D room (tree T h) newState (P .due) (memoryOf P)
-        ⊎ StandsAt T h E D room (h .statements) (blockAfter T h E (tree T h) newState) (P .due) (memoryOf P)
+    pub place : At h E D room (tree T h) newState (P .due) (memoryOf P)
+        ⊎ StandsAt h E D room (h .statements) (blockAfter E (tree T h) newState) (P .due) (memoryOf P)
 
   module _ (S : Setting T h E D room) where
     links : Linked T h (successorsOf T h E D) (tree T h) (h .statements)
     links =
         let l = table-laid T h (S .laid) in
-        linked T h (successorsOf T h E D) (tree T h) 0 0 (h .statements) (l .numbered) (l .formed) (l .reads) (flow-right T h (S .laid) (successors 0 0 0))
+        linked T h (successorsOf T h E D) (tree T h) (h .statements) (l .reads) (flow-right T h (S .laid) (successors 0 0 0))
 
     -- ---- the invariant is kept
 
     abbrev Next : Memory → ℕ → Memory → Type 0
     Next m d n =
-        (At T h E D room (tree T h) newState d n ⊎ StandsAt T h E D room (h .statements) (blockAfter T h E (tree T h) newState) d n)
+        (At h E D room (tree T h) newState d n ⊎ StandsAt h E D room (h .statements) (blockAfter E (tree T h) newState) d n)
         × Agree (assigned (tree T h)) (value (m .values)) (value (n .values))
 
     fine-kept : (P Q : Point) → Invariant P → Fine (Next (memoryOf P)) P Q → Invariant Q
@@ -84,8 +84,8 @@ module _ (T : List ℤ) (h : Sections) (E : Environment) (D : List ℕ) (room : 
     due-kept P i false q = i
     due-kept P i true q = go (i .place)
       where
-        go : At T h E D room (tree T h) newState (P .due) (memoryOf P)
-            ⊎ StandsAt T h E D room (h .statements) (blockAfter T h E (tree T h) newState) (P .due) (memoryOf P)
+        go : At h E D room (tree T h) newState (P .due) (memoryOf P)
+            ⊎ StandsAt h E D room (h .statements) (blockAfter E (tree T h) newState) (P .due) (memoryOf P)
             → Invariant (statementStep E D (statementAt T h (P .due)) (successorsOf T h E D (P .due)) P)
         go (inl x) = fine-kept P _ i (block-step T h E D room S (successorsOf T h E D) (tree T h) newState (h .statements) P links (S .walked) x)
         go (inr x) = absurd (omega (arith, ltb-true (P .due) (h .statements) q, x .0))
@@ -116,13 +116,13 @@ module _ (T : List ℤ) (h : Sections) (E : Environment) (D : List ℕ) (room : 
 
     abbrev Somewhere : Point → Type 0
     Somewhere P = Standing T h E D room (tree T h) (P .due) (memoryOf P)
-        ⊎ ((P .due ≡ h .statements) × Good h E D room (blockAfter T h E (tree T h) newState) (declaredIn E (blockAfter T h E (tree T h) newState)) (memoryOf P))
+        ⊎ ((P .due ≡ h .statements) × Good h E D room (blockAfter E (tree T h) newState) (declaredIn E (blockAfter E (tree T h) newState)) (memoryOf P))
 
     somewhere : (P : Point) → Invariant P → Somewhere P
     somewhere P i = go (i .place)
       where
-        go : At T h E D room (tree T h) newState (P .due) (memoryOf P)
-            ⊎ StandsAt T h E D room (h .statements) (blockAfter T h E (tree T h) newState) (P .due) (memoryOf P)
+        go : At h E D room (tree T h) newState (P .due) (memoryOf P)
+            ⊎ StandsAt h E D room (h .statements) (blockAfter E (tree T h) newState) (P .due) (memoryOf P)
             → Somewhere P
         go (inl x) = inl (standing T h E D room S (successorsOf T h E D) (tree T h) newState (h .statements) (P .due) (memoryOf P) links (S .walked) x)
         go (inr x) = inr x
@@ -147,7 +147,7 @@ module _ (T : List ℤ) (h : Sections) (E : Environment) (D : List ℕ) (room : 
     bounds-of : (P : Point) → Somewhere P → inBundle (tree T h) (P .due) ≡ false → (p : ℕ) → isPointer E p ≡ true
         → boundsTrue (inForce E (P .rows)) D (P .values) (P .origins) p ≡ true
     bounds-of P (inl w) e p t = bounds-at (w .state) (memoryOf P) p t (w .declared e)
-    bounds-of P (inr w) e p t = bounds-at (blockAfter T h E (tree T h) newState) (memoryOf P) p t (w .1)
+    bounds-of P (inr w) e p t = bounds-at (blockAfter E (tree T h) newState) (memoryOf P) p t (w .1)
 
     -- The access of a statement that is due, where no check fails.
     access-right : (m : Memory) (origin a : ℕ) → Steady h room m → Inside D (h .objects) origin a → AccessRight D (length (m .cells)) a origin
@@ -269,14 +269,14 @@ module _ (T : List ℤ) (h : Sections) (formed : formOf T ≡ WellFormed h) (acc
   point t = pointAfter T h E D t (start T h E D cs vs os)
 
   -- The facts before a statement that is due do not contradict, by the store.
-  due-consistent : (t : ℕ) → point t .due < h .statements → contradictory (stateBefore store T h E (tree T h) newState (point t .due) .facts) ≡ false
+  due-consistent : (t : ℕ) → point t .due < h .statements → contradictory (stateBefore store E (tree T h) newState (point t .due) .facts) ≡ false
   due-consistent t l = go (point-kept T h E D (length cs) begun-setting t (start T h E D cs vs os) begun-invariant .place)
     where
-      go : At T h E D (length cs) (tree T h) newState (point t .due) (memoryOf (point t))
-          ⊎ Stands T h E D (length cs) (h .statements) (blockAfter T h E (tree T h) newState) (declaredIn E (blockAfter T h E (tree T h) newState))
+      go : At h E D (length cs) (tree T h) newState (point t .due) (memoryOf (point t))
+          ⊎ Stands h E D (length cs) (h .statements) (blockAfter E (tree T h) newState) (declaredIn E (blockAfter E (tree T h) newState))
           (point t .due) (memoryOf (point t))
-          → contradictory (stateBefore store T h E (tree T h) newState (point t .due) .facts) ≡ false
-      go (inl x) = consistent T h E D (length cs) (tree T h) 0 newState (point t .due) (memoryOf (point t)) (table-laid T h (begun-setting .laid) .numbered) x
+          → contradictory (stateBefore store E (tree T h) newState (point t .due) .facts) ≡ false
+      go (inl x) = consistent h E D (length cs) (tree T h) 0 newState (point t .due) (memoryOf (point t)) (table-laid T h (begun-setting .laid) .numbered) x
       go (inr x) = absurd (omega (arith, x .0))
 
   abbrev vars : Variables
@@ -284,11 +284,11 @@ module _ (T : List ℤ) (h : Sections) (formed : formOf T ≡ WellFormed h) (acc
 
   -- A statement whose facts contradict is never due, by the paper's chains. (Point 11 walks it like any other, and no run comes to it.)
   pub never-due : (d : Decider) → DecidesTable T d → (t : ℕ) → point t .due < h .statements
-      → Contradiction (known vars (stateBefore (byChains d) T h E (tree T h) (walkRules.newState (byChains d)) (point t .due) .facts)) → ⊥
+      → Contradiction (known vars (stateBefore (byChains d) E (tree T h) (walkRules.newState (byChains d)) (point t .due) .facts)) → ⊥
   never-due d decides t l c =
       let w = well-formed T h formed .limits in
       let r = before-represented T h w d (decides h w formed) (tree T h) (point t .due) (table-laid T h (begun-setting .laid) .reads)
       (new-represented vars d) in
-      let m = contradicts-exactly vars (stateBefore (byChains d) T h E (tree T h) (walkRules.newState (byChains d)) (point t .due) .facts)
+      let m = contradicts-exactly vars (stateBefore (byChains d) E (tree T h) (walkRules.newState (byChains d)) (point t .due) .facts)
       (r .represents .legal) .1 c in
       false≢true (sym (due-consistent t l) ∙ (ap (λ (f : FactSet). f .contradiction) (sym (r .represents .same)) ∙ m))

@@ -19,11 +19,12 @@ use Rattle.statements.specs.declared.Simple.{Simple}
 use Rattle.statements.specs.declared.Statement.{Statement}
 use Rattle.statements.specs.declared.Statement.the-variants.{Plain, If, While, Bundle}
 use Rattle.statements.specs.declared.StatementRead.the-variants.{Read}
-use Rattle.blocks.specs.Tree.{Block, nil, plain, branch, loop, bundle, unread}
+use Rattle.blocks.specs.Tree.{Block, nil, plain, branch, loop, bundle, unread, assigned}
 use Rattle.blocks.specs.Flow.{Successors, entry}
 use Rattle.blocks.specs.Shape.{size}
 use Rattle.rules.specs.FactSets.{State}
-use Rattle.rules.specs.Stored.{effect, bundleFaults, sidesJoined, blockFaults, boundsAfter, stateAfter, assumed, accessIn, declaredIn, bundleAfter, blockAfter}
+use Rattle.rules.specs.Stored.{effect, bundleFaults, sidesJoined, blockFaults, boundsAfter}
+use Rattle.rules.specs.Stored.{stateAfter, assumed, atHead, accessIn, declaredIn, bundleAfter, blockAfter}
 use Rattle.rules.specs.FactsTrue.{neither}
 use Rattle.rules.specs.BoundsRules.{inForce}
 use Rattle.blocks.specs.LayoutLaws.{no-first, no-rest}
@@ -35,7 +36,7 @@ use Rattle.machine.specs.Points.{inBundle}
 use Rattle.machine.specs.Good.{Setting, Good}
 use Rattle.machine.specs.AccessSound.{Ready}
 use Rattle.machine.specs.BlockSound.{ready-inside, ready-outside}
-use Rattle.machine.specs.Places.{LinkedLine, Linked, AtLine, At, headState}
+use Rattle.machine.specs.Places.{LinkedLine, Linked, AtLine, At}
 use Rattle.rules.specs.Rules as walkRules
 
 module _ (T : List ℤ) (h : Sections) (E : Environment) (D : List ℕ) (room : ℕ) where
@@ -76,7 +77,7 @@ module _ (T : List ℤ) (h : Sections) (E : Environment) (D : List ℕ) (room : 
 
     standing-line : (a : ℕ) (ss : List Simple) (F : State FactSet) (K : List Bounds) (after d : ℕ) (m : Memory) → LinkedLine T h f a ss after
         → bundleFaults E a ss F K ≡ []
-        → AtLine T h E D room a ss F K d m → StandingLine a (length ss) d m
+        → AtLine h E D room a ss F K d m → StandingLine a (length ss) d m
     unfolding walkRules.bundleFaults
     standing-line a [] F K after d m l q i = absurd i
     standing-line a (s ∷ ss) F K after d m l q (inl i) =
@@ -120,7 +121,7 @@ module _ (T : List ℤ) (h : Sections) (E : Environment) (D : List ℕ) (room : 
               absurd (false≢true (sym t));
         }
 
-    pub standing : (b : Block) (F : State FactSet) (after d : ℕ) (m : Memory) → Linked T h f b after → blockFaults T h E b F ≡ [] → At T h E D room b F d m
+    pub standing : (b : Block) (F : State FactSet) (after d : ℕ) (m : Memory) → Linked T h f b after → blockFaults E b F ≡ [] → At h E D room b F d m
         → Standing b d m
     unfolding walkRules.blockFaults inBundle
     standing nil F after d m l q i = absurd i
@@ -136,16 +137,16 @@ module _ (T : List ℤ) (h : Sections) (E : Environment) (D : List ℕ) (room : 
         (standing e (assumed F (negatedOf c)) (entry r after) d m (l .3) (no-first _ _ (no-rest _ _ q)) i)
     standing (branch a c t e r) F after d m l q (inr (inr (inr i))) =
         widened r (branch a c t e r) d m (λ u. neither (inBundle e d) (inBundle r d) (neither (inBundle t d) (inBundle e d || inBundle r d) u .1) .1)
-        (standing r (sidesJoined T h E (blockAfter T h E t (assumed F c)) (blockAfter T h E e (assumed F (negatedOf c)))) after d m (l .4)
+        (standing r (sidesJoined E (blockAfter E t (assumed F c)) (blockAfter E e (assumed F (negatedOf c)))) after d m (l .4)
         (no-rest _ _ (no-rest _ _ (no-rest _ _ q))) i)
-    standing (loop a c k t r) F after d m l q (inl (w, inl i)) =
-        standing-here (loop a c k t r) a d (While c (size t)) (headState T h E D room a k F) m (l .0) (i .0) (i .1)
-    standing (loop a c k t r) F after d m l q (inl (w, inr i)) =
-        widened t (loop a c k t r) d m (λ u. neither (inBundle t d) (inBundle r d) u .0)
-        (standing t (assumed (headState T h E D room a k F) c) a d m (l .3) (no-first _ _ q) i)
-    standing (loop a c k t r) F after d m l q (inr i) =
-        widened r (loop a c k t r) d m (λ u. neither (inBundle t d) (inBundle r d) u .1)
-        (standing r (assumed (headState T h E D room a k F) (negatedOf c)) after d m (l .4) (no-rest _ _ (no-rest _ _ q)) i)
+    standing (loop a c t r) F after d m l q (inl (w, inl i)) =
+        standing-here (loop a c t r) a d (While c (size t)) (atHead (assigned t) F) m (l .0) (i .0) (i .1)
+    standing (loop a c t r) F after d m l q (inl (w, inr i)) =
+        widened t (loop a c t r) d m (λ u. neither (inBundle t d) (inBundle r d) u .0)
+        (standing t (assumed (atHead (assigned t) F) c) a d m (l .2) (no-first _ _ q) i)
+    standing (loop a c t r) F after d m l q (inr i) =
+        widened r (loop a c t r) d m (λ u. neither (inBundle t d) (inBundle r d) u .1)
+        (standing r (assumed (atHead (assigned t) F) (negatedOf c)) after d m (l .3) (no-rest _ _ (no-rest _ _ q)) i)
     standing (bundle a ss r) F after d m l q (inl i) = standing-here (bundle a ss r) a d (Bundle (length ss)) F m (l .0) (i .0) (i .1)
     standing (bundle a ss r) F after d m l q (inr (inl i)) =
         standing-inside a ss r d m (standing-line (a + 1) ss F (declaredIn E F) (entry r after) d m (l .2) (no-first _ _ q) i)

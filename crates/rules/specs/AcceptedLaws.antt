@@ -27,7 +27,7 @@ accepted-clear (r ∷ xs) a e = cc
 pub record Clear (T : List ℤ) (h : Sections) : Type 0 where
   pub form : formOf T ≡ form.WellFormed h
   pub laid : layout T h ≡ []
-  pub walked : blockFaults T h (environmentOf T h) (tree T h) newState ≡ []
+  pub walked : blockFaults (environmentOf T h) (tree T h) newState ≡ []
 
 -- A table without a fault is well formed and laid out, and its walk has no fault.
 pub clear : (T : List ℤ) (h : Sections) → formOf T ≡ form.WellFormed h → faults T ≡ [] → Clear T h

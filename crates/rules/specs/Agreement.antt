@@ -274,8 +274,8 @@ module _ (T : List ℤ) (h : Sections) (w : Formed T h) (q : Decider) (right : D
   -- ---- a block
 
   record BlockAgrees (b : Block) (U : State History) (W : State FactSet) : Type 0 where
-    faults : SameFirst (blockFaults store T h E b W) (blockFaults (byChains q) T h E b U)
-    represents : blockFaults store T h E b W ≡ [] → StateRepresents vars (blockAfter (byChains q) T h E b U) (blockAfter store T h E b W)
+    faults : SameFirst (blockFaults store E b W) (blockFaults (byChains q) E b U)
+    represents : blockFaults store E b W ≡ [] → StateRepresents vars (blockAfter (byChains q) E b U) (blockAfter store E b W)
 
   bounds-fault : (a : ℕ) {ps qs : List ℕ} → ps ≡ qs → SameFirst (boundsAt a ps) (boundsAt a qs)
   bounds-fault a {ps} {qs} e = same-of _ _ (ap (boundsAt a) e)
@@ -326,13 +326,13 @@ module _ (T : List ℤ) (h : Sections) (w : Formed T h) (q : Decider) (right : D
             (meets T h (w .limits) q right (i .represents (no-first _ _ z)) (j .represents (no-first _ _ e))) .represents (no-rest _ _ (no-rest _ _ e));
       }
 
-  loop-agrees : (a : ℕ) (c : Condition) (n : ℕ) (x u : Block) {U : State History} {W : State FactSet} → StateRepresents vars U W
+  loop-agrees : (a : ℕ) (c : Condition) (x u : Block) {U : State History} {W : State FactSet} → StateRepresents vars U W → Reads T h x
       → Sides T h (c .left) (c .right) (c .offset)
       → ((U : State History) (W : State FactSet) → StateRepresents vars U W → BlockAgrees x U W)
-      → ((U : State History) (W : State FactSet) → StateRepresents vars U W → BlockAgrees u U W) → BlockAgrees (loop a c n x u) U W
+      → ((U : State History) (W : State FactSet) → StateRepresents vars U W → BlockAgrees u U W) → BlockAgrees (loop a c x u) U W
   unfolding blockFaults blockAfter
-  loop-agrees a c n x u {U} {W} t s body rest =
-      let l = state-at-head T h (w .limits) q right t (a + 1) n in
+  loop-agrees a c x u {U} {W} t r s body rest =
+      let l = state-at-head T h (w .limits) q right t x r in
       let i = body _ _ (state-assumed T h (w .limits) q right l c s) in
       record {
         faults = same-also _ _ _ _ (i .faults) (λ z₁.
@@ -351,9 +351,9 @@ module _ (T : List ℤ) (h : Sections) (w : Formed T h) (q : Decider) (right : D
       let s = read-typed T h a (If c (size x) (size y)) (r .0) .condition .sides in
       branch-agrees a c x y u t (block-agrees (d + 1) x (o .1) (r .1) (state-assumed T h (w .limits) q right t c s))
       (block-agrees (d + 1) y (o .2) (r .2) (state-negated T h (w .limits) q right t c s)) (λ U W t′. block-agrees d u (o .3) (r .3) t′)
-  block-agrees d (loop a c n x u) o r t =
-      loop-agrees a c n x u t (read-typed T h a (While c (size x)) (r .0) .condition .sides) (λ U W t′. block-agrees (d + 1) x (o .2) (r .1) t′)
-      (λ U W t′. block-agrees d u (o .3) (r .2) t′)
+  block-agrees d (loop a c x u) o r t =
+      loop-agrees a c x u t (r .1) (read-typed T h a (While c (size x)) (r .0) .condition .sides) (λ U W t′. block-agrees (d + 1) x (o .1) (r .1) t′)
+      (λ U W t′. block-agrees d u (o .2) (r .2) t′)
   block-agrees d (bundle a ss u) {U} {W} o r t =
       bundle-agrees a ss u (o .2) (line-agrees 0 (a + 1) ss (declaredIn store E W) (omega (arith, o .2)) (r .1) (declared-fair T h w (W .rows)) t) t
       (λ t′. block-agrees d u (o .3) (r .2) t′)

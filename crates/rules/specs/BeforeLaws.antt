@@ -39,7 +39,7 @@ module _ (T : List ℤ) (h : Sections) (w : Limits h) (q : Decider) (right : Dec
   line-represented a (s ∷ ss) r t = line-represented (a + 1) ss (r .1) (state-after T h w q right t s (read-typed T h a (Plain s) (r .0)))
 
   block-represented : (b : Block) {U : State History} {W : State FactSet} → Reads T h b → StateRepresents vars U W
-      → StateRepresents vars (blockAfter (byChains q) T h E b U) (blockAfter store T h E b W)
+      → StateRepresents vars (blockAfter (byChains q) E b U) (blockAfter store E b W)
   unfolding blockAfter
   block-represented nil r t = t
   block-represented (plain a s u) r t = block-represented u (r .1) (state-after T h w q right t s (read-typed T h a (Plain s) (r .0)))
@@ -47,9 +47,9 @@ module _ (T : List ℤ) (h : Sections) (w : Limits h) (q : Decider) (right : Dec
       let s = read-typed T h a (If c (size x) (size y)) (r .0) .condition .sides in
       block-represented u (r .3)
       (meets T h w q right (block-represented x (r .1) (state-assumed T h w q right t c s)) (block-represented y (r .2) (state-negated T h w q right t c s)))
-  block-represented (loop a c n x u) r t =
+  block-represented (loop a c x u) r t =
       let s = read-typed T h a (While c (size x)) (r .0) .condition .sides in
-      block-represented u (r .2) (state-negated T h w q right (state-at-head T h w q right t (a + 1) n) c s)
+      block-represented u (r .2) (state-negated T h w q right (state-at-head T h w q right t x (r .1)) c s)
   block-represented (bundle a ss u) r t = block-represented u (r .2) (line-represented (a + 1) ss (r .1) t)
   block-represented (unread a) r t = absurd r
 
@@ -62,7 +62,7 @@ module _ (T : List ℤ) (h : Sections) (w : Limits h) (q : Decider) (right : Dec
   line-before a (s ∷ ss) d r t = either (eqb d a) t (line-before (a + 1) ss d (r .1) (state-after T h w q right t s (read-typed T h a (Plain s) (r .0))))
 
   pub before-represented : (b : Block) (d : ℕ) {U : State History} {W : State FactSet} → Reads T h b → StateRepresents vars U W
-      → StateRepresents vars (stateBefore (byChains q) T h E b U d) (stateBefore store T h E b W d)
+      → StateRepresents vars (stateBefore (byChains q) E b U d) (stateBefore store E b W d)
   unfolding stateBefore
   before-represented nil d r t = t
   before-represented (plain a s u) d r t =
@@ -75,9 +75,9 @@ module _ (T : List ℤ) (h : Sections) (w : Limits h) (q : Decider) (right : Dec
       (either (ltb d (a + 1 + size x)) (before-represented x d (r .1) then)
       (either (ltb d (a + 1 + size x + size y)) (before-represented y d (r .2) other)
       (before-represented u d (r .3) (meets T h w q right (block-represented x (r .1) then) (block-represented y (r .2) other)))))
-  before-represented (loop a c n x u) d r t =
+  before-represented (loop a c x u) d r t =
       let s = read-typed T h a (While c (size x)) (r .0) .condition .sides in
-      let head = state-at-head T h w q right t (a + 1) n in
+      let head = state-at-head T h w q right t x (r .1) in
       either (eqb d a) t
       (either (ltb d (a + 1 + size x)) (before-represented x d (r .1) (state-assumed T h w q right head c s))
       (before-represented u d (r .2) (state-negated T h w q right head c s)))

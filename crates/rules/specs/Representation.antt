@@ -2,7 +2,7 @@
 -- legal.
 use Prim.Native.Nat.{ℕ, zero, suc, _+_, _-_, _^_, _≤_, _<_}
 use mathlib.Core.Path.{_≡_, refl, sym, ap, ap₂, _∙_}
-use mathlib.Core.Logic.{_⊎_, inl, inr, ⊎-elim, _↔_}
+use mathlib.Core.Logic.{inl, inr, _↔_}
 use mathlib.Core.Bool.{Bool, true, false, _||_, _&&_, false≢true, cond}
 use mathlib.Core.List.{List, [], _∷_, _++_}
 use native.Mathlib.Omega.{arith}
@@ -27,16 +27,14 @@ use Rattle.words.specs.declared.sections.Sections.{Sections}
 use Rattle.conditions.specs.Conditions.{negatedOf}
 use Rattle.conditions.specs.Typed.{Sides, integers, pointers, literal, null}
 use Rattle.conditions.specs.declared.Condition.{Condition}
-use Rattle.statements.specs.Statements.{statementAt}
 use Rattle.statements.specs.StatementLaws.{read-typed}
 use Rattle.statements.specs.Typed.{SimpleTyped}
 use Rattle.statements.specs.declared.Simple.{Simple}
 use Rattle.statements.specs.declared.Simple.the-variants.{Literal, AddConstant, Arithmetic, Null, Address}
 use Rattle.statements.specs.declared.Simple.the-variants.{PointerOffset, PointerIndex, Load, Store, Check, Declare}
-use Rattle.statements.specs.declared.Statement.the-variants.{Plain, If, While, Bundle}
-use Rattle.statements.specs.declared.StatementRead.{StatementRead}
-use Rattle.statements.specs.declared.StatementRead.the-variants.{Read, Unread}
-use Rattle.blocks.specs.Tree.{targetOf, targetsFrom, target}
+use Rattle.statements.specs.declared.Statement.the-variants.{Plain}
+use Rattle.blocks.specs.Tree.{Block, nil, plain, branch, loop, bundle, unread, target, targets, assigned}
+use Rattle.blocks.specs.Shape.{ReadsLine, Reads}
 use Rattle.rules.specs.FactRules.{among, inRange, equated, positive, differs, relationFacts, conditionFacts}
 use Rattle.rules.specs.FactRules.{sumFacts, offsetFacts, factsAfter, droppedEach, loopFacts}
 use Rattle.rules.specs.Stored.{store}
@@ -216,15 +214,16 @@ module _ (T : List ℤ) (h : Sections) (w : Limits h) where
 
   -- ---- the targets of a loop's body are variables
 
-  among-append : (v : ℕ) (xs ys : List ℕ) → among v (xs ++ ys) ≡ true → (among v xs ≡ true) ⊎ (among v ys ≡ true)
+  both-below : {v : ℕ} (xs ys : List ℕ) → (among v xs ≡ true → v < h .variables) → (among v ys ≡ true → v < h .variables) → among v (xs ++ ys) ≡ true
+      → v < h .variables
   unfolding among
-  among-append v [] ys e = inr e
-  among-append v (x ∷ xs) ys e = go (eqb v x) e (λ p. among-append v xs ys p)
+  both-below [] ys p q e = q e
+  both-below {v} (x ∷ xs) ys p q e = go (eqb v x) p e (λ k. both-below xs ys k q)
     where
-      go : (b : Bool) → (b || among v (xs ++ ys)) ≡ true → (among v (xs ++ ys) ≡ true → (among v xs ≡ true) ⊎ (among v ys ≡ true))
-          → ((b || among v xs) ≡ true) ⊎ (among v ys ≡ true)
-      go true e ih = inl refl
-      go false e ih = ih e
+      go : (b : Bool) → ((b || among v xs) ≡ true → v < h .variables) → (b || among v (xs ++ ys)) ≡ true
+          → ((among v xs ≡ true → v < h .variables) → among v (xs ++ ys) ≡ true → v < h .variables) → v < h .variables
+      go true p e ih = p refl
+      go false p e ih = ih p e
 
   one : {v x : ℕ} → x < h .variables → among v (x ∷ []) ≡ true → v < h .variables
   unfolding among
@@ -251,20 +250,23 @@ module _ (T : List ℤ) (h : Sections) (w : Limits h) where
   target-below v (Check c) s e = none e
   target-below v (Declare p r) s e = none e
 
-  read-below : (v a : ℕ) (r : StatementRead) → statementAt T h a ≡ r → among v (targetOf r) ≡ true → v < h .variables
-  read-below v a Unread q e = none e
-  read-below v a (Read (Plain s)) q e = target-below v s (read-typed T h a (Plain s) q) e
-  read-below v a (Read (If c n m)) q e = none e
-  read-below v a (Read (While c n)) q e = none e
-  read-below v a (Read (Bundle n)) q e = none e
+  line-below : (v a : ℕ) (ss : List Simple) → ReadsLine T h a ss → among v (targets ss) ≡ true → v < h .variables
+  unfolding targets
+  line-below v a [] r e = none e
+  line-below v a (s ∷ ss) r e =
+      both-below (target s) (targets ss) (target-below v s (read-typed T h a (Plain s) (r .0))) (line-below v (a + 1) ss (r .1)) e
 
-  targets-below : (v a n : ℕ) → among v (targetsFrom T h a n) ≡ true → v < h .variables
-  unfolding targetsFrom
-  targets-below v a zero e = none e
-  targets-below v a (suc n) e =
-      ⊎-elim (λ (p : among v (targetOf (statementAt T h a)) ≡ true). read-below v a (statementAt T h a) refl p)
-      (λ (p : among v (targetsFrom T h (a + 1) n) ≡ true). targets-below v (a + 1) n p)
-      (among-append v (targetOf (statementAt T h a)) (targetsFrom T h (a + 1) n) e)
+  assigned-below : (v : ℕ) (b : Block) → Reads T h b → among v (assigned b) ≡ true → v < h .variables
+  unfolding assigned
+  assigned-below v nil r e = none e
+  assigned-below v (plain a s u) r e =
+      both-below (target s) (assigned u) (target-below v s (read-typed T h a (Plain s) (r .0))) (assigned-below v u (r .1)) e
+  assigned-below v (branch a c x y u) r e =
+      both-below (assigned x) (assigned y ++ assigned u) (assigned-below v x (r .1))
+      (both-below (assigned y) (assigned u) (assigned-below v y (r .2)) (assigned-below v u (r .3))) e
+  assigned-below v (loop a c x u) r e = both-below (assigned x) (assigned u) (assigned-below v x (r .1)) (assigned-below v u (r .2)) e
+  assigned-below v (bundle a ss u) r e = both-below (targets ss) (assigned u) (line-below v (a + 1) ss (r .1)) (assigned-below v u (r .2)) e
+  assigned-below v (unread a) r e = absurd r
 
   -- ---- conditions and statements
 
@@ -304,6 +306,6 @@ module _ (T : List ℤ) (h : Sections) (w : Limits h) where
     after-represented t (Check d) s = condition-represented t d (s .sides)
     after-represented t (Declare p r) s = t
 
-    pub body-represented : {H : History} {f : FactSet} → Represents vars H f → (a n : ℕ)
-        → Represents vars (loopFacts (byChains q) (targetsFrom T h a n) H) (loopFacts store (targetsFrom T h a n) f)
-    body-represented t a n = represents-loop vars q right (targetsFrom T h a n) (λ v e. targets-below v a n e) t
+    pub body-represented : {H : History} {f : FactSet} → Represents vars H f → (b : Block) → Reads T h b
+        → Represents vars (loopFacts (byChains q) (assigned b) H) (loopFacts store (assigned b) f)
+    body-represented t b r = represents-loop vars q right (assigned b) (λ v e. assigned-below v b r e) t

@@ -20,7 +20,7 @@ use Rattle.table.specs.Form.{lowestObject, lowestVariable, lowestStatement, ite
 use Rattle.blocks.specs.Layout.{also, when, contents, bundleLayout, blockLayout, layout}
 use Rattle.blocks.specs.Parts.{verdict}
 use Rattle.blocks.specs.Shape.{size}
-use Rattle.blocks.specs.Tree.{targetsFrom, simples, parse, tree, targets, assigned}
+use Rattle.blocks.specs.Tree.{simples, parse, tree, targets, assigned}
 use Rattle.rules.specs.BoundsRules.{forgetEnd, forgetBounds, objectBounds, rowBound, rowsAfter, weight, upperLimit}
 use Rattle.rules.specs.Stored.{effect, endAtMost, knownAtMost, boundsShown, unshownFrom, unshown, accessShown, equated, positive, differs}
 use Rattle.rules.specs.Stored.{relationFacts, conditionFacts, sumFacts, offsetFacts, factsAfter, droppedEach, loopFacts, bundleBounds, bundleFaults}
@@ -154,7 +154,7 @@ unfolding routines concatenated leastSum shown withinEnd endShown newRow newSet 
     fieldsAt unusedFrom literalRead addConstantRead arithmeticRead nullRead addressRead pointerOffsetRead pointerIndexRead loadRead storeRead sameKind
     besideLiteral conditionRight rightOf offsetOf conditionOf bundleRead declareRead checkRead ifRead whileRead kindRead statementAt endWordsAt variableWordsAt
     endRight endZero endOf integerRecord isSize sizeOf pointerRecord variableOf variableAt rowWordsAt rowOf rowAt objectCells objectAt biased word indexOf
-    isBelow literalValue isConstant also when contents bundleLayout blockLayout layout verdict size targetsFrom simples parse tree targets assigned forgetEnd
+    isBelow literalValue isConstant also when contents bundleLayout blockLayout layout verdict size simples parse tree targets assigned forgetEnd
     weight shiftConstant boundsRules.shiftEnd forgetBounds boundsRules.shiftBounds objectBounds upperLimit boundsRules.effectOn boundsRules.boundsAfter rowBound
     rowsAfter boundsRules.effect boundsRules.endAtMost boundsRules.knownAtMost boundsRules.boundsShown boundsRules.unshownFrom boundsRules.unshown
     boundsRules.rowUnshown boundsRules.accessShown factRules.equated factRules.positive factRules.differs factRules.relationFacts factRules.conditionFacts

@@ -2,15 +2,13 @@
 use Prim.Native.Nat.{ℕ, _+_}
 use mathlib.Core.Bool.{Bool, true, false, not, _&&_}
 use mathlib.Core.List.{List, [], _∷_}
-use lib.IntN.{ℤ}
 use lib.Dec.{eqb}
 use Rattle.answers.specs.declared.refusals.Refusal.{Refusal}
 use Rattle.answers.specs.declared.refusals.Refusal.the-variants.{StatementRecord, BoundsNotShown, BundleAccess, RowsDiffer}
-use Rattle.words.specs.declared.sections.Sections.{Sections}
 use Rattle.conditions.specs.Conditions.{negatedOf}
 use Rattle.conditions.specs.declared.Condition.{Condition}
 use Rattle.statements.specs.declared.Simple.{Simple}
-use Rattle.blocks.specs.Tree.{Block, nil, plain, branch, loop, bundle, unread, targetsFrom}
+use Rattle.blocks.specs.Tree.{Block, nil, plain, branch, loop, bundle, unread, assigned}
 use Rattle.blocks.specs.Layout.{also, when}
 use Rattle.rules.specs.FactSets.{FactSets, State}
 use Rattle.rules.specs.FactRules.{factsAfter, conditionFacts, loopFacts}
@@ -92,7 +90,7 @@ module _ (S : FactSets) where
 
   -- ---- blocks. Outside a bundle the known bounds are the declared ones: "all declared bounds must be shown and become the known ones".
 
-  module _ (T : List ℤ) (h : Sections) (E : Environment) where
+  module _ (E : Environment) where
     -- Where the sides of an if meet: the rows in force are those of both sides (else refusal 13).
     abbrev pub sidesJoined : State Facts → State Facts → State Facts
     sidesJoined w v = record { facts = joined (isPointer E) (w .facts) (v .facts); rows = w .rows }
@@ -103,7 +101,7 @@ module _ (S : FactSets) where
     blockAfter nil w = w
     blockAfter (plain a s r) w = blockAfter r (stateAfter s w)
     blockAfter (branch a c t e r) w = blockAfter r (sidesJoined (blockAfter t (assumed w c)) (blockAfter e (assumed w (negatedOf c))))
-    blockAfter (loop a c n t r) w = blockAfter r (assumed (atHead (targetsFrom T h (a + 1) n) w) (negatedOf c))
+    blockAfter (loop a c t r) w = blockAfter r (assumed (atHead (assigned t) w) (negatedOf c))
     blockAfter (bundle a ss r) w = blockAfter r (bundleAfter ss w)
     blockAfter (unread a) w = w
 
@@ -120,10 +118,10 @@ module _ (S : FactSets) where
         (also (blockFaults e (assumed w (negatedOf c)))
         (also (rowsAt a (blockAfter t (assumed w c) .rows) (blockAfter e (assumed w (negatedOf c)) .rows))
         (blockFaults r (sidesJoined (blockAfter t (assumed w c)) (blockAfter e (assumed w (negatedOf c)))))))
-    blockFaults (loop a c n t r) w =
-        also (blockFaults t (assumed (atHead (targetsFrom T h (a + 1) n) w) c))
-        (also (rowsAt a (w .rows) (blockAfter t (assumed (atHead (targetsFrom T h (a + 1) n) w) c) .rows))
-        (blockFaults r (assumed (atHead (targetsFrom T h (a + 1) n) w) (negatedOf c))))
+    blockFaults (loop a c t r) w =
+        also (blockFaults t (assumed (atHead (assigned t) w) c))
+        (also (rowsAt a (w .rows) (blockAfter t (assumed (atHead (assigned t) w) c) .rows))
+        (blockFaults r (assumed (atHead (assigned t) w) (negatedOf c))))
     blockFaults (bundle a ss r) w =
         also (bundleFaults E (a + 1) ss w (declaredIn E w))
         (also (boundsAt a (unshownIn E (bundleAfter ss w) (bundleBounds E ss w (declaredIn E w))))

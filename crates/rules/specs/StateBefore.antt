@@ -3,12 +3,10 @@ use Prim.Native.Nat.{ℕ, _+_}
 use mathlib.Core.Bool.{cond}
 use mathlib.Core.List.{List, [], _∷_}
 use lib.Dec.{ltb, eqb}
-use lib.IntN.{ℤ}
 use lib.ListN.{length}
-use Rattle.words.specs.declared.sections.Sections.{Sections}
 use Rattle.conditions.specs.Conditions.{negatedOf}
 use Rattle.statements.specs.declared.Simple.{Simple}
-use Rattle.blocks.specs.Tree.{Block, nil, plain, branch, loop, bundle, unread, targetsFrom}
+use Rattle.blocks.specs.Tree.{Block, nil, plain, branch, loop, bundle, unread, assigned}
 use Rattle.blocks.specs.Shape.{size}
 use Rattle.rules.specs.FactSets.{FactSets, State}
 use Rattle.rules.specs.Rules.{stateAfter, assumed, atHead, bundleAfter, sidesJoined, blockAfter}
@@ -22,7 +20,7 @@ module _ (S : FactSets) where
   lineBefore a [] w d = w
   lineBefore a (s ∷ ss) w d = cond (eqb d a) w (lineBefore (a + 1) ss (stateAfter S s w) d)
 
-  module _ (T : List ℤ) (h : Sections) (E : Environment) where
+  module _ (E : Environment) where
     -- Before statement d of a block that is entered with the state w.
     unfoldable pub stateBefore : Block → State Facts → ℕ → State Facts
     stateBefore nil w d = w
@@ -31,11 +29,11 @@ module _ (S : FactSets) where
         cond (eqb d a) w
         (cond (ltb d (a + 1 + size t)) (stateBefore t (assumed S w c) d)
         (cond (ltb d (a + 1 + size t + size e)) (stateBefore e (assumed S w (negatedOf c)) d)
-        (stateBefore r (sidesJoined S T h E (blockAfter S T h E t (assumed S w c)) (blockAfter S T h E e (assumed S w (negatedOf c)))) d)))
-    stateBefore (loop a c n t r) w d =
+        (stateBefore r (sidesJoined S E (blockAfter S E t (assumed S w c)) (blockAfter S E e (assumed S w (negatedOf c)))) d)))
+    stateBefore (loop a c t r) w d =
         cond (eqb d a) w
-        (cond (ltb d (a + 1 + size t)) (stateBefore t (assumed S (atHead S (targetsFrom T h (a + 1) n) w) c) d)
-        (stateBefore r (assumed S (atHead S (targetsFrom T h (a + 1) n) w) (negatedOf c)) d))
+        (cond (ltb d (a + 1 + size t)) (stateBefore t (assumed S (atHead S (assigned t) w) c) d)
+        (stateBefore r (assumed S (atHead S (assigned t) w) (negatedOf c)) d))
     stateBefore (bundle a ss r) w d =
         cond (eqb d a) w (cond (ltb d (a + 1 + length ss)) (lineBefore (a + 1) ss w d) (stateBefore r (bundleAfter S ss w) d))
     stateBefore (unread a) w d = w

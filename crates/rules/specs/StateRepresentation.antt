@@ -1,5 +1,4 @@
 -- What the walk hands on by the store represents what it hands on by the paper's chains: the facts do, and the rows in force are the same.
-use Prim.Native.Nat.{ℕ}
 use mathlib.Core.Path.{_≡_, refl, ap}
 use mathlib.Core.Bool.{Bool, true, false, cond}
 use lib.IntN.{ℤ}
@@ -14,7 +13,8 @@ use Rattle.conditions.specs.Typed.{Sides}
 use Rattle.conditions.specs.declared.Condition.{Condition}
 use Rattle.statements.specs.Typed.{SimpleTyped}
 use Rattle.statements.specs.declared.Simple.{Simple}
-use Rattle.blocks.specs.Tree.{targetsFrom}
+use Rattle.blocks.specs.Tree.{Block, assigned}
+use Rattle.blocks.specs.Shape.{Reads}
 use Rattle.rules.specs.FactSets.{State}
 use Rattle.rules.specs.BoundsRules.{rowsAfter}
 use Rattle.rules.specs.Rules.{newState, stateAfter, assumed, atHead, sidesJoined}
@@ -41,7 +41,7 @@ module _ (T : List ℤ) (h : Sections) (w : Limits h) (q : Decider) (right : Dec
   vars = variables T h w
 
   pub meets : {U U′ : State History} {W W′ : State FactSet} → StateRepresents vars U W → StateRepresents vars U′ W′
-      → StateRepresents vars (sidesJoined (byChains q) T h (environmentOf T h) U U′) (sidesJoined store T h (environmentOf T h) W W′)
+      → StateRepresents vars (sidesJoined (byChains q) (environmentOf T h) U U′) (sidesJoined store (environmentOf T h) W W′)
   meets i j = record { represents = represents-join vars (i .represents) (j .represents); rows = i .rows }
 
   module _ {U : State History} {W : State FactSet} (t : StateRepresents vars U W) where
@@ -55,5 +55,5 @@ module _ (T : List ℤ) (h : Sections) (w : Limits h) (q : Decider) (right : Dec
         → StateRepresents vars (assumed (byChains q) U (negatedOf c)) (assumed store W (negatedOf c))
     state-negated c s = record { represents = negated-represented T h w q right (t .represents) c s; rows = t .rows }
 
-    pub state-at-head : (a n : ℕ) → StateRepresents vars (atHead (byChains q) (targetsFrom T h a n) U) (atHead store (targetsFrom T h a n) W)
-    state-at-head a n = record { represents = body-represented T h w q right (t .represents) a n; rows = t .rows }
+    pub state-at-head : (b : Block) → Reads T h b → StateRepresents vars (atHead (byChains q) (assigned b) U) (atHead store (assigned b) W)
+    state-at-head b r = record { represents = body-represented T h w q right (t .represents) b r; rows = t .rows }

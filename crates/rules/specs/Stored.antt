@@ -151,13 +151,13 @@ bundleBounds = walk.bundleBounds store
 abbrev pub bundleFaults : Environment → ℕ → List Simple → State FactSet → List Bounds → List Refusal
 bundleFaults = walk.bundleFaults store
 
-abbrev pub sidesJoined : List ℤ → Sections → Environment → State FactSet → State FactSet → State FactSet
+abbrev pub sidesJoined : Environment → State FactSet → State FactSet → State FactSet
 sidesJoined = walk.sidesJoined store
 
-abbrev pub blockAfter : List ℤ → Sections → Environment → Block → State FactSet → State FactSet
+abbrev pub blockAfter : Environment → Block → State FactSet → State FactSet
 blockAfter = walk.blockAfter store
 
-abbrev pub blockFaults : List ℤ → Sections → Environment → Block → State FactSet → List Refusal
+abbrev pub blockFaults : Environment → Block → State FactSet → List Refusal
 blockFaults = walk.blockFaults store
 
 -- ---- the verdict

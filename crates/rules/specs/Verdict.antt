@@ -65,7 +65,7 @@ environmentOf T h =
 module _ (S : FactSets) where
   -- Cause 6, then the walk.
   unfoldable pub sectionFaults : List ℤ → Sections → List Refusal
-  sectionFaults T h = also (layout T h) (blockFaults S T h (environmentOf T h) (tree T h) (newState S))
+  sectionFaults T h = also (layout T h) (blockFaults S (environmentOf T h) (tree T h) (newState S))
 
   -- The first of the causes 1 to 5, else what follows them.
   abbrev pub formFaults : List ℤ → Form → List Refusal

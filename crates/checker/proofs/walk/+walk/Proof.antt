@@ -13,7 +13,7 @@ use Rattle.rules.specs.Verdict.{environmentOf}
 use Rattle.effects.specs.FactRulesLaws.{carried-out, assumed, negated-asked}
 use Rattle.bundles.specs.BundleLaws.{applied-short, measured-by}
 use Rattle.checker.specs.WalkLaws.{Kept, Turn, arm, placed, falls as left-falls, negated-offset, if-counts, while-count, bundle-count, if-offset, while-offset, plain-ranged, kept-none, kept-done, kept-end, kept-unread, plain-refused}
-use Rattle.checker.specs.WalkLaws.{turn-plain, turn-untouched, then-refused, else-refused, turn-if, body-refused, turn-while, bundle-refused, turn-bundle, row-named-within, same-force, row-refused, turn-row, sides-differ, ends-differ}
+use Rattle.checker.specs.WalkLaws.{turn-plain, turn-untouched, at-node, then-placed, else-placed, body-placed, then-refused, else-refused, turn-if, body-refused, turn-while, bundle-refused, turn-bundle, row-named-within, same-force, row-refused, turn-row, sides-differ, ends-differ}
 use Rattle.checker.proofs.walk.walk.Reads as walk
 use Rattle.checker.proofs.walk.walk.Kinds as walk-kinds
 use Rattle.checker.proofs.walk.+walk.Lts-walk as walk-lts
@@ -107,7 +107,7 @@ turn t d = record {
 
 pub +walk-spec : {M : Type 1} → statement M
 +walk-spec = close μ-walk λ t. walk-lts.spec (callees t) (walk-at t) walk.Post Inv μ
-    (λ c. kept-none _ _ _ _ _ _ _ _ (c .before .before .before .before .pre .1 .2))
+    (λ c. let p = c .before .before .before .before .pre .1 in kept-none _ _ _ _ _ _ _ _ (p .2) (p .3))
     (λ c. search needs) (λ c κs. search needs) (λ c. search needs) (λ c. search needs)
     (λ c. kept-unread (c .before .before .before .before .before .before .before .loop .inv) (c .before .before .before .before .before .before .loop-test .taken) (c .before .before .before .before .before .if1 .left) (sym (c .before .before .before .read-due .ensures) ∙
     c .before .enum-told .given .1) refl)
@@ -169,6 +169,7 @@ pub +walk-spec : {M : Type 1} → statement M
         c .before .before .before .before .before .before .before .before .before .before .before .before .before .before .before .before .before .before .before .pre .1 .0,
         c .before .before .before .before .before .before .before .before .before .before .before .before .before .before .before .before .before .before .before .pre .1 .1,
         (turn t (c .before .before .before .before .before .before .before)) .so-far .forced,
+        let u = arm (turn t (c .before .before .before .before .before .before .before)) (c .before .before .before .before .before .statement2 .given .1) in then-placed (u .read) (at-node u),
       ),
     ))
     (λ c. search needs) (λ c. search needs)
@@ -186,6 +187,7 @@ pub +walk-spec : {M : Type 1} → statement M
         c .before .before .before .before .before .before .before .before .before .before .before .before .before .before .before .before .before .before .before .before .before .before .before .before .before .pre .1 .1,
         (turn t
             (c .before .before .before .before .before .before .before .before .before .before .before .before .before)) .so-far .forced,
+        let u = arm (turn t (c .before .before .before .before .before .before .before .before .before .before .before .before .before)) (c .before .before .before .before .before .before .before .before .before .before .before .statement2 .given .1) in else-placed (u .read) (at-node u),
       ),
     ))
     (λ c. search needs) (λ c. search needs)
@@ -254,6 +256,7 @@ pub +walk-spec : {M : Type 1} → statement M
         c .before .before .before .before .before .before .before .before .before .before .before .before .before .before .before .before .before .before .before .before .pre .1 .0,
         c .before .before .before .before .before .before .before .before .before .before .before .before .before .before .before .before .before .before .before .before .pre .1 .1,
         (turn t (c .before .before .before .before .before .before .before .before)) .so-far .forced,
+        let u = arm (turn t (c .before .before .before .before .before .before .before .before)) (c .before .before .before .before .before .before .statement3 .given .1) in body-placed (u .read) (at-node u),
       ),
     ))
     (λ c. search needs) (λ c. search needs)

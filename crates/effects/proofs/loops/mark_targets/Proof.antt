@@ -2,9 +2,8 @@
 use borrow.Author.Needs.{needs}
 use Prim.Native.Nat.{_+_}
 use mathlib.Core.Path.{_≡_, refl, sym, _∙_}
-use Rattle.effects.specs.Marks.{noMarks, marked}
+use Rattle.effects.specs.Marks.{targetsFrom, noMarks, marked}
 use Rattle.effects.specs.MarkLaws.{mark-more, mark-none}
-use Rattle.blocks.specs.Tree.{targetsFrom}
 use Rattle.effects.proofs.loops.mark_targets.Statement.{statement}
 use Rattle.effects.proofs.loops.mark_targets.Tie as tie
 
