@@ -105,8 +105,8 @@ module _ (S : FactSets) where
     blockAfter (bundle a ss r) w = blockAfter r (bundleAfter ss w)
     blockAfter (unread a) w = w
 
-    -- All faults of a block in table order: "statements in table order: 9, the statement, 8". Point 11: "A statement whose facts contradict is now walked
-    -- like any other, with every fact shown." Point 2: "13 comes after all inside the blocks".
+    -- The faults of a block, "statements in table order": 9, then the statement, then 8. Point 11: "A statement whose facts contradict is now walked like any
+    -- other, with every fact shown." Point 2: "13 comes after all inside the blocks".
     unfoldable pub blockFaults : Block → State Facts → List Refusal
     blockFaults nil w = []
     blockFaults (plain a s r) w =
