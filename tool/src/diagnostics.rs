@@ -34,6 +34,9 @@ pub fn fail<T>(at: Pos, message: impl Into<String>) -> Fallible<T> {
     Err(Diagnostic::new(at, message))
 }
 
+/// The bytes of a line that is quoted; in a longer one nobody finds the caret.
+const MOST_QUOTED: usize = 1000;
+
 /// A text with its name: what diagnostics quote.
 #[derive(Clone, Copy)]
 pub struct Source<'a> {
@@ -47,14 +50,14 @@ impl<'a> Source<'a> {
         self.text.split('\n').nth(line as usize - 1).unwrap_or("").trim_end_matches('\r')
     }
 
-    /// `NAME:LINE:COLUMN: WHAT`, and unless short the line and the caret. Tabs of the line are kept, so the caret stands right
+    /// `NAME:LINE:COLUMN: WHAT`, and unless short or too long the line and the caret. Tabs of the line are kept, so the caret stands right
     /// whatever their width is.
     pub fn show(&self, at: Pos, what: &str, short: bool) -> String {
         let mut shown = format!("{}:{at}: {what}\n", self.name);
-        if short {
+        let line = self.line(at.line);
+        if short || line.len() > MOST_QUOTED {
             return shown;
         }
-        let line = self.line(at.line);
         let before = line.chars().take(at.column as usize - 1).map(|c| if c == '\t' { '\t' } else { ' ' });
         let caret: String = before.collect();
         writeln!(shown, "{line}\n{caret}^").expect("a string grows");

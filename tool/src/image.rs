@@ -5,7 +5,8 @@ use crate::library::Lent;
 use crate::names::{Names, RoutineNames};
 use crate::parser::Parser;
 use crate::table::Table;
-use crate::tokens::{tokens, Kind};
+use crate::tokens::Kind;
+use crate::tree::Name;
 
 /// One cell more than a memory may have: lent in place of any greater one, so that the library refuses it.
 const MOST_CELLS: u64 = (1 << 24) + 1;
@@ -29,7 +30,7 @@ pub fn read_image(text: &str, tables: &[Table], names: &Names) -> Fallible<Image
     };
     let start = Pos { line: 1, column: 1 };
     let mut reader = Reader {
-        parser: Parser::new(tokens(text).list),
+        parser: Parser::new(text),
         lengths: first.objects.iter().map(|length| length.unsigned_abs()).collect(),
         objects: &names.objects,
         routine,
@@ -73,27 +74,38 @@ struct Reader<'a> {
 impl Reader<'_> {
     fn item(&mut self) -> Fallible<()> {
         let name = self.parser.name()?;
-        let number =
-            self.parser.accept_number().filter(|_| matches!(name.text.as_str(), "memory" | "allowance"));
         let object = self.objects.iter().position(|object| *object == name.text);
         let variable = self.routine.variables.iter().position(|variable| *variable == name.text);
-        match (number, object, variable) {
-            (Some(number), _, _) => {
-                let is_memory = name.text == "memory";
-                let slot = if is_memory { &mut self.memory } else { &mut self.allowance };
-                if slot.replace(number.value).is_some() {
-                    return fail(name.at, format!("`{}` is given twice", name.text));
-                }
-            }
-            (None, Some(object), _) => self.object(object, &name.text, name.at)?,
-            (None, None, Some(variable)) => self.variable(variable, &name.text, name.at)?,
-            (None, None, None) => {
-                let message =
-                    format!("`{}` is no object and no variable of the routine that is run", name.text);
+        let is_setting = matches!(name.text.as_str(), "memory" | "allowance");
+        // An object or a variable may have that name: then a number tells them apart, one that is too great too.
+        let has_number = matches!(self.parser.peek().kind, Kind::Number(_) | Kind::Wrong(_));
+        match (object, variable) {
+            _ if is_setting && has_number => self.setting(&name)?,
+            (Some(object), _) => self.object(object, &name.text, name.at)?,
+            (None, Some(variable)) => self.variable(variable, &name.text, name.at)?,
+            (None, None) if is_setting => self.setting(&name)?,
+            (None, None) => {
+                let names: Vec<&str> =
+                    self.objects.iter().chain(&self.routine.variables).map(String::as_str).collect();
+                let message = format!(
+                    "`{}` is no object and no variable of the routine that is run: there are {}",
+                    name.text,
+                    names.join(", ")
+                );
                 return fail(name.at, message);
             }
         }
         self.parser.expect_semicolon()
+    }
+
+    /// `memory NUMBER` or `allowance NUMBER`.
+    fn setting(&mut self, name: &Name) -> Fallible<()> {
+        let number = self.parser.number()?.value;
+        let slot = if name.text == "memory" { &mut self.memory } else { &mut self.allowance };
+        if slot.replace(number).is_some() {
+            return fail(name.at, format!("`{}` is given twice", name.text));
+        }
+        Ok(())
     }
 
     /// `OBJECT [at NUMBER] [= cells]`.
@@ -123,7 +135,7 @@ impl Reader<'_> {
     /// `{ NUMBER, .. }` or a string, one cell a byte.
     fn cells(&mut self) -> Fallible<Vec<u32>> {
         if let Kind::Text(text) = &self.parser.peek().kind {
-            let cells = text.bytes().map(u32::from).collect();
+            let cells = text.iter().copied().map(u32::from).collect();
             self.parser.take();
             return Ok(cells);
         }

@@ -3,8 +3,10 @@
 pub mod command;
 pub mod diagnostics;
 mod explain;
+pub mod files;
 pub mod form;
 pub mod image;
+mod lexer;
 pub mod library;
 pub mod map;
 pub mod names;

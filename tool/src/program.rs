@@ -1,14 +1,13 @@
 //! What a file holds: tables and a list of loop facts, with their text. The ending tells its form.
 
 use crate::diagnostics::{Diagnostic, Pos, Source};
+use crate::files::{read_bytes, read_text, shown_name, Loaded, LIST, TABLE, TEXT, WORDS};
 use crate::form::{list_fault, Form};
 use crate::map::Map;
 use crate::names::Names;
 use crate::printer::print;
 use crate::table::Table;
-use crate::words::{assemble, Assembly, MAX_TEXT};
-use std::fs::File;
-use std::io::Read;
+use crate::words::{assemble, Assembly};
 
 #[derive(Debug)]
 pub struct Program {
@@ -34,41 +33,6 @@ pub struct Text {
     pub names: Names,
 }
 
-/// A message for people: the file, the text or the call is wrong.
-pub type Loaded<T> = Result<T, String>;
-
-/// The bytes of a file, or of standard input for `-`; more than a text may have are not read to their end.
-pub fn read_bytes(path: &str) -> Loaded<Vec<u8>> {
-    let mut bytes = Vec::new();
-    let limit = MAX_TEXT as u64 + 1;
-    let read = match path {
-        "-" => std::io::stdin().take(limit).read_to_end(&mut bytes),
-        _ => File::open(path).and_then(|file| file.take(limit).read_to_end(&mut bytes)),
-    };
-    read.map_err(|error| format!("{path}: error: {error}\n"))?;
-    Ok(bytes)
-}
-
-/// Bytes as text, or an error at the first that is none.
-pub fn read_text(path: &str, short: bool) -> Loaded<String> {
-    as_text(path, read_bytes(path)?, short)
-}
-
-pub fn as_text(path: &str, bytes: Vec<u8>, short: bool) -> Loaded<String> {
-    String::from_utf8(bytes).map_err(|error| {
-        let valid = error.utf8_error().valid_up_to();
-        let text = String::from_utf8_lossy(&error.as_bytes()[..valid]).into_owned();
-        let (line, last) = (text.matches('\n').count(), text.rsplit('\n').next().unwrap_or(""));
-        let at = Pos { line: line as u32 + 1, column: last.chars().count() as u32 + 1 };
-        let source = Source { name: &shown_name(path), text: &text };
-        source.error(&Diagnostic::new(at, "this text is not UTF-8"), short)
-    })
-}
-
-fn shown_name(path: &str) -> String {
-    if path == "-" { "<standard input>" } else { path }.to_string()
-}
-
 /// The words of a file's bytes; none where the length is no multiple of 4.
 pub fn words_of(bytes: &[u8]) -> Option<Vec<i32>> {
     let words = bytes.chunks(4).map(|word| word.try_into().ok().map(i32::from_le_bytes));
@@ -81,7 +45,7 @@ impl Program {
         let path = paths.first().ok_or("error: no file is given\n")?;
         let listed = facts.map(read_list).transpose()?;
         if paths.iter().all(|path| path.ends_with(".tbl")) {
-            let files = paths.iter().map(|path| read_bytes(path)).collect::<Loaded<Vec<_>>>()?;
+            let files = paths.iter().map(|path| read_bytes(path, &TABLE)).collect::<Loaded<Vec<_>>>()?;
             let tables = files.iter().map(|bytes| words_of(bytes).unwrap_or_default()).collect();
             let ragged = files.iter().map(Vec::len).find(|length| length % 4 != 0);
             let program = Program::of_tables(path, tables, listed.unwrap_or_default());
@@ -93,13 +57,13 @@ impl Program {
             );
         }
         if path.ends_with(".words") {
-            let (tables, facts) = read_words(path, &read_text(path, short)?)?;
+            let (tables, facts) = read_words(path, &read_text(path, &WORDS, short)?)?;
             return Ok(Program::of_tables(path, tables, listed.unwrap_or(facts)));
         }
         if listed.is_some() {
             return Err("error: the loop facts of a text stand in it\n".to_string());
         }
-        Program::of_text(path, read_text(path, short)?, short)
+        Program::of_text(path, read_text(path, &TEXT, short)?, short)
     }
 
     pub fn of_text(path: &str, source: String, short: bool) -> Loaded<Program> {
@@ -145,6 +109,21 @@ impl Program {
         self.text.as_ref().map(|text| Source { name: &self.name, text: &text.source })
     }
 
+    /// The error that the library cannot be asked this; of a text at the first thing that it has not.
+    pub fn lacking(&self, lack: &str, short: bool) -> String {
+        let message = format!("error: {lack}");
+        let text = self.text.as_ref().filter(|_| !self.of_words);
+        let at = text.and_then(|text| match &text.map.routines[..] {
+            [_, second, ..] => Some(second.name),
+            [only] => only.facts.first().copied(),
+            [] => None,
+        });
+        match (at, self.source()) {
+            (Some(at), Some(source)) => source.show(at, &message, short),
+            _ => format!("{}: {message}\n", self.name),
+        }
+    }
+
     pub fn warnings(&self, short: bool) -> String {
         let source = self.source();
         let shown = |warning| source.map(|source| source.warning(warning, short));
@@ -164,7 +143,8 @@ pub fn printable(tables: &[Vec<i32>], facts: &[i32]) -> Option<Vec<Table>> {
 
 /// A list of loop facts as words in a file.
 fn read_list(path: &str) -> Loaded<Vec<i32>> {
-    words_of(&read_bytes(path)?).ok_or(format!("{path}: error: the file's bytes are no whole words\n"))
+    let words = words_of(&read_bytes(path, &LIST)?);
+    words.ok_or(format!("{path}: error: the file's bytes are no whole words\n"))
 }
 
 type Words = (Vec<Vec<i32>>, Vec<i32>);
@@ -181,6 +161,9 @@ fn read_words(path: &str, text: &str) -> Loaded<Words> {
             ("facts", Ok(words)) => facts = words,
             _ => return Err(wrong()),
         }
+    }
+    if tables.is_empty() {
+        return Err(format!("{path}: error: no line `table:` stands here\n"));
     }
     Ok((tables, facts))
 }

@@ -1,5 +1,7 @@
 //! The words of a table as records, section by section.
 
+use std::ops::Range;
+
 pub const VARIABLE_WORDS: usize = 8;
 pub const STATEMENT_WORDS: usize = 7;
 pub const ROW_WORDS: usize = 6;
@@ -93,12 +95,41 @@ impl Table {
         table
     }
 
+    /// The table with so many plain statements of one block in a bundle, whose head has the number of the first one.
+    pub fn with_bundle(&self, first: usize, count: usize) -> Table {
+        self.with_before(first, [13, count as i32, 0, 0, 0, 0, 0])
+    }
+
+    /// The heads whose blocks a statement stands in, outermost first.
+    fn heads_around(&self, statement: usize) -> Vec<usize> {
+        (0..statement).filter(|&head| statement < head + self.extent(head)).collect()
+    }
+
+    /// The head of the bundle that a statement stands in.
+    pub fn bundle_around(&self, statement: usize) -> Option<usize> {
+        self.heads_around(statement).into_iter().find(|&head| self.statements[head][0] == 13)
+    }
+
+    /// The numbers of the statements in the innermost block that a statement stands in.
+    pub fn block_around(&self, statement: usize) -> Range<usize> {
+        let Some(&head) = self.heads_around(statement).last() else { return 0..self.statements.len() };
+        let end = head + self.extent(head);
+        match self.statements[head] {
+            [11, _, _, _, _, then, _] => {
+                let middle = head + 1 + then as usize;
+                if statement < middle {
+                    head + 1..middle
+                } else {
+                    middle..end
+                }
+            }
+            _ => head + 1..end,
+        }
+    }
+
     /// Counts one more statement in every block that a statement stands in.
     fn grow_around(&mut self, statement: usize) {
-        for head in 0..statement {
-            if statement >= head + self.extent(head) {
-                continue;
-            }
+        for head in self.heads_around(statement) {
             let words = &mut self.statements[head];
             let field = match words[0] {
                 13 => 1,

@@ -119,7 +119,7 @@ fn a_where_that_declares_more() {
             "1:28: note: declared before: p : count(n)",
             "note: not shown: declared upper end p + n <= known upper end q + m: nothing relates them (line 4: p = q)",
             "note: known here: p == q",
-            "help: write dynamic_check(n <= m); before line 5",
+            "help: write dynamic_check(n <= m); before line 3",
             "refused 8 2 0",
         ]
     );
@@ -146,7 +146,7 @@ fn the_row_in_force_is_what_is_asked_for() {
             "4:1: note: declared here: p : count(i)",
             "note: the known upper end was lost at line 9: i = i - 1 may wrap: i >= 1 is not shown there",
             "note: known here: p != NULL",
-            "help: write dynamic_check(i >= 1); before line 9",
+            "help: write dynamic_check(i >= 1); before line 6",
             "refused 8 3 0",
         ]
     );
@@ -255,7 +255,7 @@ stopped after 4 steps
 ";
     assert_eq!((trace.out.as_str(), trace.status), (expected, 3));
     let stop = "r.c:7:5: stopped at check 3: `p[1]` is cell 3; the bounds of `p`, now count(1), are cells 2 up to 3, 3 not included";
-    assert_eq!(trace.err.lines().next(), Some(stop));
+    assert_eq!((trace.err.as_str(), trace.end.lines().next()), ("", Some(stop)));
     let whole = run("p = o + 1; n = 3;", false);
     assert_eq!(whole.out, "stopped after 4 steps\nbounds of p: count(n) -> count(1) (cell 2)\n");
     let spent = run("p = o + 1; n = 3; allowance 2;", false);

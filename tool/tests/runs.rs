@@ -1,41 +1,12 @@
 //! Runs and traces of routines with images: outcomes, their lines, exit statuses.
 
-use mizzengrape_tool::command::{call, Output};
+#[path = "support/folder.rs"]
+mod folder;
+
+use folder::Folder;
+use mizzengrape_tool::command::Output;
 use std::fs;
 use std::path::PathBuf;
-
-/// A folder of its own for the files of one test.
-struct Folder(PathBuf);
-
-impl Folder {
-    fn new(name: &str) -> Folder {
-        let path = std::env::temp_dir().join(format!("mizzengrape-runs-{name}-{}", std::process::id()));
-        fs::create_dir_all(&path).expect("a folder");
-        Folder(path)
-    }
-
-    fn write(&self, name: &str, content: &str) -> String {
-        let path = self.0.join(name);
-        fs::write(&path, content).expect("a file");
-        path.to_string_lossy().into_owned()
-    }
-
-    /// A command over a routine and an image; the folder's name is taken out of what it prints.
-    fn call(&self, command: &[&str], routine: &str, image: &str) -> Output {
-        let files = [self.write("routine.c", routine), self.write("image", image)];
-        let arguments = command.iter().map(|argument| argument.to_string()).chain(files);
-        let mut output = call(&arguments.collect::<Vec<String>>());
-        let prefix = format!("{}/", self.0.to_string_lossy());
-        (output.out, output.err) = (output.out.replace(&prefix, ""), output.err.replace(&prefix, ""));
-        output
-    }
-}
-
-impl Drop for Folder {
-    fn drop(&mut self) {
-        let _ = fs::remove_dir_all(&self.0);
-    }
-}
 
 fn first_club() -> String {
     let path = PathBuf::from(env!("CARGO_MANIFEST_DIR")).join("tests/language/first_club.c");
@@ -59,7 +30,8 @@ done after 5 steps
     assert_eq!(output, Output { out: expected.to_string(), ..Output::default() });
     let lines: Vec<&str> = expected.lines().collect();
     let middle = folder.call(&["trace", "--from", "3", "--steps", "2"], &first_club(), LAST_ROW);
-    assert_eq!(middle.out, format!("{}\n{}\nmore with --from 5\n", lines[2], lines[3]));
+    let more = format!("{}\n{}\nmore with --from 5\ndone after 5 steps\n", lines[2], lines[3]);
+    assert_eq!(middle, Output { out: more, ..Output::default() });
 }
 
 #[test]
@@ -81,6 +53,45 @@ fn a_spent_run_names_the_next_line() {
         (output.out.as_str(), output.status),
         ("spent after 3 steps\nfirst[3] (cell 4): 0 -> 77\n", 4)
     );
+}
+
+const COUNTS_DOWN: &str = "void f(unsigned n, unsigned m)\n{\n    while (n > 0) {\n        n = n - 1;\n    }\n    dynamic_check(m > 0);\n}\n";
+
+#[test]
+fn a_trace_ends_as_its_run_does() {
+    let folder = Folder::new("trace-end");
+    let stop = "routine.c:6:5: stopped at check 1: dynamic_check(m > 0) is false: m is 0\n    dynamic_check(m > 0);\n    ^\n";
+    let whole = folder.call(&["trace"], COUNTS_DOWN, "n = 2;");
+    // The reason comes last, behind the steps.
+    assert_eq!((whole.err.as_str(), whole.end.as_str(), whole.status), ("", stop, 3));
+    assert!(
+        whole.out.ends_with("#6 routine.c:6:5  2 dynamic_check(m > 0);\nstopped after 6 steps\n"),
+        "{}",
+        whole.out
+    );
+    // A listing that is not finished tells how the run ends, and has its status.
+    let part = folder.call(&["trace"], COUNTS_DOWN, "n = 600;");
+    assert!(part.out.ends_with("more with --from 1001\nstopped after 1202 steps\n"), "{}", part.out);
+    assert_eq!((part.out.lines().count(), part.end.as_str(), part.status), (1002, stop, 3));
+    let done = folder.call(&["trace"], COUNTS_DOWN, "n = 600; m = 1;");
+    assert_eq!((done.end.as_str(), done.status), ("", 0));
+    let spent = folder.call(&["trace", "--steps", "2", "--allowance", "9"], COUNTS_DOWN, "n = 600;");
+    assert_eq!(spent.status, 4);
+    assert!(spent.end.contains("spent: the allowance of 9 steps is used; line 4 is next\n"), "{}", spent.end);
+    let printed = {
+        let (mut terminal, mut nothing) = (Vec::new(), Vec::new());
+        whole.print(&mut nothing, &mut terminal);
+        String::from_utf8(terminal).expect("a text")
+    };
+    assert_eq!(printed, stop);
+}
+
+#[test]
+fn numbers_have_their_range() {
+    let folder = Folder::new("range");
+    let output = folder.call(&["run", "--allowance", "4294967296"], &first_club(), LAST_ROW);
+    let message = "error: --allowance wants a number from 0 to 4294967295, not 4294967296\n";
+    assert_eq!(output, Output::wrong(message.to_string()));
 }
 
 /// A routine of one statement that stops, by its check.
@@ -151,14 +162,50 @@ fn entries_are_refused_at_the_line_of_the_image() {
 fn a_wrong_image_ends_with_2() {
     let folder = Folder::new("wrong");
     for (image, message) in [
-        ("boats = 3;", "1:1: error: `boats` is no object and no variable of the routine that is run"),
+        (
+            "boats = 3;",
+            "1:1: error: `boats` is no object and no variable of the routine that is run: there are first, second, third, row, rows, boat",
+        ),
         ("rows = 3", "1:9: error: expected `;`, found end of text"),
         ("rows = 3; rows = 4;", "1:11: error: `rows` is given twice"),
         ("first = { 1, 2, 3, 4, 5 };", "1:9: error: `first` has 4 cells, 5 are given"),
         ("first = \"abcd", "1:9: error: this string does not end"),
         ("row = first - 2;", "1:1: error: -1 is no address"),
+        ("memory 99999999999;", "1:8: error: number above 4294967295"),
+        ("allowance 4294967296;", "1:11: error: number above 4294967295"),
+        ("memory = 4;", "1:8: error: expected a number, found `=`"),
+        ("rows = 1; } rows = 2;", "1:11: error: expected a name, found `}`"),
+        (
+            "first = \"a\\q\";",
+            "1:11: error: `\\q` is no escape here; the escapes are \\n \\t \\\\ \\\" \\' \\0 to \\377 \\x0 to \\xFF",
+        ),
+        ("first = \"\\x\";", "1:10: error: `\\x` is no escape here; the escapes are \\n \\t \\\\ \\\" \\' \\0 to \\377 \\x0 to \\xFF"),
+        ("first = \"\\x100\";", "1:10: error: this escape is above 255, and no byte is"),
+        ("first = \"\\400\";", "1:10: error: this escape is above 255, and no byte is"),
+        ("first = \"a\\", "1:9: error: this string does not end"),
     ] {
         let output = folder.call(&["run", "--short"], &first_club(), image);
         assert_eq!((output.err, output.status), (format!("image:{message}\n"), 2));
     }
+}
+
+/// The cells of an object of 16 that a string gives.
+fn cells_of(string: &str) -> Vec<u32> {
+    let folder = Folder::new(&format!("string-{}", string.len()));
+    let routine = "unsigned o checked[16];\nvoid f(unsigned x)\n{\n}\n";
+    let output = folder.call(&["run", "--short"], routine, &format!("o = \"{string}\";"));
+    let line = output.out.lines().find_map(|line| line.strip_prefix("cells: 0 ")).expect(string);
+    line.split(' ').map(|cell| cell.parse().expect("a cell")).collect()
+}
+
+#[test]
+fn strings_have_the_escapes_of_c() {
+    let expected = |bytes: &[u8]| {
+        let mut cells: Vec<u32> = bytes.iter().copied().map(u32::from).collect();
+        cells.resize(16, 0);
+        cells
+    };
+    assert_eq!(cells_of(r"a\0b\x41\t"), expected(b"a\0b\x41\t"));
+    assert_eq!(cells_of(r#"\n\\\"\'\101\1018\377"#), expected(b"\n\\\"'A\x418\xff"));
+    assert_eq!(cells_of("\u{e9}//*"), expected("\u{e9}//*".as_bytes()));
 }

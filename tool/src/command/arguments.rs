@@ -52,8 +52,9 @@ impl Arguments {
 
     /// An option's value as a number.
     pub fn number(&self, name: &str) -> Result<Option<u32>, String> {
-        let number =
-            |value: &str| value.parse().map_err(|_| format!("error: {name} wants a number, not {value}\n"));
+        let wrong =
+            |value: &str| format!("error: {name} wants a number from 0 to {}, not {value}\n", u32::MAX);
+        let number = |value: &str| value.parse().map_err(|_| wrong(value));
         self.option(name).map(number).transpose()
     }
 

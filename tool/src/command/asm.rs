@@ -3,8 +3,8 @@
 use super::arguments::{Arguments, Usage};
 use super::check::verdict;
 use super::{Output, DONE};
+use crate::files::write_files;
 use crate::program::{words_file, Program};
-use std::fs;
 
 pub const USAGE: Usage = Usage {
     help: "\
@@ -39,21 +39,22 @@ pub fn asm(arguments: &Arguments) -> Result<Output, String> {
             return Ok(checked);
         }
     }
+    let mut files = Vec::new();
     for (option, content) in [("--names", text.names.lines()), ("--map", text.map.lines())] {
-        if let Some(path) = arguments.option(option) {
-            write(path, content.as_bytes())?;
-        }
+        files.extend(arguments.option(option).map(|path| (path.to_string(), content.into_bytes())));
     }
     if arguments.flag("--words") {
         output.out = words_file(&program.tables, &program.facts);
     }
     if !arguments.flag("--words") || arguments.option("-o").is_some() {
-        write_tables(&program, arguments.option("-o"), path)?;
+        files.extend(tables(&program, arguments.option("-o"), path)?);
     }
+    write_files(path, &files)?;
     Ok(output)
 }
 
-fn write_tables(program: &Program, out: Option<&str>, path: &str) -> Result<(), String> {
+/// The files of the tables and of the list, with their contents.
+fn tables(program: &Program, out: Option<&str>, path: &str) -> Result<Vec<(String, Vec<u8>)>, String> {
     let stem = match out {
         Some(out) => out.strip_suffix(".tbl").unwrap_or(out),
         None if path == "-" => {
@@ -61,24 +62,19 @@ fn write_tables(program: &Program, out: Option<&str>, path: &str) -> Result<(), 
         }
         None => path.strip_suffix(".c").unwrap_or(path),
     };
-    match &program.tables[..] {
-        [table] => write(&out.map_or(format!("{stem}.tbl"), str::to_string), &bytes(table))?,
+    let mut files = match &program.tables[..] {
+        [table] => vec![(out.map_or(format!("{stem}.tbl"), str::to_string), bytes(table))],
         tables => {
-            for (routine, table) in tables.iter().enumerate() {
-                write(&format!("{stem}.{routine}.tbl"), &bytes(table))?;
-            }
+            let file = |(routine, table): (usize, &Vec<i32>)| (format!("{stem}.{routine}.tbl"), bytes(table));
+            tables.iter().enumerate().map(file).collect()
         }
-    }
+    };
     if !program.facts.is_empty() {
-        write(&format!("{stem}.facts"), &bytes(&program.facts))?;
+        files.push((format!("{stem}.facts"), bytes(&program.facts)));
     }
-    Ok(())
+    Ok(files)
 }
 
 fn bytes(words: &[i32]) -> Vec<u8> {
     words.iter().flat_map(|word| word.to_le_bytes()).collect()
-}
-
-fn write(path: &str, content: &[u8]) -> Result<(), String> {
-    fs::write(path, content).map_err(|error| format!("{path}: error: {error}\n"))
 }

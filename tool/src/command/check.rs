@@ -32,7 +32,7 @@ pub fn check(arguments: &Arguments) -> Result<Output, String> {
 pub fn verdict(program: &Program, short: bool) -> Result<Output, String> {
     let mut output = Output { err: program.warnings(short), ..Output::default() };
     let verdict = library::check(&program.tables, &program.facts)
-        .map_err(|lack| format!("{}{}: error: {lack}\n", output.err, program.name))?;
+        .map_err(|lack| format!("{}{}", output.err, program.lacking(lack, short)))?;
     output.out = format!("{verdict}\n");
     output.status = if verdict == Verdict::Accepted { DONE } else { REFUSED };
     let second = Second::of(program, &verdict);

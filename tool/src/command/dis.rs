@@ -4,11 +4,12 @@ use super::arguments::{Arguments, Usage};
 use super::{Output, REFUSED};
 use crate::diagnostics::Diagnostic;
 use crate::explain;
+use crate::files::{read_text, NAMES};
 use crate::form::list_fault;
 use crate::library::form_refusal;
 use crate::names::Names;
 use crate::printer::{print, print_numbered};
-use crate::program::{read_text, Program, Text};
+use crate::program::{Program, Text};
 use crate::words::assemble;
 
 pub const DIS_USAGE: Usage = Usage {
@@ -16,7 +17,7 @@ pub const DIS_USAGE: Usage = Usage {
 mizzengrape dis FILE.tbl .. [--facts F] [--names N] [--numbers] [--short]
 
 Prints the canonical text of a table, of several tables that of the set. A table refused by 1 to 6 has no text: it is answered with that
-refusal.
+refusal. Of a text it is what fmt prints, with a warning where comments are lost.
 
     --facts F   the list of loop facts of the table, as words in a file
     --names N   a names file that asm wrote
@@ -49,22 +50,27 @@ pub fn dis(arguments: &Arguments) -> Result<Output, String> {
             err: explain::refused_form(&program, &refusal).show(&program, short),
             out: format!("{refusal}\n"),
             status: REFUSED,
+            ..Output::default()
         });
     }
     let Some(text) = &program.text else { return Err(no_text(&program)) };
     let mut names = text.names.clone();
     if let Some(path) = arguments.option("--names") {
-        let read = Names::read(&read_text(path, short)?);
+        let read = Names::read(&read_text(path, &NAMES, short)?);
         names = read
             .map_err(|line| format!("{path}:{line}: error: no line of a names file\n"))?
             .completed(&text.parts);
     }
+    let comments = program.first_comment.zip(program.source());
+    let err = comments.map_or_else(String::new, |(at, source)| {
+        source.warning(&Diagnostic::new(at, "the canonical form has no comments"), short)
+    });
     let printer = if arguments.flag("--numbers") { print_numbered } else { print };
     let printed = printer(&text.parts, &program.facts, &names);
     if !assemble(&printed).is_ok_and(|again| again.tables == program.tables && again.facts == program.facts) {
         return Err("error: these names do not fit the table\n".to_string());
     }
-    Ok(Output { out: printed, ..Output::default() })
+    Ok(Output { err, out: printed, ..Output::default() })
 }
 
 /// Why tables that read have no text: their list does not fit.

@@ -36,7 +36,7 @@ fn at_line(arguments: &Arguments, line: Option<&str>) -> Result<Output, String> 
     let program = Program::load(&arguments.files[..1], None, arguments.is_short())?;
     let name = &program.name;
     let wrong = |what: String| format!("{name}: error: {what}\n");
-    let lack = |lack: &str| wrong(lack.to_string());
+    let lack = |lack| program.lacking(lack, arguments.is_short());
     let verdict = library::check(&program.tables, &program.facts).map_err(lack)?;
     let statement = match (line, verdict) {
         (Some(line), _) => {

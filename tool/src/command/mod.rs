@@ -12,6 +12,7 @@ use crate::program::Program;
 use arguments::{Arguments, Usage};
 pub use check::verdict;
 pub use run::run_program;
+use std::io::{self, Write};
 
 /// What a call prints and its exit status.
 #[derive(Debug, Default, PartialEq, Eq)]
@@ -19,6 +20,8 @@ pub struct Output {
     /// Standard error; it is printed first.
     pub err: String,
     pub out: String,
+    /// Standard error too, printed last: how a listing ended.
+    pub end: String,
     pub status: u8,
 }
 
@@ -32,7 +35,22 @@ pub const DIFFER: u8 = 5;
 
 impl Output {
     pub fn wrong(message: String) -> Output {
-        Output { err: message, out: String::new(), status: WRONG }
+        Output { err: message, status: WRONG, ..Output::default() }
+    }
+
+    /// Prints it, and gives the exit status: what cannot be printed is an error.
+    pub fn print(&self, out: &mut impl Write, err: &mut impl Write) -> u8 {
+        let mut is_lost = written(err, &self.err).is_err();
+        if let Err(error) = written(out, &self.out) {
+            is_lost = true;
+            let _ = writeln!(err, "error: standard output: {error}");
+        }
+        is_lost |= written(err, &self.end).is_err();
+        if is_lost {
+            WRONG
+        } else {
+            self.status
+        }
     }
 
     /// Two implementations that differ: said loudly, whatever was asked. The proved answer stays what is printed.
@@ -45,6 +63,12 @@ impl Output {
     fn help(text: &str) -> Output {
         Output { out: text.to_string(), ..Output::default() }
     }
+}
+
+/// A reader that has gone away is no fault of the call.
+fn written(stream: &mut impl Write, text: &str) -> io::Result<()> {
+    let written = stream.write_all(text.as_bytes()).and_then(|()| stream.flush());
+    written.or_else(|error| if error.kind() == io::ErrorKind::BrokenPipe { Ok(()) } else { Err(error) })
 }
 
 const HELP: &str = "\

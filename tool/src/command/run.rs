@@ -5,10 +5,11 @@ use super::changes::{changes, Point};
 use super::{Output, DONE, REFUSED, SPENT, STOPPED};
 use crate::diagnostics::{Pos, Source};
 use crate::explain::{self, stops};
+use crate::files::{read_text, IMAGE};
 use crate::image::{read_image, Image};
 use crate::library::{self, Lent, Outcome, Refusal};
 use crate::printer::Printer;
-use crate::program::{read_text, Program, Text};
+use crate::program::{Program, Text};
 
 pub const RUN_USAGE: Usage = Usage {
     help: "\
@@ -16,14 +17,14 @@ mizzengrape run FILE IMAGE [--allowance N] [--short]
 
 Runs a routine and says how it ended, which values and cells it changed. IMAGE says what it is lent:
 
-    first at 1 = { 11, 12, 13, 0 };   an object, its first cell, its contents (a string gives one cell a byte)
+    first at 1 = { 11, 12, 13, 0 };   an object, its first cell, its contents (a string, \"Wanda\\0\", gives one cell a byte)
     row = first + 3;                  a pointer: an object and cells
     rows = 1;                         an integer
     memory 20;  allowance 1000;       the cells in all; the steps at most
 
 Objects without `at` touch, the first at cell 1; what is not given is 0.
 
-    --allowance N   the steps at most, whatever the image says
+    --allowance N   the steps at most, 0 to 4294967295, whatever the image says
     --short         the outcome, the values and the cells as in the vectors
 ",
     flags: &["--short"],
@@ -36,7 +37,8 @@ pub const TRACE_USAGE: Usage = Usage {
     help: "\
 mizzengrape trace FILE IMAGE [--from T] [--steps N] [--allowance N]
 
-Runs a routine and prints a line for each step: its number, place, statement, what it changed.
+Runs a routine and prints a line for each step: its number, place, statement, what it changed; then how the run ends, which is the
+exit status too, also where not all steps are printed.
 
     --from T        begins with step T
     --steps N       prints so many, 1000 by default
@@ -68,7 +70,7 @@ struct Wanted {
 fn read(arguments: &Arguments) -> Result<(Program, String, Wanted), String> {
     let short = arguments.is_short();
     let program = Program::load(&arguments.files[..1], None, short)?;
-    let image = read_text(&arguments.files[1], short)?;
+    let image = read_text(&arguments.files[1], &IMAGE, short)?;
     Ok((program, image, Wanted { short, allowance: arguments.number("--allowance")? }))
 }
 
@@ -177,12 +179,15 @@ impl Session {
             (before, outcome) = (after, next);
             step = step.saturating_add(1);
         }
-        let mut output = self.ended(&outcome, &before)?;
         if matches!(outcome, Outcome::Spent { steps, .. } if steps < self.image.lent.allowance) {
-            output = Output::default();
+            // The listing ends before the run: how that ends is told all the same.
+            (before, outcome) = self.after(self.image.lent.allowance)?;
             lines.push_str(&format!("more with --from {step}\n"));
-        } else if !matches!(outcome, Outcome::Refused(_)) {
+        }
+        let mut output = self.ended(&outcome, &before)?;
+        if !matches!(outcome, Outcome::Refused(_)) {
             lines.push_str(&format!("{}\n", end_line(&outcome)));
+            output.end = output.err.split_off(self.program.warnings(self.short).len());
         }
         output.out.insert_str(0, &lines);
         Ok(output)
@@ -190,7 +195,7 @@ impl Session {
 
     fn run(&self, lent: &mut Lent) -> Result<Outcome, String> {
         let asked = library::run(&self.program.tables, &self.program.facts, lent);
-        asked.map_err(|lack| format!("{}: error: {lack}\n", self.program.name))
+        asked.map_err(|lack| self.program.lacking(lack, self.short))
     }
 
     /// The point after so many steps is where the same run with that allowance ends.

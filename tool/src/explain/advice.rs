@@ -1,21 +1,157 @@
 //! Advice for a routine that is refused. Each is tried out: the second implementation walks the repaired table, and only what gets past the
 //! refused statement is said.
 
+use super::bounds::lacking;
 use super::walk::{walk, Walk};
 use super::Place;
 use crate::table::Table;
+use crate::tree::Relation;
 
-/// `help: write dynamic_check(n >= 1); before line 7`, if that is all that the refused statement lacks.
-pub fn check_before(place: &Place, s: usize, condition: [i32; 4], refused: usize) -> Option<String> {
-    let [left, relation, form, right] = condition;
-    let repaired = place.printer.table.with_before(s, [10, left, relation, form, right, 0, 0]);
-    let seen = walk(&repaired.words(), Some(s + 1));
-    // A check that can never hold would let everything pass.
-    let can_hold = seen.asked.as_ref().is_some_and(|moment| !moment.facts.contradictory());
-    let refused = if refused < s { refused } else { refused + 1 };
-    let condition = place.printer.condition(condition);
-    (can_hold && gets_past(&repaired, refused, &seen))
-        .then(|| format!("help: write dynamic_check({condition}); before {}", place.line(s)))
+/// More checks than these are no advice.
+const MOST_CHECKS: usize = 4;
+/// Nor are more statements in a bundle.
+const MOST_BUNDLED: usize = 4;
+
+/// A dynamic check that a routine lacks.
+pub struct Check {
+    /// The statement that it has to come before.
+    pub before: usize,
+    pub condition: [i32; 4],
+}
+
+impl Check {
+    /// The condition as it is asked earlier, before another statement: n >= k by what n loses in between.
+    fn at(&self, table: &Table, earlier: usize) -> [i32; 4] {
+        let [n, relation, form, k] = self.condition;
+        if (relation, form) != (Relation::GreaterEqual as i32, 1) {
+            return self.condition;
+        }
+        let between = table.statements.get(earlier..self.before).unwrap_or_default();
+        let lost = between.iter().filter(|record| matches!(record, [2, x, y, ..] if *x == n && *y == n));
+        [n, relation, form, lost.fold(k, |k, record| k.saturating_sub(record[3])).max(0)]
+    }
+}
+
+/// What would show the bounds after a refused statement: checks before it, or a bundle with its neighbours, or both.
+pub fn for_bounds(place: &Place, refused: usize) -> Option<String> {
+    let table = place.printer.table;
+    if let Some((at, conditions)) = checks(table, refused) {
+        return Some(format!("help: write {} before {}", written(place, &conditions), place.line(at)));
+    }
+    let groups = groups(table, refused);
+    let alone =
+        groups.iter().copied().find(|&(first, count)| passes(&table.with_bundle(first, count), first));
+    if let Some(group) = alone {
+        return Some(format!("help: {}", in_one(place, group)));
+    }
+    groups.into_iter().find_map(|group| {
+        let (at, conditions) = checks(&table.with_bundle(group.0, group.1), group.0)?;
+        let conditions = written(place, &conditions);
+        (at == group.0).then(|| format!("help: {}, with {conditions} before it", in_one(place, group)))
+    })
+}
+
+/// `dynamic_check(n >= 1); and dynamic_check(m >= 1);`.
+fn written(place: &Place, conditions: &[[i32; 4]]) -> String {
+    let check = |condition: &[i32; 4]| format!("dynamic_check({});", place.printer.condition(*condition));
+    conditions.iter().map(check).collect::<Vec<_>>().join(" and ")
+}
+
+/// Conditions that are all that a refused statement lacks, and the statement before which they are to be tested. A run that stops
+/// inside of a bundle may leave bounds untrue, so the head of a bundle comes first.
+fn checks(table: &Table, refused: usize) -> Option<(usize, Vec<[i32; 4]>)> {
+    let mut trial = Trial::of(table, refused, &[], refused);
+    for check in lacking(table, &trial.seen, refused) {
+        let at_head = table.bundle_around(check.before).map(|head| (head, check.at(table, head)));
+        let mut places = at_head.into_iter().chain([(check.before, check.condition)]);
+        let suffices = |&(at, condition): &_| Trial::of(table, at, &[condition], refused).passes;
+        if let Some((at, condition)) = places.find(suffices) {
+            return Some((at, vec![condition]));
+        }
+    }
+    let at = table.bundle_around(refused).unwrap_or(refused);
+    let mut conditions = Vec::new();
+    while conditions.len() < MOST_CHECKS {
+        let written = conditions.len();
+        let next = lacking(&trial.table, &trial.seen, refused + written).into_iter().next()?;
+        conditions.push(next.at(&trial.table, at + written));
+        trial = Trial::of(table, at, &conditions, refused);
+        if trial.passes {
+            return Some((at, without_needless(table, at, conditions, refused)));
+        }
+    }
+    None
+}
+
+/// The conditions without those that a later one makes needless.
+fn without_needless(
+    table: &Table,
+    at: usize,
+    mut conditions: Vec<[i32; 4]>,
+    refused: usize,
+) -> Vec<[i32; 4]> {
+    for number in (0..conditions.len()).rev() {
+        let mut fewer = conditions.clone();
+        fewer.remove(number);
+        if Trial::of(table, at, &fewer, refused).passes {
+            conditions = fewer;
+        }
+    }
+    conditions
+}
+
+/// A routine with checks written before a statement.
+struct Trial {
+    table: Table,
+    seen: Walk,
+    /// Whether the walk came past the refused statement.
+    passes: bool,
+}
+
+impl Trial {
+    fn of(table: &Table, at: usize, conditions: &[[i32; 4]], refused: usize) -> Trial {
+        let mut table = table.clone();
+        for &[left, relation, form, right] in conditions.iter().rev() {
+            table = table.with_before(at, [10, left, relation, form, right, 0, 0]);
+        }
+        let seen = walk(&table.words(), Some(at + conditions.len()));
+        // Checks that can never hold would let everything pass.
+        let can_hold = seen.asked.as_ref().is_some_and(|moment| !moment.facts.contradictory());
+        let refused = if refused < at { refused } else { refused + conditions.len() };
+        let passes = can_hold && gets_past(&table, refused, &seen);
+        Trial { table, seen, passes }
+    }
+}
+
+/// Runs of plain statements of one block, outside of bundles, with the refused one among them: the first and how many. Short ones
+/// come first, and those that begin with the refused statement.
+fn groups(table: &Table, refused: usize) -> Vec<(usize, usize)> {
+    if table.bundle_around(refused).is_some() {
+        return Vec::new();
+    }
+    let block = table.block_around(refused);
+    let is_plain = |s: usize| matches!(table.statements[s][0], 1..=10 | 14);
+    let group = |count: usize| (0..count).filter_map(move |back| Some((refused.checked_sub(back)?, count)));
+    let groups = (2..=MOST_BUNDLED).flat_map(group);
+    let inside = |&(first, count): &(usize, usize)| first >= block.start && first + count <= block.end;
+    groups.filter(inside).filter(|&(first, count)| (first..first + count).all(is_plain)).collect()
+}
+
+/// `put both in one bundled { .. }`; an assignment and the where for its target are written as one.
+fn in_one(place: &Place, (first, count): (usize, usize)) -> String {
+    let printer = &place.printer;
+    let statements: Vec<String> = (first..first + count).map(|s| printer.statement(s)).collect();
+    let records = &printer.table.statements[first..first + count];
+    match records {
+        [[4..=7, target, ..], [14, p, row, ..]] if target == p => {
+            let bounds = printer.row_to_write(*p, *row);
+            format!("write it as one: {} where {} : {bounds};", statements[0], printer.name(*p))
+        }
+        _ => {
+            let which = if count == 2 { "both" } else { "these" };
+            format!("put {which} in one bundled {{ {}; }}", statements.join("; "))
+        }
+    }
 }
 
 /// A pointer that has one row on one way through a head and another on the other; -1 is its own bound.

@@ -1,10 +1,12 @@
 //! Refusals 8 and 9: which inequality between declared and known ends is not shown, and what moved or lost the known end.
 
+use super::advice::{self, Check};
 use super::facts::note;
 use super::walk::{Moment, Walk};
-use super::{advice, Explanation, Place};
+use super::{Explanation, Place};
 use crate::library::Refusal;
 use crate::rows::InForce;
+use crate::table::Table;
 use crate::tree::Relation;
 use oracle::checker::{KnownBounds, KnownEnd, Value};
 use oracle::facts::{node_or_zero, Facts, GREATEST};
@@ -24,7 +26,7 @@ pub fn not_shown(place: &Place, seen: &Walk, refusal: &Refusal) -> Explanation {
     let mut explanation = Explanation { at: place.statement(s), sentence, notes: Vec::new() };
     if let Some(moment) = &seen.after {
         notes(place, moment, pointer, &mut explanation);
-        explanation.notes.extend(help(place, moment, pointer).map(|help| (None, help)));
+        explanation.notes.extend(advice::for_bounds(place, s).map(|help| (None, help)));
     }
     explanation
 }
@@ -64,7 +66,7 @@ fn notes(place: &Place, moment: &Moment, pointer: usize, explanation: &mut Expla
     let note_declared = format!("note: declared {when}: {} : {bounds}", printer.name(pointer as i32));
     explanation.notes.push((place.declaration(&rows, pointer), note_declared));
     let mut variables = Vec::new();
-    for (side, gap) in unshown(place, moment, pointer) {
+    for (side, gap) in unshown(printer.table, moment, pointer) {
         variables.extend(side.variables());
         explanation.notes.push((None, format!("note: {}", side.reason(&gap, place, moment, pointer))));
     }
@@ -90,8 +92,7 @@ enum Gap {
     Lost,
 }
 
-fn unshown(place: &Place, moment: &Moment, pointer: usize) -> Vec<(Side, Gap)> {
-    let table = place.printer.table;
+fn unshown(table: &Table, moment: &Moment, pointer: usize) -> Vec<(Side, Gap)> {
     let [q, n, k, r, m, j] = moment.rows(table).bounds(table, pointer);
     let Some(KnownBounds { size: known_size, lower, upper }) = moment.known.of(pointer) else {
         return Vec::new();
@@ -168,8 +169,12 @@ impl Side {
                 }
             }
             Gap::Sizes => {
-                let element = counted(size);
-                format!("an end with an integer in elements of {element} cannot be compared with one of {known_size}")
+                let is_declared = self.declared.integer.is_some();
+                let (with, other) = if is_declared { (size, known_size) } else { (known_size, size) };
+                let element = counted(with);
+                format!(
+                    "an end with an integer in elements of {element} cannot be compared with one of {other}"
+                )
             }
             Gap::Short(cells) if *cells > UNRELATED => "nothing relates them".to_string(),
             Gap::Short(cells) if size > 1 => format!("short by {}", counted(*cells)),
@@ -201,7 +206,7 @@ fn counted(cells: i64) -> String {
 /// The statement that made an end unknown, and why it could not be turned round.
 fn lost(place: &Place, s: usize) -> String {
     let printer = &place.printer;
-    let why = match may_wrap(place, s) {
+    let why = match may_wrap(printer.table, s) {
         Some((n, k)) if k > 0 => {
             format!("may wrap: {} <= {} is not shown there", printer.name(n), GREATEST - k)
         }
@@ -212,20 +217,25 @@ fn lost(place: &Place, s: usize) -> String {
 }
 
 /// n and k of a statement n := n + k, which is turned round where it does not wrap.
-fn may_wrap(place: &Place, s: usize) -> Option<(i32, i64)> {
-    let [kind, x, y, k, ..] = place.printer.table.statements[s];
+fn may_wrap(table: &Table, s: usize) -> Option<(i32, i64)> {
+    let [kind, x, y, k, ..] = table.statements[s];
     (kind == 2 && x == y && k != 0).then_some((x, i64::from(k)))
 }
 
-/// A check that is all that is missing: n >= k before n := n - k, or the order of two integers before the refused statement.
-fn help(place: &Place, moment: &Moment, pointer: usize) -> Option<String> {
-    let refused = moment.statement;
-    let wrapping = |s: usize| may_wrap(place, s).filter(|(_, k)| *k < 0).map(|(n, k)| (s, n, -k));
+/// Checks that show what is missing after a refused statement: n >= k before n := n - k, or the order of two integers before the
+/// statement itself. None where the walk was not refused there.
+pub fn lacking(table: &Table, seen: &Walk, refused: usize) -> Vec<Check> {
+    let (Err(refusal), Some(moment)) = (&seen.answer, &seen.after) else { return Vec::new() };
+    let Some(pointer) = refusal.pointer.filter(|_| refusal.place as usize == refused) else {
+        return Vec::new();
+    };
+    let pointer = usize::from(pointer);
+    let wrapping = |s: usize| may_wrap(table, s).filter(|(_, k)| *k < 0).map(|(n, k)| (s, n, -k));
     let lost = moment.changed[pointer].into_iter().flatten().find_map(wrapping);
-    if let Some((s, n, k)) = lost {
-        return advice::check_before(place, s, [n, Relation::GreaterEqual as i32, 1, k as i32], refused);
+    if let Some((before, n, k)) = lost {
+        return vec![Check { before, condition: [n, Relation::GreaterEqual as i32, 1, k as i32] }];
     }
-    let unshown = unshown(place, moment, pointer).into_iter();
-    let mut lacking = unshown.filter_map(|(side, _)| side.lacking(&moment.facts));
-    lacking.find_map(|condition| advice::check_before(place, refused, condition, refused))
+    let unshown = unshown(table, moment, pointer).into_iter();
+    let conditions = unshown.filter_map(|(side, _)| side.lacking(&moment.facts));
+    conditions.map(|condition| Check { before: refused, condition }).collect()
 }

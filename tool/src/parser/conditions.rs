@@ -20,19 +20,21 @@ impl Parser<'_> {
     pub(super) fn condition(&mut self) -> Fallible<Condition> {
         self.expect("(")?;
         let left = self.condition_left()?;
+        self.not_divided()?;
         let Some(relation) = self.relation() else {
             return match self.peek().kind {
                 Kind::Mark("=") => self.wrong("`=` assigns; write `==` to compare"),
                 Kind::Mark("[") => self.wrong(COMPUTE),
-                Kind::Mark("+" | "-" | "*" | "/" | "%" | "(") => self.wrong(COMPUTE),
+                Kind::Mark("+" | "-" | "*" | "(") => self.wrong(COMPUTE),
                 Kind::Mark(")" | "&&" | "||") => self.wrong(COMPARES),
                 _ => self.unexpected("a relation"),
             };
         };
         let right = self.condition_right()?;
+        self.not_divided()?;
         match self.peek().kind {
             Kind::Mark("&&" | "||") => return self.wrong("a condition is one comparison: nest ifs"),
-            Kind::Mark("+" | "-" | "*" | "/" | "%" | "[" | "(") => return self.wrong(COMPUTE),
+            Kind::Mark("+" | "-" | "*" | "[" | "(") => return self.wrong(COMPUTE),
             _ => self.expect(")")?,
         }
         Ok(Condition { left, relation, right })
@@ -42,9 +44,26 @@ impl Parser<'_> {
         match self.peek().kind {
             Kind::Mark("!") => self.wrong("a condition compares: write `== 0` or `== NULL`"),
             Kind::Mark("*" | "(") => self.wrong(COMPUTE),
-            Kind::Number(_) | Kind::Word("NULL") => self.wrong("the variable comes first: n > 0"),
+            Kind::Number(_) | Kind::Word("NULL") => self.variable_first(),
             _ => self.name(),
         }
+    }
+
+    /// A number on the left: the same comparison with the variable first, where there is one.
+    fn variable_first<T>(&self) -> Fallible<T> {
+        let (number, relation, variable) = (self.peek().text, self.ahead(1).text, self.ahead(2));
+        let turned = match relation {
+            "<" => ">",
+            ">" => "<",
+            "<=" => ">=",
+            ">=" => "<=",
+            "==" | "!=" => relation,
+            _ => "",
+        };
+        if turned.is_empty() || variable.kind != Kind::Name {
+            return self.wrong("a condition compares a variable: n > 0");
+        }
+        self.wrong(format!("the variable comes first: {} {turned} {number}", variable.text))
     }
 
     fn condition_right(&mut self) -> Fallible<Right> {

@@ -6,24 +6,41 @@ mod statements;
 mod values;
 
 use crate::diagnostics::{fail, Fallible, Pos};
+use crate::lexer::Lexer;
 use crate::tokens::{is_type, Kind, Token};
 use crate::tree::*;
+use std::collections::VecDeque;
 
 /// Blocks may be nested so deep that no text can exhaust the stack.
 const MAX_NESTING: usize = 64;
 
-pub fn parse(tokens: Vec<Token>) -> Fallible<Unit> {
-    Parser::new(tokens).unit()
-}
+/// Tokens that are looked at before they are taken.
+const LOOK_AHEAD: usize = 3;
 
 pub(crate) struct Parser<'a> {
-    tokens: Vec<Token<'a>>,
-    next: usize,
+    lexer: Lexer<'a>,
+    /// The tokens that come next; never empty, for the last one stays.
+    window: VecDeque<Token<'a>>,
+    /// The position behind the last token that was taken.
+    behind: Option<Pos>,
 }
 
 impl<'a> Parser<'a> {
-    pub(crate) fn new(tokens: Vec<Token<'a>>) -> Parser<'a> {
-        Parser { tokens, next: 0 }
+    pub(crate) fn new(text: &'a str) -> Parser<'a> {
+        let mut parser = Parser { lexer: Lexer::new(text), window: VecDeque::new(), behind: None };
+        parser.look_ahead();
+        parser
+    }
+
+    fn look_ahead(&mut self) {
+        while self.window.len() < LOOK_AHEAD && !self.window.back().is_some_and(Token::is_last) {
+            self.window.push_back(self.lexer.next_token());
+        }
+    }
+
+    /// The first comment of what was read.
+    pub(crate) fn first_comment(&self) -> Option<Pos> {
+        self.lexer.first_comment
     }
 
     pub(crate) fn peek(&self) -> &Token<'a> {
@@ -32,7 +49,8 @@ impl<'a> Parser<'a> {
 
     /// The token so many further on; the last one stands for all behind it.
     fn ahead(&self, count: usize) -> &Token<'a> {
-        &self.tokens[(self.next + count).min(self.tokens.len() - 1)]
+        debug_assert!(count < LOOK_AHEAD);
+        &self.window[count.min(self.window.len() - 1)]
     }
 
     pub(crate) fn at(&self) -> Pos {
@@ -41,7 +59,11 @@ impl<'a> Parser<'a> {
 
     pub(crate) fn take(&mut self) -> Token<'a> {
         let token = self.peek().clone();
-        self.next += 1;
+        if self.window.len() > 1 {
+            self.window.pop_front();
+            self.look_ahead();
+        }
+        self.behind = Some(token.end);
         token
     }
 
@@ -51,7 +73,9 @@ impl<'a> Parser<'a> {
 
     pub(crate) fn accept(&mut self, mark: &str) -> bool {
         let found = self.is(mark);
-        self.next += usize::from(found);
+        if found {
+            self.take();
+        }
         found
     }
 
@@ -79,11 +103,12 @@ impl<'a> Parser<'a> {
         if self.accept(";") {
             return Ok(());
         }
-        if self.next > 0 && !matches!(self.peek().kind, Kind::Wrong(_)) {
-            let message = format!("expected `;`, found {}", self.peek().shown());
-            return fail(self.tokens[self.next - 1].end, message);
+        match self.behind {
+            Some(behind) if !matches!(self.peek().kind, Kind::Wrong(_)) => {
+                fail(behind, format!("expected `;`, found {}", self.peek().shown()))
+            }
+            _ => self.unexpected("`;`"),
         }
-        self.unexpected("`;`")
     }
 
     pub(crate) fn is_name(&self) -> bool {
@@ -134,7 +159,7 @@ impl<'a> Parser<'a> {
         self.wrong(format!("`{text}` is not part of the subset{instead}"))
     }
 
-    fn unit(&mut self) -> Fallible<Unit> {
+    pub(crate) fn unit(&mut self) -> Fallible<Unit> {
         let mut unit = Unit { objects: Vec::new(), routines: Vec::new() };
         while self.peek().kind != Kind::End || unit.routines.is_empty() {
             let void = self.accept("void");
@@ -211,6 +236,9 @@ impl<'a> Parser<'a> {
 
     /// `unsigned` and `return` come together.
     fn result(&mut self, routine: &mut Routine, void: bool) -> Fallible<()> {
+        if void && self.is("return") && self.ahead(1).is(";") {
+            return self.wrong("a routine ends behind its last statement: leave the return out");
+        }
         if void && self.is("return") {
             return self
                 .wrong(format!("`{}` is void: a routine with a result is unsigned", routine.name.text));

@@ -116,7 +116,8 @@ impl Parser<'_> {
                 };
                 let at = self.at();
                 let term = self.term(operator, at)?;
-                if let Kind::Mark("+" | "-" | "*" | "/" | "%") = self.peek().kind {
+                self.not_divided()?;
+                if let Kind::Mark("+" | "-" | "*") = self.peek().kind {
                     return self.wrong(ONE_OPERATION);
                 }
                 self.assign(moved_by(target, term))
@@ -136,6 +137,7 @@ impl Parser<'_> {
 
     fn assignment(&mut self) -> Fallible<StatementKind> {
         let target = self.name()?;
+        self.not_divided()?;
         self.expect("=")?;
         if self.is("routines") || self.is_name() && self.ahead(1).is("(") {
             return Ok(StatementKind::Call { result: Some(target), call: self.call()? });
@@ -161,11 +163,10 @@ impl Parser<'_> {
             return self.wrong(ONE_ACCESS);
         }
         let value = self.name()?;
+        self.not_divided()?;
         match self.peek().kind {
             Kind::Mark("(") => fail(value.at, format!("{stored} result in a variable first")),
-            Kind::Mark("+" | "-" | "*" | "/" | "%") => {
-                self.wrong(format!("{stored} sum in a variable first"))
-            }
+            Kind::Mark("+" | "-" | "*") => self.wrong(format!("{stored} sum in a variable first")),
             _ => Ok(StatementKind::Store { cell, value }),
         }
     }

@@ -10,6 +10,16 @@ pub(super) const ONE_ACCESS: &str = "one access a statement: read it into a vari
 const PRODUCT: &str = "a product has two variables: put the number in a variable first";
 
 impl Parser<'_> {
+    /// Two operations of C that no statement has.
+    pub(super) fn not_divided(&self) -> Fallible<()> {
+        match self.peek().kind {
+            Kind::Mark(mark @ ("/" | "%")) => {
+                self.wrong(format!("`{mark}` is not part of the subset: the operations are +, - and *"))
+            }
+            _ => Ok(()),
+        }
+    }
+
     pub(super) fn value(&mut self) -> Fallible<Value> {
         let at = self.at();
         if self.accept("NULL") {
@@ -17,6 +27,7 @@ impl Parser<'_> {
         }
         self.not_negative()?;
         if let Some(number) = self.accept_number() {
+            self.not_divided()?;
             return match self.peek().kind {
                 Kind::Mark("+" | "-") => fail(number.at, "the number comes second: x = y + 1"),
                 Kind::Mark("*") => fail(number.at, PRODUCT),
@@ -30,11 +41,10 @@ impl Parser<'_> {
             let base = self.name()?;
             Value::Sum(self.sum(cast, base, true)?)
         };
+        self.not_divided()?;
         match self.peek().kind {
-            Kind::Mark("+" | "-" | "*" | "/" | "%") if matches!(value, Value::Cell(_)) => {
-                self.wrong(ONE_ACCESS)
-            }
-            Kind::Mark("+" | "-" | "*" | "/" | "%") => self.wrong(ONE_OPERATION),
+            Kind::Mark("+" | "-" | "*") if matches!(value, Value::Cell(_)) => self.wrong(ONE_ACCESS),
+            Kind::Mark("+" | "-" | "*") => self.wrong(ONE_OPERATION),
             _ => Ok(value),
         }
     }
@@ -116,6 +126,7 @@ impl Parser<'_> {
             return self.wrong(ONE_ACCESS);
         }
         let name = self.name()?;
+        self.not_divided()?;
         let element = match self.operator() {
             None => 0,
             Some(Operator::Multiply) => {

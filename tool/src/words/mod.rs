@@ -6,18 +6,15 @@ mod scope;
 mod statements;
 
 use crate::diagnostics::{fail, Diagnostic, Fallible, Pos};
+use crate::files::TEXT;
 use crate::map::{Map, RoutineMap};
 use crate::names::{Names, RoutineNames};
-use crate::parser::parse;
+use crate::parser::Parser;
 use crate::table::Table;
-use crate::tokens::tokens;
 use crate::tree::{Object, Routine, Type, Unit};
 use bounds::{word, Ends};
 use scope::{Globals, Scope};
 use statements::Body;
-
-/// A longer text is not read.
-pub const MAX_TEXT: usize = 1 << 20;
 
 /// What a text is in words.
 #[derive(Debug)]
@@ -33,12 +30,11 @@ pub struct Assembly {
 }
 
 pub fn assemble(text: &str) -> Fallible<Assembly> {
-    if text.len() > MAX_TEXT {
-        return fail(Pos { line: 1, column: 1 }, "a text has 1 MiB at most");
-    }
-    let tokens = tokens(text);
-    let mut assembly = unit(&parse(tokens.list)?)?;
-    assembly.first_comment = tokens.first_comment;
+    let start = Pos { line: 1, column: 1 };
+    TEXT.may_have(text.len()).map_err(|message| Diagnostic::new(start, message))?;
+    let mut parser = Parser::new(text);
+    let mut assembly = unit(&parser.unit()?)?;
+    assembly.first_comment = parser.first_comment();
     Ok(assembly)
 }
 

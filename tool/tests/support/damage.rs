@@ -3,14 +3,15 @@
 use super::generate::case;
 use super::Random;
 use mizzengrape_tool::command::{run_program, verdict, Output};
+use mizzengrape_tool::files::{as_text, IMAGE as IMAGES, TEXT};
 use mizzengrape_tool::names::Names;
 use mizzengrape_tool::printer::print;
-use mizzengrape_tool::program::{as_text, printable, Program};
+use mizzengrape_tool::program::{printable, Program};
 use mizzengrape_tool::words::assemble;
 
 /// Pieces that a damaged text gets.
 const PIECES: &str = "unsigned void return if else while bundled where and array_ptr nt_array_ptr checked nt_checked dynamic_check NULL \
-    routines #define #pragma #include // /* */ <= >= == != += -= *= ++ -- ( ) { } [ ] < > = + - * ; : , ! & && | ? \" \\ ' 0 1 3 \
+    routines #define #pragma #include // /* */ <= >= == != += -= *= ++ -- ( ) { } [ ] < > = + - * ; : , ! & && | ? \" \\ \\0 \\x4 \\9 ' 0 1 3 \
     65536 65537 2147483648 4294967295 4294967296 010 0x 0xFFFFFFFF 7u count bounds rows n0 n1 p0 p1 s0 o0 b0 r0 r1 x _ int for \u{e9} \
     \u{feff} \u{0} \r \t \n";
 
@@ -39,7 +40,7 @@ fn text(random: &mut Random, texts: &[String]) {
     for _ in 0..1 + random.below(4) {
         damage(random, &mut bytes);
     }
-    let Ok(source) = as_text("damaged.c", bytes, false) else { return };
+    let Ok(source) = as_text("damaged.c", bytes, &TEXT, false) else { return };
     let Ok(program) = Program::of_text("damaged.c", source, random.chance(50)) else { return };
     answered(verdict(&program, random.chance(50)));
     let text = program.text.as_ref().expect("a text that was assembled");
@@ -104,7 +105,7 @@ fn image(random: &mut Random, texts: &[String]) {
     for _ in 0..random.below(4) {
         damage(random, &mut bytes);
     }
-    let Ok(image) = as_text("image", bytes, true) else { return };
+    let Ok(image) = as_text("image", bytes, &IMAGES, true) else { return };
     // A memory of the greatest size for every fifth case would take all the time.
     if image.contains("65536")
         || image.contains("65537")

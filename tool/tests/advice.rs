@@ -1,0 +1,129 @@
+//! What is said to repair a refused routine. Each advice is followed here, and the library accepts what comes of it.
+
+use mizzengrape_tool::command::verdict;
+use mizzengrape_tool::program::Program;
+
+/// The line `help: ..` for a text, if there is one, and the verdict.
+fn help(text: &str) -> (Option<String>, String) {
+    let program = Program::of_text("r.c", text.to_string(), false).unwrap_or_else(|wrong| panic!("{wrong}"));
+    let output = verdict(&program, false).expect("a verdict");
+    let help = output.err.lines().find_map(|line| line.strip_prefix("help: ")).map(str::to_string);
+    (help, output.out.trim_end().to_string())
+}
+
+/// A routine with row : count(rows), an object of eight cells, and these statements from line 4 on.
+fn routine(statements: &str) -> String {
+    format!("unsigned o checked[8];\nvoid f(array_ptr<unsigned> row : count(rows), unsigned rows, unsigned x)\n{{\n{statements}\n}}\n")
+}
+
+/// The advice for statements, and the same statements with the advice followed, which are accepted.
+fn followed(statements: &str, advice: &str, repaired: &str) {
+    let (found, answer) = help(&routine(statements));
+    assert!(answer.starts_with("refused 8 "), "{statements}: {answer}");
+    assert_eq!(found.as_deref(), Some(advice), "{statements}");
+    assert_eq!(help(&routine(repaired)), (None, "accepted".to_string()), "{repaired}");
+}
+
+#[test]
+fn a_check_stands_before_the_bundle_where_that_suffices() {
+    followed(
+        "bundled {\nrow = row + 1;\nrows = rows - 1;\n}",
+        "write dynamic_check(rows >= 1); before line 4",
+        "dynamic_check(rows >= 1);\nbundled {\nrow = row + 1;\nrows = rows - 1;\n}",
+    );
+    // By as much as the count is lowered before.
+    followed(
+        "bundled {\nrow = row + 2;\nrows = rows - 1;\nrows = rows - 1;\n}",
+        "write dynamic_check(rows >= 2); before line 4",
+        "dynamic_check(rows >= 2);\nbundled {\nrow = row + 2;\nrows = rows - 1;\nrows = rows - 1;\n}",
+    );
+    // What the bundle assigns first is asked behind that.
+    followed(
+        "bundled {\nrow = o;\nrows = x;\nwhere row : count(rows);\n}",
+        "write dynamic_check(rows <= 8); before line 7",
+        "bundled {\nrow = o;\nrows = x;\ndynamic_check(rows <= 8);\nwhere row : count(rows);\n}",
+    );
+}
+
+#[test]
+fn several_checks_are_named_together() {
+    let copy = |checks: &str| {
+        format!(
+            "void copy(array_ptr<unsigned> s : count(n), unsigned n, array_ptr<unsigned> d : count(m), unsigned m)\n{{\n{checks}\
+             bundled {{\ns = s + 1;\nn = n - 1;\nd = d + 1;\nm = m - 1;\n}}\n}}\n"
+        )
+    };
+    let advice = "write dynamic_check(n >= 1); and dynamic_check(m >= 1); before line 3".to_string();
+    assert_eq!(help(&copy("")), (Some(advice), "refused 8 0 0".to_string()));
+    assert_eq!(
+        help(&copy("dynamic_check(n >= 1);\ndynamic_check(m >= 1);\n")),
+        (None, "accepted".to_string())
+    );
+}
+
+#[test]
+fn neighbours_are_put_in_one_bundle() {
+    followed(
+        "dynamic_check(rows > 0);\nrow++;\nrows--;",
+        "put both in one bundled { row = row + 1; rows = rows - 1; }",
+        "dynamic_check(rows > 0);\nbundled { row = row + 1; rows = rows - 1; }",
+    );
+    followed(
+        "row++;\nrows--;",
+        "put both in one bundled { row = row + 1; rows = rows - 1; }, with dynamic_check(rows >= 1); before it",
+        "dynamic_check(rows >= 1);\nbundled { row = row + 1; rows = rows - 1; }",
+    );
+    followed(
+        "while (rows > 0) {\nx = row[0];\nrow++;\nrows--;\n}",
+        "put both in one bundled { row = row + 1; rows = rows - 1; }",
+        "while (rows > 0) {\nx = row[0];\nbundled { row = row + 1; rows = rows - 1; }\n}",
+    );
+    // A statement between, and the refused one behind.
+    followed(
+        "dynamic_check(rows > 0);\nrow++;\nx = x + 1;\nrows--;",
+        "put these in one bundled { row = row + 1; x = x + 1; rows = rows - 1; }",
+        "dynamic_check(rows > 0);\nbundled { row = row + 1; x = x + 1; rows = rows - 1; }",
+    );
+    followed(
+        "row = o;\nrows = 8;",
+        "write dynamic_check(rows <= 8); before line 4",
+        "dynamic_check(rows <= 8);\nrow = o;",
+    );
+    followed(
+        "rows = 8;\nrow = o;",
+        "put both in one bundled { rows = 8; row = o; }",
+        "bundled { rows = 8; row = o; }",
+    );
+    // Neighbours of another block, and those that do not help, are left alone.
+    let (none, answer) = help(&routine("dynamic_check(rows > 0);\nif (x > 0) {\nrow++;\n}\nrows--;"));
+    assert_eq!((none, answer.as_str()), (None, "refused 8 2 0"));
+    assert_eq!(help(&routine("dynamic_check(rows > 0);\nrow++;\nx = 1;")).0, None);
+}
+
+#[test]
+fn bounds_that_follow_are_written_as_one() {
+    let choose = |statements: &str| {
+        format!("unsigned o checked[4][3];\nvoid f(array_ptr<unsigned checked[3]> row : count(0))\n{{\n{statements}\n}}\n")
+    };
+    let advice = "write it as one: row = o where row : count(4);".to_string();
+    assert_eq!(help(&choose("row = o;\nwhere row : count(4);")), (Some(advice), "refused 8 1 0".to_string()));
+    assert_eq!(help(&choose("row = o where row : count(4);")), (None, "accepted".to_string()));
+}
+
+/// The end with the integer is the one that cannot be compared.
+#[test]
+fn the_side_with_the_integer_is_named() {
+    let rows = |row: &str, cell: &str| {
+        let text = format!(
+            "void f(array_ptr<unsigned checked[3]> row : count({row}), array_ptr<unsigned> cell : count({cell}), unsigned n)\n{{\nrow = cell;\n}}\n"
+        );
+        let program = Program::of_text("r.c", text, false).expect("a text");
+        verdict(&program, false).expect("a verdict").err
+    };
+    let named = |with: &str, other: &str| {
+        format!("an end with an integer in elements of {with} cannot be compared with one of {other} (")
+    };
+    assert!(rows("4", "n").contains(&named("1 cell", "3")), "{}", rows("4", "n"));
+    assert!(rows("n", "12").contains(&named("3 cells", "1")), "{}", rows("n", "12"));
+    assert_eq!(rows("4", "12"), "");
+}
