@@ -37,7 +37,8 @@
 
    Running again. A call always begins with the first statement, and with the bounds of each pointer's own record: rows of kind 14 are in force only while a run
    goes on. What a done run left may be lent to the next run, with the origins of its pointers as they are then, where those bounds are true of it; so a
-   routine that registers one boat is run once for each boat.
+   routine that registers one boat is run once for each boat. So may what a stopped run left; but a stop inside a bundle may leave bounds untrue, and lent
+   again they are refused with 12.
    Going on after a spent run. No call begins in the middle, so the values that a spent run left are not where the next call would go on: lent again, they begin
    another run at the first statement, and where the run was spent inside a bundle that is refused with 12 if the bounds are untrue there. To go on, keep a
    copy of cells and values from before the run, and run that copy again with a greater limit: the run takes the same steps, passes the point where it was spent

@@ -15,7 +15,7 @@ void copy_name(nt_array_ptr<unsigned> from : count(from_letters), unsigned from_
     while (letter != 0) {
         to[i] = letter;
         i = i + 1;
-        letter = from[i];    // at the upper end at the latest this is 0
+        letter = from[i];    // if from_letters reaches the 0, the loop ends there; if not, check 3 stops the run
     }
     to[i] = letter;
 }
