@@ -21,7 +21,8 @@ const A_TABLE: &str = "; a table's name ends in .tbl";
 
 pub const TEXT: Sort = Sort { what: "a text", most: 1, if_no_text: A_TABLE };
 pub const WORDS: Sort = Sort { what: "a file of words", most: 1, if_no_text: A_TABLE };
-pub const TABLE: Sort = Sort { what: "a table", most: 1, if_no_text: "" };
+/// Far longer ones than any that is accepted, so that the library's verdict on their length is given.
+pub const TABLE: Sort = Sort { what: "a table", most: 256, if_no_text: "" };
 pub const LIST: Sort = Sort { what: "a list of loop facts", most: 1, if_no_text: "" };
 pub const NAMES: Sort = Sort { what: "a names file", most: 1, if_no_text: "" };
 /// Sixteen objects of 1,000,000 cells, each written with ten digits, a comma and a blank, take 183 MiB.

@@ -37,8 +37,11 @@ fn nothing_is_cut() {
     );
     let words = folder.write("most.words", format!("{TABLE}{}", &blanks[TABLE.len()..]));
     assert_eq!(folder.command(&["check", &words]).out, "accepted\n");
+    // Of a table the length is the library's to judge.
     let table = folder.write("long.tbl", vec![0; 2_000_000]);
-    assert_eq!(folder.command(&["check", &table]), wrong("long.tbl: error: a table has 1 MiB at most"));
+    let answer = folder.command(&["check", &table]);
+    assert_eq!(answer.out, "refused 1 0\n");
+    assert_eq!(answer.err, "long.tbl: error: refused 1: the table has 500000 words; it may have 6 to 7318\n");
     let table = folder.write("short.tbl", [0; 24]);
     let facts = folder.write("facts", vec![0; MEBIBYTE + 4]);
     let answer = folder.command(&["check", &table, "--facts", &facts]);
