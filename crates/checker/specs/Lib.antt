@@ -1,3 +1,4 @@
 pub mod Walk
+pub mod PlaceLaws
 pub mod WalkLaws
 pub mod VerdictLaws

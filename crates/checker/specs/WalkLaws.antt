@@ -5,7 +5,7 @@ use mathlib.Core.Bool.{Bool, true, false}
 use mathlib.Core.List.{List, []}
 use native.Mathlib.Omega.{arith}
 use lib.IntN.{ℤ}
-use lib.ListN.{length, set, getD}
+use lib.ListN.{set, getD}
 use Rattle.facts.specs.Store.{joined}
 use Rattle.facts.specs.declared.FactSet.{FactSet}
 use Rattle.answers.specs.declared.refusals.Refusal.{Refusal}
@@ -21,8 +21,7 @@ use Rattle.statements.specs.declared.Statement.the-variants.{Plain, If, While, 
 use Rattle.statements.specs.declared.StatementRead.the-variants.{Read, Unread}
 use Rattle.statements.specs.Statements.{statementAt}
 use Rattle.statements.specs.StatementLaws.{read-typed, read-limits, read-counts-if, read-counts-while, read-counts-bundle}
-use Rattle.blocks.specs.Tree.{Block, nil, plain, branch, loop, bundle, unread, simples, node, parse, assigned}
-use Rattle.blocks.specs.Shape.{size}
+use Rattle.blocks.specs.Tree.{Block, nil, unread, simples, node, parse, assigned}
 use Rattle.blocks.specs.TreeLaws.{parse-none, parse-end, parse-some}
 use Rattle.blocks.specs.Layout.{also, when}
 use Rattle.rules.specs.FactSets.{State}
@@ -34,12 +33,12 @@ use Rattle.rules.specs.Verdict.{verdictOf}
 use Rattle.rules.specs.Ranges.{InRange}
 use Rattle.effects.specs.Applied.{Applied, applied}
 use Rattle.effects.specs.Marks.{targetsFrom}
-use Rattle.effects.specs.AssignedLaws.{assigned-targets}
 use Rattle.bounds.specs.Touched.{touches, seenAs, seenOf}
 use Rattle.bounds.specs.declared.touched.Seen.{Seen}
 use Rattle.declared.specs.UntouchedLaws.{unnamed}
 use Rattle.bundles.specs.Bundles.{WalksBundle}
 use Rattle.checker.specs.Walk.{InPlace, Walks}
+use Rattle.checker.specs.PlaceLaws.{after-plain, after-if, after-while, after-bundle, body-assigned}
 use Rattle.effects.specs.FactRulesLaws.{read-ranged}
 use Rattle.rules.specs.declared.Environment.{Environment}
 use Rattle.rules.specs.declared.lookups.Rows.{Rows}
@@ -166,40 +165,6 @@ module _ (T : List ℤ) (h : Sections) (E : Environment) (at left end : ℕ) (w 
   after-here (If c n m) = refl
   after-here (While c n) = refl
   after-here (Bundle n) = refl
-
--- Of a block in its place the blocks that its first statement has, and the rest, are in theirs.
-module _ {T : List ℤ} {h : Sections} {a : ℕ} where
-  after-plain : {s : Simple} {r : Block} → InPlace T h a (plain a s r) → InPlace T h (a + 1) r
-  after-plain p = record { numbered = p .numbered .1; reads = p .reads .1 }
-
-  module _ {c : Condition} {n m : ℕ} {t e r : Block} (q : statementAt T h a ≡ Read (If c n m)) (p : InPlace T h a (branch a c t e r)) where
-    counts : (n ≡ size t) × (m ≡ size e)
-    counts = let i = p .reads .0 in (cc, cc)
-
-    pub then-placed : InPlace T h (a + 1) t
-    then-placed = record { numbered = p .numbered .1; reads = p .reads .1 }
-
-    pub else-placed : InPlace T h (a + 1 + n) e
-    else-placed = let x = counts .0 in record { numbered = rw x (p .numbered .2); reads = p .reads .2 }
-
-    after-if : InPlace T h (a + 1 + n + m) r
-    after-if = let x = counts .0 in let y = counts .1 in record { numbered = rw (x, y) (p .numbered .3); reads = p .reads .3 }
-
-  module _ {c : Condition} {n : ℕ} {t r : Block} (q : statementAt T h a ≡ Read (While c n)) (p : InPlace T h a (loop a c t r)) where
-    count : n ≡ size t
-    count = let i = p .reads .0 in cc
-
-    pub body-placed : InPlace T h (a + 1) t
-    body-placed = record { numbered = p .numbered .1; reads = p .reads .1 }
-
-    after-while : InPlace T h (a + 1 + n) r
-    after-while = record { numbered = rw count (p .numbered .2); reads = p .reads .2 }
-
-    body-assigned : assigned t ≡ targetsFrom T h (a + 1) n
-    body-assigned = rw count (assigned-targets T h t (a + 1) (p .numbered .1) (p .reads .1))
-
-  after-bundle : {n : ℕ} {ss : List Simple} {r : Block} → statementAt T h a ≡ Read (Bundle n) → InPlace T h a (bundle a ss r) → InPlace T h (a + 1 + n) r
-  after-bundle {n} {ss} q p = let i = p .reads .0 in let x : n ≡ length ss = cc in record { numbered = rw x (p .numbered .1); reads = p .reads .2 }
 
 -- 13, where the rows are not the same, and nothing where they are.
 rows-refused : (a : ℕ) (R Q : List ℕ) → sameRows R Q ≡ false → Refused (RowsDiffer a) ≡ verdictOf (rowsAt a R Q)

@@ -13,7 +13,8 @@ use Rattle.rules.specs.Verdict.{environmentOf}
 use Rattle.effects.specs.FactRulesLaws.{carried-out, assumed, negated-asked}
 use Rattle.bundles.specs.BundleLaws.{applied-short, measured-by}
 use Rattle.checker.specs.WalkLaws.{Kept, Turn, arm, placed, falls as left-falls, negated-offset, if-counts, while-count, bundle-count, if-offset, while-offset, plain-ranged, kept-none, kept-done, kept-end, kept-unread, plain-refused}
-use Rattle.checker.specs.WalkLaws.{turn-plain, turn-untouched, at-node, then-placed, else-placed, body-placed, then-refused, else-refused, turn-if, body-refused, turn-while, bundle-refused, turn-bundle, row-named-within, same-force, row-refused, turn-row, sides-differ, ends-differ}
+use Rattle.checker.specs.PlaceLaws.{then-placed, else-placed, body-placed}
+use Rattle.checker.specs.WalkLaws.{turn-plain, turn-untouched, at-node, then-refused, else-refused, turn-if, body-refused, turn-while, bundle-refused, turn-bundle, row-named-within, same-force, row-refused, turn-row, sides-differ, ends-differ}
 use Rattle.checker.proofs.walk.walk.Reads as walk
 use Rattle.checker.proofs.walk.walk.Kinds as walk-kinds
 use Rattle.checker.proofs.walk.+walk.Lts-walk as walk-lts
