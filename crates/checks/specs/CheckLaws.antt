@@ -1,7 +1,7 @@
 -- Laws of the checks and of conditions, in the words of the code.
 use Prim.Native.Nat.{ℕ, zero, suc, _+_, _*_, _<_}
 use mathlib.Core.Path.{_≡_, refl}
-use mathlib.Core.Bool.{Bool, true, false, not, _||_, cond, _&&_}
+use mathlib.Core.Bool.{Bool, true, false, not, _||_, cond, _&&_, and-false, or-false}
 use mathlib.Core.List.{List}
 use native.Mathlib.Omega.{arith}
 use borrow.Author.Tests.{lt-leb, le-ltb, ne-eqb}
@@ -11,7 +11,7 @@ use Rattle.arrays.specs.TabulateLaws.{getD-tabulate}
 use Rattle.rules.specs.BoundsRules.{nothingKnown, elementSize}
 use Rattle.rules.specs.declared.Environment.{Environment}
 use Rattle.conditions.specs.Conditions.{relates}
-use Rattle.machine.specs.Machine.{value, endValue, none, firstOf, accessFailing, arithmeticFailing, beyond, terminatorFailing, storeFailing}
+use Rattle.machine.specs.Machine.{value, endValue, none, upperEnd, firstOf, accessFailing, arithmeticFailing, beyond, terminatorFailing, storeFailing}
 use Rattle.checks.specs.Checked.{endIn, boundsIn, declaredIn, stepUnless, sizeIn, stringIn}
 use Rattle.answers.specs.declared.stops.Check.the-variants.{NullAccess, OutOfBounds, NullArithmetic, AddressRange, Terminator}
 use Rattle.checks.specs.declared.Step.the-variants.{Go, Stop}
@@ -79,10 +79,6 @@ module _ (at next : ℕ) where
       not-beyond true u b l = le-ltb u b (omega (arith, l))
       not-beyond false u b l = lt-leb u b l
 
-      or-false : (b : Bool) → (b || false) ≡ b
-      or-false true = refl
-      or-false false = refl
-
 -- The element size of a pointer, as the slice has it.
 pub size-in : (W : List ℕ) (p : ℕ) → p < 16 → elementSize (declaredIn W) p ≡ sizeIn W p
 unfolding declaredIn
@@ -91,8 +87,4 @@ size-in W p few = getD-tabulate 16 (sizeIn W) p 1 few
 -- A load is checked as the store of 0.
 pub zero-passes : (E : Environment) (vs : List ℕ) (p a : ℕ) → terminatorFailing E vs p a 0 ≡ none
 unfolding terminatorFailing
-zero-passes E vs p a = go (eqb a _)
-  where
-    go : (b : Bool) → firstOf (b && false) 6 none ≡ none
-    go true = refl
-    go false = refl
+zero-passes E vs p a = rw (and-false (eqb a (upperEnd E vs p)))

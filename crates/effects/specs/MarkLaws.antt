@@ -1,7 +1,7 @@
 -- Laws of the variables that a loop's body assigns and of the facts without them, as the code meets them.
 use Prim.Native.Nat.{ℕ, zero, suc, _+_, _-_, _≤_, _<_}
 use mathlib.Core.Path.{_≡_, refl, sym, ap, _∙_}
-use mathlib.Core.Bool.{Bool, true, false, _||_, cond}
+use mathlib.Core.Bool.{Bool, true, false, _||_, cond, or-assoc, or-true, or-false}
 use mathlib.Core.List.{List, [], _∷_, _++_}
 use native.Mathlib.Omega.{arith}
 use native.Mathlib.Numerals.{sub-one, add-one}
@@ -112,32 +112,16 @@ module _ (m : List Bool) {r : StatementRead} {s : Statement} (e : r ≡ Read s) 
     pub read-past : length m ≡ 16 → 16 ≤ t → m ≡ marked m (targetOf r)
     read-past l h = mark-past m p l (omega arith) ∙ read-plain
 
-or-assoc : (a b c : Bool) → ((a || b) || c) ≡ (a || (b || c))
-or-assoc true b c = refl
-or-assoc false b c = refl
-
-or-true : (a : Bool) → (a || true) ≡ true
-or-true true = refl
-or-true false = refl
-
 set-marks : (m : List Bool) (x v : ℕ) → v < length m → getD (set m x true) v false ≡ (getD m v false || eqb v x)
 set-marks m x v p = go (eqb v x) refl
   where
-    or-false : (a : Bool) → (a || false) ≡ a
-    or-false true = refl
-    or-false false = refl
-
     go : (b : Bool) → eqb v x ≡ b → getD (set m x true) v false ≡ (getD m v false || b)
     go true e = let q : v ≡ x = eqb-true v x e in rw (← q) (getD-set-same m v true false p ∙ sym (or-true (getD m v false)))
     go false e = getD-set-other m x v true false (eqb-false v x e) ∙ sym (or-false (getD m v false))
 
 pub marked-among : (m : List Bool) (xs : List ℕ) (v : ℕ) → v < length m → getD (marked m xs) v false ≡ (getD m v false || among v xs)
 unfolding marked among
-marked-among m [] v p = go (getD m v false)
-  where
-    go : (a : Bool) → a ≡ (a || false)
-    go true = refl
-    go false = refl
+marked-among m [] v p = sym (or-false (getD m v false))
 marked-among m (x ∷ xs) v p =
     marked-among (set m x true) xs v (omega (arith, length-set m x true))
     ∙ (ap (λ (b : Bool). b || among v xs) (set-marks m x v p) ∙ or-assoc (getD m v false) (eqb v x) (among v xs))

@@ -12,6 +12,7 @@ use lib.ListN.{length, getD, List·getD-eq-default}
 use Rattle.sums.specs.Numbers.{bias, zeroVar}
 use Rattle.arrays.specs.TabulateLaws.{length-tabulate}
 use Rattle.chains.specs.Sound.{InRange, new-holds}
+use Rattle.words.specs.NameLaws.{implied}
 use Rattle.words.specs.SectionsLaws.{both}
 use Rattle.words.specs.declared.sections.Sections.{Sections}
 use Rattle.rules.specs.BoundsRules.{declared, isPointer, ownRows, inForce, isString, isTerminated}
@@ -35,11 +36,7 @@ object-of D objects o e t = omega (arith, ltb-true (2 * o + 1) (length D) t)
 is-object : (D : List ℕ) (objects o : ℕ) → length D ≡ 2 * objects → o < objects → isObject D o ≡ true
 is-object D objects o e l = lt-ltb (2 * o + 1) (length D) (omega arith)
 
--- A test that holds only where another one does.
-implied : (a b : Bool) → (not a || b) ≡ true → a ≡ true → b ≡ true
-implied true b e g = e
-implied false b e g = absurd (false≢true g)
-
+-- A test that holds only where another one does; the other way is `implied`.
 implies : (a b : Bool) → (a ≡ true → b ≡ true) → (not a || b) ≡ true
 implies true b f = f refl
 implies false b f = refl

@@ -46,7 +46,7 @@ abbrev pub rowBounds : RowRead → Bounds
 rowBounds (row.Read l u) = record { size = 1; lower = Known l; upper = Known u }
 rowBounds row.Unread = nothingKnown
 
--- One entry for each number of a variable, and for 16, which stands for zero, where it may be asked about.
+-- Of variables, of objects and of rows one entry for each number; where zero, the number 16, is asked about too, one for it.
 unfoldable pub environmentOf : List ℤ → Sections → Environment
 environmentOf T h =
     record {

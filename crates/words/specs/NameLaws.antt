@@ -24,6 +24,11 @@ pub either : (a b : Bool) → (a || b) ≡ true → (a ≡ true) ⊎ (b ≡ true
 either true b e = inl refl
 either false b e = inr e
 
+-- A test that holds only where another one does.
+pub implied : (a b : Bool) → (not a || b) ≡ true → a ≡ true → b ≡ true
+implied true b e g = e
+implied false b e g = absurd (false≢true g)
+
 pub below-holds : (n w : ℕ) → isBelow n w ≡ true → plain w < n
 unfolding isBelow
 below-holds n w e = ltb-true (plain w) n (both (leb bias w) (ltb (plain w) n) e .1)
@@ -92,10 +97,6 @@ module _ (table : List ℤ) (h : Sections) where
   string-pointer v e = either-kind false true (kindAt table h v) e
 
   -- What a kind 2 pointer takes.
-  implied : (a b : Bool) → (not a || b) ≡ true → a ≡ true → b ≡ true
-  implied true b e g = e
-  implied false b e g = absurd (false≢true g)
-
   pub takes-pointer : (v w : ℕ) → takesPointer table h v w ≡ true → stringAt table h (plain v) ≡ true → stringAt table h (plain w) ≡ true
   unfolding takesPointer
   takes-pointer v w e g = implied (stringAt table h (plain v)) (stringAt table h (plain w)) e g
