@@ -125,6 +125,16 @@ bool mizzengrape_run(const int32_t *table, size_t table_len, const uint32_t *dir
                      uint32_t *values, size_t values_len, const uint32_t *origins, size_t origins_len, uint32_t limit, uint32_t *answer,
                      size_t answer_len);
 
+/* The same with a list of loop facts (point 9), four words an entry: while statement, x, y, k; -1 stands for zero. Refusal 17 gives the entry. The answer's
+   words are those of mizzengrape_check, and answer[3] is the number of accesses reported; their statements stand in ascending order at the front of numbers,
+   the words behind stay. False, and nothing written, where the answer has fewer than four words or numbers fewer than 1,024. */
+bool mizzengrape_check_with_facts(const int32_t *table, size_t table_len, const int32_t *listed, size_t listed_len, uint32_t *answer, size_t answer_len,
+                                  uint32_t *numbers, size_t numbers_len);
+
+bool mizzengrape_run_with_facts(const int32_t *table, size_t table_len, const int32_t *listed, size_t listed_len, const uint32_t *directory,
+                                size_t directory_len, uint32_t *cells, size_t cells_len, uint32_t *values, size_t values_len, const uint32_t *origins,
+                                size_t origins_len, uint32_t limit, uint32_t *answer, size_t answer_len);
+
 /* What a guarded call says. Unless it says ANSWERED nothing has been written. */
 typedef enum mizzengrape_call {
     MIZZENGRAPE_ANSWERED = 0,

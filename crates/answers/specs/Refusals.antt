@@ -3,7 +3,8 @@ use Prim.Native.Nat.{ℕ}
 use Rattle.answers.specs.declared.refusals.Refusal.{Refusal}
 use Rattle.answers.specs.declared.refusals.Refusal.the-variants.{Length, Directory, ObjectLength, VariableRecord}
 use Rattle.answers.specs.declared.refusals.Refusal.the-variants.{StatementRecord, BlockLayout, BoundsNotShown}
-use Rattle.answers.specs.declared.refusals.Refusal.the-variants.{BundleAccess, MemorySize, DirectoryPair, EntryLengths, EntryValue, RowsDiffer, LastCell}
+use Rattle.answers.specs.declared.refusals.Refusal.the-variants.{BundleAccess, MemorySize, DirectoryPair, EntryLengths, EntryValue, RowsDiffer}
+use Rattle.answers.specs.declared.refusals.Refusal.the-variants.{LastCell, LoopFact}
 
 -- "Causes of refusal", the column "No." Point 11: "Refusal 7 no longer occurs."
 abbrev pub number : Refusal → ℕ
@@ -23,8 +24,10 @@ number (EntryValue v) = 12
 number (RowsDiffer s) = 13
 -- Point 7: "It refuses with 16, after 12, when such a last cell is not 0 at entry, giving the lowest such object."
 number (LastCell o) = 16
+-- Point 9: "It refuses with 17, giving the first such entry"
+number (LoopFact e) = 17
 
--- The column "Returned": object, variable, statement, pair, or 0.
+-- The column "Returned": object, variable, statement, pair, entry, or 0.
 abbrev pub place : Refusal → ℕ
 place Length = 0
 place Directory = 0
@@ -40,6 +43,7 @@ place EntryLengths = 0
 place (EntryValue v) = v
 place (RowsDiffer s) = s
 place (LastCell o) = o
+place (LoopFact e) = e
 
 -- Refusal 8 also returns a pointer (point 6: "the lowest-numbered one not shown"); the others return none, for which 0 stands.
 abbrev pub pointer : Refusal → ℕ
@@ -57,3 +61,4 @@ pointer EntryLengths = 0
 pointer (EntryValue v) = 0
 pointer (RowsDiffer s) = 0
 pointer (LastCell o) = 0
+pointer (LoopFact e) = 0

@@ -18,6 +18,7 @@ pub enum Refusal {
     EntryValue(usize),
     RowsDiffer(usize),
     LastCell(usize),
+    LoopFact(usize),
 }
 
 pub fn refusal_number(r: Refusal) -> u32
@@ -41,6 +42,7 @@ pub fn refusal_number(r: Refusal) -> u32
         Refusal::EntryValue(_) => 12,
         Refusal::RowsDiffer(_) => 13,
         Refusal::LastCell(_) => 16,
+        Refusal::LoopFact(_) => 17,
     }
 }
 
@@ -65,6 +67,7 @@ pub fn refusal_place(r: Refusal) -> usize
         Refusal::EntryValue(v) => v,
         Refusal::RowsDiffer(a) => a,
         Refusal::LastCell(o) => o,
+        Refusal::LoopFact(e) => e,
     }
 }
 
@@ -90,5 +93,6 @@ pub fn refusal_pointer(r: Refusal) -> usize
         Refusal::EntryValue(_) => 0,
         Refusal::RowsDiffer(_) => 0,
         Refusal::LastCell(_) => 0,
+        Refusal::LoopFact(_) => 0,
     }
 }

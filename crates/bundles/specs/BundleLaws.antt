@@ -22,7 +22,8 @@ use Rattle.blocks.specs.Layout.{also}
 use Rattle.blocks.specs.FlowLaws.{simples-some}
 use Rattle.rules.specs.FactSets.{State}
 use Rattle.rules.specs.Stored.{factsAfter, effect, unshown, accessShown, bundleBounds, bundleFaults}
-use Rattle.rules.specs.Stored.{boundsAfter, stateAfter, unshownIn, rowUnshown, accessIn, bundleAfter}
+use Rattle.rules.specs.Stored.{boundsAfter, stateAfter, unshownIn, rowUnshown, accessIn, bundleAfter, safeIn, accessSafe}
+use Rattle.reports.specs.Reports.{markedIf}
 use Rattle.rules.specs.BoundsRules.{inForce, rowsAfter}
 use Rattle.rules.specs.Rules.{accessAt, boundsAt}
 use Rattle.rules.specs.Verdict.{verdictOf}
@@ -31,12 +32,12 @@ use Rattle.effects.specs.Applied.{Applied, applied}
 use Rattle.declared.specs.Shown.{declaresOf}
 use Rattle.bounds.specs.Touched.{seenAs, seenOf}
 use Rattle.bounds.specs.declared.touched.Seen.{Seen}
-use Rattle.declared.specs.ShownLaws.{row-named, rows-stay, no-row-asked, seen-unshown, seen-access}
+use Rattle.declared.specs.ShownLaws.{row-named, rows-stay, no-row-asked, seen-unshown, seen-access, seen-safe}
 use Rattle.declared.specs.declared.Declares.the-variants.{Row, NoRow}
 use Rattle.declared.specs.Force.{Framed, stateOf}
 use Rattle.declared.specs.ForceLaws.{none-refused, pass, refuse-part}
 use Rattle.declared.specs.declared.force.Frame.{Frame}
-use Rattle.bundles.specs.Bundles.{Passes, WalksBundle}
+use Rattle.bundles.specs.Bundles.{lineMarks, Passes, WalksBundle}
 use Rattle.effects.specs.FactRulesLaws.{effect-spans}
 use Rattle.bounds.specs.BoundsRulesLaws.{effect-short}
 use Rattle.rules.specs.declared.Bounds.{Bounds}
@@ -52,11 +53,11 @@ use Rattle.rules.specs.BoundsRules as boundsRules
 
 -- ---- faults in order
 
-pub stops : {zs : List Refusal} (xs ys : List Refusal) {g : State FactSet} {w : Walked} {r : Refusal} → zs ≡ also xs ys → w .verdict ≡ verdictOf xs
-    → w .verdict ≡ Refused r → Passes zs g w
+pub stops : {zs : List Refusal} (xs ys : List Refusal) {g : State FactSet} {M : List ℕ} {w : Walked} {r : Refusal} → zs ≡ also xs ys
+    → w .verdict ≡ verdictOf xs → w .verdict ≡ Refused r → Passes zs g M w
 stops xs ys z e p =
     let h = refuse-part xs ys e p in
-    record { said = h .0 ∙ ap verdictOf (sym z); kept = λ q. absurd (h .1 (sym z ∙ q)) }
+    record { said = h .0 ∙ ap verdictOf (sym z); kept = λ q. absurd (h .1 (sym z ∙ q)); marked = λ q. absurd (h .1 (sym z ∙ q)) }
 
 access-verdict : (b : Bool) (a : ℕ) → b ≡ false → Refused (BundleAccess a) ≡ verdictOf (accessAt b a)
 unfolding accessAt verdictOf
@@ -66,9 +67,10 @@ access-pass : (b : Bool) (a : ℕ) → b ≡ true → accessAt b a ≡ []
 unfolding accessAt
 access-pass b a e = rw e
 
-pub ends : {xs : List Refusal} {g : State FactSet} {w : Walked} → xs ≡ [] → w .verdict ≡ Accepted → stateOf (w .facts) (w .rows .each) ≡ g → Passes xs g w
+pub ends : {xs : List Refusal} {g : State FactSet} {M : List ℕ} {w : Walked} → xs ≡ [] → w .verdict ≡ Accepted → stateOf (w .facts) (w .rows .each) ≡ g
+    → w .report .words ≡ M → Passes xs g M w
 unfolding verdictOf
-ends e p q = record { said = p ∙ ap verdictOf (sym e); kept = λ z. q }
+ends e p q v = record { said = p ∙ ap verdictOf (sym e); kept = λ z. q; marked = λ z. v }
 
 -- ---- a statement
 
@@ -109,22 +111,27 @@ simples-none (suc n) T h a p = absurd (omega arith)
 abbrev pub lineFaults : Environment → ℕ → ℕ → List Simple → State FactSet → List Bounds → List Refusal
 lineFaults E head a ss w K = also (bundleFaults E a ss w K) (boundsAt head (unshownIn E (bundleAfter ss w) (bundleBounds E ss w K)))
 
-pub record Held (T : List ℤ) (h : Sections) (E : Environment) (head count : ℕ) (w₀ : State FactSet) (K₀ : List Bounds) (at left : ℕ) (f : FactSet) (R : List ℕ)
-    (I : Seen) (K : List Bounds) : Type 0 where
+pub record Held (T : List ℤ) (h : Sections) (E : Environment) (head count : ℕ) (w₀ : State FactSet) (K₀ : List Bounds) (M₀ : List ℕ) (at left : ℕ) (f : FactSet)
+    (R : List ℕ) (I : Seen) (K : List Bounds) (M : List ℕ) : Type 0 where
   pub blamed : lineFaults E head (head + 1) (simples count T h (head + 1)) w₀ K₀ ≡ lineFaults E head at (simples left T h at) (stateOf f R) K
   pub left-state : bundleAfter (simples count T h (head + 1)) w₀ ≡ bundleAfter (simples left T h at) (stateOf f R)
+  pub marks : lineMarks E (head + 1) (simples count T h (head + 1)) w₀ M₀ ≡ lineMarks E at (simples left T h at) (stateOf f R) M
   -- I is what is seen of the environment in force.
   pub inside : I ≡ seenOf (inForce E R)
 
-pub held-none : (T : List ℤ) (h : Sections) (E : Environment) (head count : ℕ) (f : FactSet) (R : List ℕ) {I : Seen} {K : List Bounds}
+pub held-none : (T : List ℤ) (h : Sections) (E : Environment) (head count : ℕ) (f : FactSet) (R : List ℕ) (M : List ℕ) {I : Seen} {K : List Bounds}
     → I ≡ seenOf (inForce E R) → K ≡ I .declared
-    → Held T h E head count (stateOf f R) (inForce E R .declared) (head + 1) count f R I K
-held-none T h E head count f R i k =
+    → Held T h E head count (stateOf f R) (inForce E R .declared) M (head + 1) count f R I K M
+held-none T h E head count f R M i k =
     let e = k ∙ ap (λ (x : Seen). x .declared) i in
-    record { blamed = ap (lineFaults E head (head + 1) (simples count T h (head + 1)) (stateOf f R)) (sym e); left-state = refl; inside = i }
+    record { blamed = ap (lineFaults E head (head + 1) (simples count T h (head + 1)) (stateOf f R)) (sym e); left-state = refl; marks = refl; inside = i }
 
-pub carry : {xs ys : List Refusal} {f g : State FactSet} {w : Walked} → xs ≡ ys → f ≡ g → Passes ys g w → Passes xs f w
-carry e d p = record { said = p .said ∙ ap verdictOf (sym e); kept = λ z. p .kept (sym e ∙ z) ∙ sym d }
+pub carry : {xs ys : List Refusal} {f g : State FactSet} {U M : List ℕ} {w : Walked} → xs ≡ ys → f ≡ g → U ≡ M → Passes ys g M w → Passes xs f U w
+carry e d v p = record {
+  said = p .said ∙ ap verdictOf (sym e);
+  kept = λ z. p .kept (sym e ∙ z) ∙ sym d;
+  marked = λ z. p .marked (sym e ∙ z) ∙ sym v;
+}
 
 also-none : (xs : List Refusal) → also [] xs ≡ xs
 unfolding also
@@ -137,6 +144,20 @@ line-none E head a w K = also-none (boundsAt head (unshownIn E w K))
 after-more : (s : Simple) (ss : List Simple) (w : State FactSet) → bundleAfter (s ∷ ss) w ≡ bundleAfter ss (stateAfter s w)
 unfolding walkRules.bundleAfter
 after-more s ss w = refl
+
+marks-more : (E : Environment) (a : ℕ) (s : Simple) (ss : List Simple) (w : State FactSet) (M : List ℕ)
+    → lineMarks E a (s ∷ ss) w M ≡ lineMarks E (a + 1) ss (stateAfter s w) (markedIf (safeIn E w s) M a)
+unfolding lineMarks
+marks-more E a s ss w M = refl
+
+marks-none : (E : Environment) (a : ℕ) (w : State FactSet) (M : List ℕ) → lineMarks E a [] w M ≡ M
+unfolding lineMarks
+marks-none E a w M = refl
+
+-- A kind 14 is no access.
+pub declare-unmarked : (E : Environment) (w : State FactSet) (p r : ℕ) (M : List ℕ) (a : ℕ) → markedIf (safeIn E w (Declare p r)) M a ≡ M
+unfolding boundsRules.accessSafe markedIf
+declare-unmarked E w p r M a = refl
 
 after-none : (w : State FactSet) → bundleAfter [] w ≡ w
 unfolding walkRules.bundleAfter
@@ -171,24 +192,25 @@ declare-accesses : (E : Environment) (w : State FactSet) (K : List Bounds) (p r 
 unfolding boundsRules.accessShown accessAt
 declare-accesses E w K p r a = refl
 
-module _ {T : List ℤ} {h : Sections} {E : Environment} {head count : ℕ} {w₀ : State FactSet} {K₀ : List Bounds} {at left : ℕ} {f : FactSet} {R : List ℕ}
-    {I : Seen} {K : List Bounds}
-    (k : Held T h E head count w₀ K₀ at left f R I K) where
+module _ {T : List ℤ} {h : Sections} {E : Environment} {head count : ℕ} {w₀ : State FactSet} {K₀ : List Bounds} {M₀ : List ℕ} {at left : ℕ} {f : FactSet}
+    {R : List ℕ} {I : Seen} {K : List Bounds} {M : List ℕ}
+    (k : Held T h E head count w₀ K₀ M₀ at left f R I K M) where
   -- The bundle ends, or is cut short.
-  held-end : {w : Walked} → simples left T h at ≡ [] → Passes (boundsAt head (unshown (seenAs I) f K)) (stateOf f R) w
-      → WalksBundle E head (simples count T h (head + 1)) w₀ K₀ w
+  held-end : {w : Walked} → simples left T h at ≡ [] → Passes (boundsAt head (unshown (seenAs I) f K)) (stateOf f R) M w
+      → WalksBundle E head (simples count T h (head + 1)) w₀ K₀ M₀ w
   held-end e p =
       carry (k .blamed ∙ (ap (λ (ss : List Simple). lineFaults E head at ss (stateOf f R) K) e ∙ line-none E head at (stateOf f R) K))
       (k .left-state ∙ (ap (λ (ss : List Simple). bundleAfter ss (stateOf f R)) e ∙ after-none (stateOf f R)))
-      (carry (ap (boundsAt head) (sym (seen-unshown (inForce E R) f K) ∙ ap (λ (x : Seen). unshown (seenAs x) f K) (sym (k .inside)))) refl p)
+      (k .marks ∙ (ap (λ (ss : List Simple). lineMarks E at ss (stateOf f R) M) e ∙ marks-none E at (stateOf f R) M))
+      (carry (ap (boundsAt head) (sym (seen-unshown (inForce E R) f K) ∙ ap (λ (x : Seen). unshown (seenAs x) f K) (sym (k .inside)))) refl refl p)
 
-  pub held-done : {w : Walked} → left ≤ 0 → Passes (boundsAt head (unshown (seenAs I) f K)) (stateOf f R) w
-      → WalksBundle E head (simples count T h (head + 1)) w₀ K₀ w
+  pub held-done : {w : Walked} → left ≤ 0 → Passes (boundsAt head (unshown (seenAs I) f K)) (stateOf f R) M w
+      → WalksBundle E head (simples count T h (head + 1)) w₀ K₀ M₀ w
   held-done z p = held-end (simples-none left T h at z) p
 
   module _ (some : 0 < left) where
-    pub held-unread : {w : Walked} → statementAt T h at ≡ Unread → Passes (boundsAt head (unshown (seenAs I) f K)) (stateOf f R) w
-        → WalksBundle E head (simples count T h (head + 1)) w₀ K₀ w
+    pub held-unread : {w : Walked} → statementAt T h at ≡ Unread → Passes (boundsAt head (unshown (seenAs I) f K)) (stateOf f R) M w
+        → WalksBundle E head (simples count T h (head + 1)) w₀ K₀ M₀ w
     held-unread e p = held-end (simples-some left T h at _ some e) p
 
     cut : (s : Statement) → ((p : Simple) → s ≡ Plain p → ⊥) → (ss : List Simple) → simplesFrom (Read s) ss ≡ []
@@ -198,8 +220,8 @@ module _ {T : List ℤ} {h : Sections} {E : Environment} {head count : ℕ} {w�
     cut (Bundle i) n ss = refl
 
     pub held-other : {w : Walked} {s : Statement} → statementAt T h at ≡ Read s → ((p : Simple) → s ≡ Plain p → ⊥)
-        → Passes (boundsAt head (unshown (seenAs I) f K)) (stateOf f R) w
-        → WalksBundle E head (simples count T h (head + 1)) w₀ K₀ w
+        → Passes (boundsAt head (unshown (seenAs I) f K)) (stateOf f R) M w
+        → WalksBundle E head (simples count T h (head + 1)) w₀ K₀ M₀ w
     held-other {w} {s} e n p = held-end (simples-some left T h at _ some e ∙ cut s n (simples (left - 1) T h (at + 1))) p
 
     module _ {s : Statement} {p : Simple} (e : statementAt T h at ≡ Read s) (d : s ≡ Plain p) where
@@ -215,24 +237,33 @@ module _ {T : List ℤ} {h : Sections} {E : Environment} {head count : ℕ} {w�
       state-here : bundleAfter (simples count T h (head + 1)) w₀ ≡ bundleAfter (simples (left - 1) T h (at + 1)) (stateAfter p (stateOf f R))
       state-here = k .left-state ∙ (ap (λ (ss : List Simple). bundleAfter ss (stateOf f R)) line ∙ after-more p (simples (left - 1) T h (at + 1)) (stateOf f R))
 
+      marks-here : lineMarks E (head + 1) (simples count T h (head + 1)) w₀ M₀
+          ≡ lineMarks E (at + 1) (simples (left - 1) T h (at + 1)) (stateAfter p (stateOf f R)) (markedIf (safeIn E (stateOf f R) p) M at)
+      marks-here = k .marks ∙ (ap (λ (ss : List Simple). lineMarks E at ss (stateOf f R) M) line
+          ∙ marks-more E at p (simples (left - 1) T h (at + 1)) (stateOf f R) M)
+
       access-here : {b : Bool} → b ≡ accessShown (seenAs I) f K p → b ≡ accessIn E (stateOf f R) K p
       access-here a = a ∙ (ap (λ (x : Seen). accessShown (seenAs x) f K p) (k .inside) ∙ seen-access (inForce E R) f K p)
 
       -- Any kind but 14.
       pub held-access : {w : Walked} {b : Bool} → b ≡ accessShown (seenAs I) f K p → b ≡ false → w .verdict ≡ Refused (BundleAccess at)
-          → WalksBundle E head (simples count T h (head + 1)) w₀ K₀ w
+          → WalksBundle E head (simples count T h (head + 1)) w₀ K₀ M₀ w
       held-access a t v = stops _ _ line-here (v ∙ access-verdict (accessIn E (stateOf f R) K p) at (sym (access-here a) ∙ t)) v
 
-      pub held-more : {b : Bool} {g : FactSet} {L : List Bounds} {x : Effect} → declaresOf p ≡ NoRow → b ≡ accessShown (seenAs I) f K p → b ≡ true
+      pub held-more : {b s : Bool} {g : FactSet} {L : List Bounds} {x : Effect} {W : List ℕ} → declaresOf p ≡ NoRow → b ≡ accessShown (seenAs I) f K p → b ≡ true
+          → s ≡ accessSafe (seenAs I) f p → W ≡ markedIf s M at
           → g ≡ factsAfter p f → x ≡ effect E f p → L ≡ boundsAfter x K
-          → Held T h E head count w₀ K₀ (at + 1) (left - 1) g R I L
-      held-more {b} {g} {L} n a t q x l =
+          → Held T h E head count w₀ K₀ M₀ (at + 1) (left - 1) g R I L W
+      held-more {b} {s} {g} {L} {W = W} n a t y v q x l =
           let o : stateAfter p (stateOf f R) ≡ stateOf g R = ap₂ stateOf (sym q) (rows-stay p R n) in
+          let u : markedIf (safeIn E (stateOf f R) p) M at ≡ W = sym (v ∙ ap (λ (z : Bool). markedIf z M at)
+          (y ∙ (ap (λ (z : Seen). accessSafe (seenAs z) f p) (k .inside) ∙ seen-safe (inForce E R) f p))) in
           let m : boundsAfter (effect E f p) K ≡ L = sym (l ∙ ap (λ (y : Effect). boundsAfter y K) x) in
           record {
             blamed = line-here ∙ (pass _ _ (access-pass (accessIn E (stateOf f R) K p) at (sym (access-here a) ∙ t)) ∙ (pass _ _ (nothing-asked E f K p at n)
                 ∙ ap₂ (lineFaults E head (at + 1) (simples (left - 1) T h (at + 1))) o m));
             left-state = state-here ∙ ap (bundleAfter (simples (left - 1) T h (at + 1))) o;
+            marks = marks-here ∙ ap₂ (lineMarks E (at + 1) (simples (left - 1) T h (at + 1))) o u;
             inside = k .inside;
           }
 
@@ -248,11 +279,11 @@ module _ {T : List ℤ} {h : Sections} {E : Environment} {head count : ℕ} {w�
             also (boundsAt at (rowUnshown E f K (Declare y r))) (lineFaults E head (at + 1) (simples (left - 1) T h (at + 1)) w (boundsAfter x K)))
             (declare-after y r f R) (declare-keeps E f y r)))
 
-        pub held-missed : {w : Walked} {x : Refusal} → v ≡ Refused x → w .verdict ≡ v → WalksBundle E head (simples count T h (head + 1)) w₀ K₀ w
+        pub held-missed : {w : Walked} {x : Refusal} → v ≡ Refused x → w .verdict ≡ v → WalksBundle E head (simples count T h (head + 1)) w₀ K₀ M₀ w
         held-missed t q = stops _ _ row-here (q ∙ z) (q ∙ t)
 
         pub held-row : {Q : List ℕ} {J : Seen} {L : List Bounds} → v ≡ Accepted → L ≡ boundsAfter Keep K → Q ≡ set R y (r + 1) → J ≡ seenOf (inForce E Q)
-            → Held T h E head count w₀ K₀ (at + 1) (left - 1) f Q J L
+            → Held T h E head count w₀ K₀ M₀ (at + 1) (left - 1) f Q J L M
         held-row {Q} {J} {L} t l q j =
             let o : stateAfter p (stateOf f R) ≡ stateOf f Q = ap (λ (x : Simple). stateAfter x (stateOf f R)) (row-named p y r n)
             ∙ (declare-after y r f R ∙ ap (stateOf f) (sym q)) in
@@ -260,5 +291,7 @@ module _ {T : List ℤ} {h : Sections} {E : Environment} {head count : ℕ} {w�
               blamed = row-here ∙ (pass _ _ (none-refused _ z t)
                   ∙ ap₂ (λ (U : List ℕ) (M : List Bounds). lineFaults E head (at + 1) (simples (left - 1) T h (at + 1)) (stateOf f U) M) (sym q) (sym l));
               left-state = state-here ∙ ap (bundleAfter (simples (left - 1) T h (at + 1))) o;
+              marks = marks-here ∙ ap₂ (lineMarks E (at + 1) (simples (left - 1) T h (at + 1))) o
+                  (ap (λ (x : Simple). markedIf (safeIn E (stateOf f R) x) M at) (row-named p y r n) ∙ declare-unmarked E (stateOf f R) y r M at);
               inside = j;
             }

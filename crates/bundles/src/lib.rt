@@ -5,6 +5,7 @@ use bounds::bounds_after;
 use bounds::touched::Seen;
 use chains::shown::answer;
 use declared::Declares;
+use declared::access_safe;
 use declared::access_shown;
 use declared::check_known;
 use declared::check_row;
@@ -17,6 +18,8 @@ use effects::asked::ask_statement;
 use effects::plan_statement;
 use facts::FactSet;
 use reader::read_due;
+use reports::Report;
+use reports::mark_if;
 use rules::Effect;
 use rules::Verdict;
 use rules::lookups::Rows;
@@ -34,21 +37,30 @@ ghost use Rattle.bounds.specs.Touched.{seenAs};
 ghost use Rattle.rules.specs.Ranges.{Measured};
 ghost use Rattle.bundles.specs.Bundles.{Passes, WalksBundle};
 
-// The verdict on a block or a bundle, and the facts and rows in force after it where nothing is refused.
+// The verdict on a block or a bundle; where nothing is refused, the facts and rows in force after it and the report so far.
 pub struct Walked {
     pub verdict: Verdict,
     pub facts: FactSet,
     pub rows: Rows,
+    pub report: Report,
 }
 
 // The end of a bundle with its head at `head`: all declared bounds in force must be shown.
-fn end_bundle(seen: Seen, head: usize, facts: FactSet, rows: Rows, known: KnownBounds) -> Walked
-    ensures { λ r. ⌜ Passes (boundsAt head (unshown (seenAs seen) facts (known .each))) (stateOf facts (rows .each)) r ⌝ }
+fn end_bundle(
+    seen: Seen,
+    head: usize,
+    facts: FactSet,
+    rows: Rows,
+    report: Report,
+    known: KnownBounds,
+) -> Walked
+    ensures { λ r. ⌜ Passes (boundsAt head (unshown (seenAs seen) facts (known .each))) (stateOf facts (rows .each)) (report .words) r ⌝ }
 {
     Walked {
         verdict: check_known(seen, facts, known, head),
         facts,
         rows,
+        report,
     }
 }
 
@@ -61,11 +73,13 @@ pub fn walk_bundle(
     head: usize,
     count: usize,
     given: FactSet,
+    reported: Report,
 ) -> Walked
     requires { ⌜ Measured (environmentOf (now table) sections) × (head < 2 ^ 40) × Framed (environmentOf (now table) sections) frame
         × Forced (environmentOf (now table) sections) (force .rows .each) force ⌝ }
     ensures { λ r. ⌜ WalksBundle (environmentOf (now (table .entry)) sections) head (simples count (now (table .entry)) sections (head + 1))
-        (stateOf given (force .rows .each)) (inForce (environmentOf (now (table .entry)) sections) (force .rows .each) .declared) r ⌝ }
+        (stateOf given (force .rows .each)) (inForce (environmentOf (now (table .entry)) sections) (force .rows .each) .declared)
+        (reported .words) r ⌝ }
 {
     let sizes = frame.sizes;
     let spans = frame.spans;
@@ -74,6 +88,7 @@ pub fn walk_bundle(
     let declared = seen.declared;
     let mut known = KnownBounds { each: declared };
     let mut facts = given;
+    let mut report = reported;
     let mut at = head + 1;
     let mut left = count;
     while left > 0 {
@@ -95,6 +110,7 @@ pub fn walk_bundle(
                         verdict,
                         facts,
                         rows,
+                        report,
                     };
                 };
                 rows = with_row(rows, pointer, row);
@@ -110,8 +126,11 @@ pub fn walk_bundle(
                         verdict: Verdict::Refused(Refusal::BundleAccess(at)),
                         facts,
                         rows,
+                        report,
                     };
                 }
+                let safe = access_safe(seen, facts, simple);
+                report = mark_if(report, at, safe);
                 let answers = answer(facts, ask_statement(simple));
                 let plan = plan_statement(sizes, spans, simple, answers);
                 let effect = plan.effect;
@@ -122,5 +141,5 @@ pub fn walk_bundle(
             }
         }
     }
-    end_bundle(seen, head, facts, rows, known)
+    end_bundle(seen, head, facts, rows, report, known)
 }

@@ -1,54 +1,104 @@
-// The checker: the walk over the statements, and the verdict.
+// The checker: the walk over the statements, the verdict, and the report.
 mod walk; // walk.rt: the walk over the statements
 
+use answers::refusals::Refusal;
 use blocks::Layout;
 use blocks::read_layout;
 use declared::force::frame_of;
 use declared::force::own_force;
 use facts::FactSet;
+use listed::ListForm;
+use listed::check_list;
+use reports::Report;
+use reports::no_report;
 use rules::Verdict;
 use table::Form;
 use table::read_form;
 use words::sections::Sections;
 ghost use mathlib.Core.Path.{_≡_};
+ghost use mathlib.Core.List.{[]};
 ghost use Rattle.table.specs.FormLaws.{Formed};
-ghost use Rattle.rules.specs.Verdict.{verdictOf};
-ghost use Rattle.rules.specs.ByChains.{Judged};
-ghost use Rattle.rules.specs.Stored.{sectionFaults};
+ghost use Rattle.blocks.specs.Layout.{layout};
+ghost use Rattle.listed.specs.ListForm.{listFaults};
+ghost use Rattle.rules.specs.ByChains.{Judged, Reported};
+ghost use Rattle.checker.specs.Checks.{Refuses, ChecksSections};
 
-// Cause 6, then the walk over the statements, begun with what is always known and each pointer's own bound.
-fn check_sections(table: &[i32], sections: Sections) -> Verdict
-    requires { ⌜ Formed (now table) sections ⌝ }
-    ensures { λ r. ⌜ r ≡ verdictOf (sectionFaults (now (table .entry)) sections) ⌝ }
+// What a check answers: the verdict, and which accesses of an accepted routine are reported. By value: nothing is lent for it, and 1,024 bits are small.
+pub struct Checked {
+    pub verdict: Verdict,
+    pub report: Report,
+}
+
+// A refused routine has no report.
+fn refuse(refusal: Refusal) -> Checked
+    ensures { λ r. ⌜ Refuses refusal r ⌝ }
 {
-    let layout = read_layout(table, sections);
-    match layout {
-        Layout::Refused(refusal) => Verdict::Refused(refusal),
-        Layout::LaidOut => {
-            let statements = sections.statements;
-            let walked = walk::walk(
-                table,
-                sections,
-                frame_of(table, sections),
-                own_force(table, sections),
-                0,
-                statements,
-                statements,
-                FactSet::new(),
-            );
-            let verdict = walked.verdict;
-            verdict
-        }
+    Checked {
+        verdict: Verdict::Refused(refusal),
+        report: no_report(),
     }
 }
 
-// The verdict on a routine table.
-pub fn check(table: &[i32]) -> Verdict
-    ensures { λ r. ⌜ Judged (now (table .entry)) r ⌝ }
+// The walk over the statements, begun with what is always known and each pointer's own bound.
+fn check_statements(table: &[i32], sections: Sections, listed: &[i32]) -> Checked
+    requires { ⌜ Formed (now table) sections × (layout (now table) sections ≡ []) × (listFaults (now table) sections (now listed) ≡ []) ⌝ }
+    ensures { λ r. ⌜ ChecksSections (now (table .entry)) sections (now (listed .entry)) r ⌝ }
+{
+    let statements = sections.statements;
+    let walked = walk::walk(
+        table,
+        sections,
+        listed,
+        frame_of(table, sections),
+        own_force(table, sections),
+        0,
+        statements,
+        statements,
+        FactSet::new(),
+        no_report(),
+    );
+    let verdict = walked.verdict;
+    let Verdict::Refused(refusal) = verdict else {
+        let report = walked.report;
+        return Checked {
+            verdict: Verdict::Accepted,
+            report,
+        };
+    };
+    refuse(refusal)
+}
+
+// The form of the list of loop facts, then the walk.
+fn check_listed(table: &[i32], sections: Sections, listed: &[i32]) -> Checked
+    requires { ⌜ Formed (now table) sections × (layout (now table) sections ≡ []) ⌝ }
+    ensures { λ r. ⌜ ChecksSections (now (table .entry)) sections (now (listed .entry)) r ⌝ }
+{
+    let form = check_list(table, sections, listed);
+    match form {
+        ListForm::Refused(refusal) => refuse(refusal),
+        ListForm::Right => check_statements(table, sections, listed),
+    }
+}
+
+// Cause 6, then the list and the statements.
+fn check_sections(table: &[i32], sections: Sections, listed: &[i32]) -> Checked
+    requires { ⌜ Formed (now table) sections ⌝ }
+    ensures { λ r. ⌜ ChecksSections (now (table .entry)) sections (now (listed .entry)) r ⌝ }
+{
+    let laid = read_layout(table, sections);
+    match laid {
+        Layout::Refused(refusal) => refuse(refusal),
+        Layout::LaidOut => check_listed(table, sections, listed),
+    }
+}
+
+// The verdict on a routine table with its list of loop facts, four words an entry (an empty list: none), and the report.
+pub fn check(table: &[i32], listed: &[i32]) -> Checked
+    ensures { λ r. ⌜ Judged (now (table .entry)) (now (listed .entry)) (r .verdict) × Reported (now (table .entry)) (now (listed .entry)) (r .report .words) ⌝ }
 {
     let form = read_form(table);
     match form {
-        Form::Refused(refusal) => Verdict::Refused(refusal),
-        Form::WellFormed(sections) => check_sections(table, sections),
+        Form::Refused(refusal) => refuse(refusal),
+        Form::WellFormed(sections) => check_sections(table, sections, listed),
     }
 }

@@ -6,6 +6,7 @@ use bundles::walk_bundle;
 use chains::shown::answer;
 use conditions::negated;
 use declared::Declares;
+use declared::access_safe;
 use declared::check_effect;
 use declared::declares_of;
 use declared::force::Force;
@@ -16,40 +17,48 @@ use declared::force::same_rows;
 use effects::asked::ask_condition;
 use effects::asked::ask_statement;
 use effects::assume;
+use effects::entries::assume_entries;
+use effects::entries::check_entries;
 use effects::loops::lose;
 use effects::plan_statement;
 use facts::FactSet;
 use reader::read_due;
+use reports::Report;
+use reports::mark_if;
 use rules::Verdict;
 use statements::Statement;
 use statements::StatementRead;
 use words::sections::Sections;
+ghost use Prim.Native.Nat.{_≤_};
+ghost use lib.ListN.{length};
 ghost use Rattle.blocks.specs.Tree.{parse};
 ghost use Rattle.rules.specs.Verdict.{environmentOf};
 ghost use Rattle.rules.specs.Ranges.{Measured};
 ghost use Rattle.declared.specs.Force.{stateOf, Framed, Forced};
 ghost use Rattle.checker.specs.Walk.{InPlace, Walks};
 
-// The block of `first` to `end` - 1, which cause 6 does not refuse, from the facts `given` and what is in force, `begun`. `allowed` is at least the number of
-// its statements; it falls at each.
+// The block of `first` to `end` - 1, which cause 6 does not refuse, from the facts `given`, what is in force, `begun`, and the report so far. `listed` is the list
+// of loop facts. `allowed` is at least the number of the block's statements; it falls at each.
 // The fact set is changed in place by its own methods alone: a function in between would copy it in and out. Its frame stands on the stack once for each depth,
 // and each local has a place of its own there: `now` is the state of this block, `side` what a nested one is walked from and then what it leaves; nothing else
 // is large.
 pub(crate) fn walk(
     table: &[i32],
     sections: Sections,
+    listed: &[i32],
     frame: Frame,
     begun: Force,
     first: usize,
     end: usize,
     allowed: usize,
     given: FactSet,
+    reported: Report,
 ) -> Walked
     requires { ⌜ Measured (environmentOf (now table) sections) × Framed (environmentOf (now table) sections) frame
         × Forced (environmentOf (now table) sections) (begun .rows .each) begun
-        × InPlace (now table) sections first (parse allowed (now table) sections first end) ⌝ }
-    ensures { λ r. ⌜ Walks (environmentOf (now (table .entry)) sections) (parse allowed (now (table .entry)) sections first end)
-        (stateOf given (begun .rows .each)) r ⌝ }
+        × InPlace (now table) sections first (parse allowed (now table) sections first end) × (length (now listed) ≤ 1024) ⌝ }
+    ensures { λ r. ⌜ Walks (environmentOf (now (table .entry)) sections) (now (listed .entry)) (parse allowed (now (table .entry)) sections first end)
+        (stateOf given (begun .rows .each)) (reported .words) r ⌝ }
 {
     let sizes = frame.sizes;
     let spans = frame.spans;
@@ -62,6 +71,7 @@ pub(crate) fn walk(
         verdict: Verdict::Accepted,
         facts: given,
         rows: begun_rows,
+        report: reported,
     };
     let mut side = now;
     while left > 0 {
@@ -70,6 +80,7 @@ pub(crate) fn walk(
         }
         left -= 1;
         let rows = force.rows;
+        let report = now.report;
         let got = read_due(table, sections, at);
         let StatementRead::Read(statement) = got else {
             let facts = now.facts;
@@ -77,6 +88,7 @@ pub(crate) fn walk(
                 verdict: Verdict::Refused(Refusal::StatementRecord(at)),
                 facts,
                 rows,
+                report,
             };
         };
         let inner = at + 1;
@@ -101,12 +113,15 @@ pub(crate) fn walk(
                                 verdict,
                                 facts,
                                 rows,
+                                report,
                             };
                         };
                         force = declared.force;
                         at = inner;
                     }
                     Declares::NoRow => {
+                        let safe = access_safe(force.seen, now.facts, simple);
+                        now.report = mark_if(now.report, at, safe);
                         let answers = answer(now.facts, ask_statement(simple));
                         let plan = plan_statement(sizes, spans, simple, answers);
                         let effect = plan.effect;
@@ -119,6 +134,7 @@ pub(crate) fn walk(
                                     verdict,
                                     facts,
                                     rows,
+                                    report,
                                 };
                             };
                         }
@@ -138,19 +154,32 @@ pub(crate) fn walk(
                 side = walk(
                     table,
                     sections,
+                    listed,
                     frame,
                     force,
                     inner,
                     middle,
                     left,
                     side.facts,
+                    now.report,
                 );
                 let then_verdict = side.verdict;
                 let Verdict::Accepted = then_verdict else {
                     return side;
                 };
                 now.facts = now.facts.after(assume(negated(condition), answers));
-                now = walk(table, sections, frame, force, middle, rest, left, now.facts);
+                now = walk(
+                    table,
+                    sections,
+                    listed,
+                    frame,
+                    force,
+                    middle,
+                    rest,
+                    left,
+                    now.facts,
+                    side.report,
+                );
                 let other_verdict = now.verdict;
                 let Verdict::Accepted = other_verdict else {
                     return now;
@@ -162,6 +191,7 @@ pub(crate) fn walk(
                         verdict: Verdict::Refused(Refusal::RowsDiffer(at)),
                         facts,
                         rows,
+                        report,
                     };
                 }
                 now.facts = side.facts.join(now.facts, pointers);
@@ -172,13 +202,45 @@ pub(crate) fn walk(
             }
             Statement::While { condition, count } => {
                 let rest = inner + count;
-                now.facts = lose(table, sections, inner, count, now.facts);
+                let before = check_entries(listed, at, now.facts);
+                let Verdict::Accepted = before else {
+                    let facts = now.facts;
+                    return Walked {
+                        verdict: before,
+                        facts,
+                        rows,
+                        report,
+                    };
+                };
+                let lost = lose(table, sections, inner, count, now.facts);
+                now.facts = assume_entries(listed, at, lost);
                 let head = answer(now.facts, ask_condition(condition));
                 side.facts = now.facts.after(assume(condition, head));
-                side = walk(table, sections, frame, force, inner, rest, left, side.facts);
+                side = walk(
+                    table,
+                    sections,
+                    listed,
+                    frame,
+                    force,
+                    inner,
+                    rest,
+                    left,
+                    side.facts,
+                    now.report,
+                );
                 let body_verdict = side.verdict;
                 let Verdict::Accepted = body_verdict else {
                     return side;
+                };
+                let again = check_entries(listed, at, side.facts);
+                let Verdict::Accepted = again else {
+                    let facts = now.facts;
+                    return Walked {
+                        verdict: again,
+                        facts,
+                        rows,
+                        report,
+                    };
                 };
                 if !same_rows(rows, side.rows) {
                     let facts = now.facts;
@@ -186,14 +248,26 @@ pub(crate) fn walk(
                         verdict: Verdict::Refused(Refusal::RowsDiffer(at)),
                         facts,
                         rows,
+                        report,
                     };
                 }
                 now.facts = now.facts.after(assume(negated(condition), head));
+                let body_report = side.report;
+                now.report = body_report;
                 at = rest;
             }
             Statement::Bundle { count } => {
                 let rest = inner + count;
-                now = walk_bundle(table, sections, frame, force, at, count, now.facts);
+                now = walk_bundle(
+                    table,
+                    sections,
+                    frame,
+                    force,
+                    at,
+                    count,
+                    now.facts,
+                    now.report,
+                );
                 let held_verdict = now.verdict;
                 let Verdict::Accepted = held_verdict else {
                     return now;
@@ -208,9 +282,11 @@ pub(crate) fn walk(
     }
     let facts = now.facts;
     let rows = force.rows;
+    let report = now.report;
     Walked {
         verdict: Verdict::Accepted,
         facts,
         rows,
+        report,
     }
 }

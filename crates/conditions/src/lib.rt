@@ -23,7 +23,7 @@ pub struct Condition {
 }
 
 // Form 0: two variables of one kind.
-fn same_kind(table: &[i32], sections: Sections, v: u64, w: u64) -> bool
+pub fn same_kind(table: &[i32], sections: Sections, v: u64, w: u64) -> bool
     ensures { λ r. ⌜ r ≡ sameKind (now (table .entry)) sections v w ⌝ }
 {
     (names_integer(table, sections, v) & names_integer(table, sections, w))

@@ -32,8 +32,8 @@ accessOf (Null p) = Nothing
 accessOf (Address p o) = Nothing
 accessOf (PointerOffset p q k) = Nothing
 accessOf (PointerIndex p q i) = Nothing
-accessOf (Load x p i k) = Through p
-accessOf (Store p i k x) = Through p
+accessOf (Load x p i k) = Through p i k
+accessOf (Store p i k x) = Through p i k
 accessOf (Check c) = Nothing
 accessOf (Declare p r) = Nothing
 

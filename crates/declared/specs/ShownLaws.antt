@@ -1,5 +1,5 @@
 -- Laws of declared bounds that are shown, as the code meets them.
-use Prim.Native.Nat.{ℕ, zero, suc, _+_, _-_, _≤_, _<_}
+use Prim.Native.Nat.{ℕ, zero, suc, _+_, _-_, _^_, _≤_, _<_}
 use mathlib.Core.Path.{_≡_, refl, sym, ap, ap₂, _∙_}
 use mathlib.Core.Bool.{Bool, true, false, not, _&&_, _||_, false≢true}
 use mathlib.Core.List.{List, []}
@@ -18,7 +18,8 @@ use Rattle.statements.specs.declared.Simple.{Simple}
 use Rattle.statements.specs.declared.Simple.the-variants.{Literal, AddConstant, Arithmetic, Null, Address}
 use Rattle.statements.specs.declared.Simple.the-variants.{PointerOffset, PointerIndex, Load, Store, Check, Declare}
 use Rattle.rules.specs.BoundsRules.{isPointer, declared, known, consIf, rowBound, rowsAfter}
-use Rattle.rules.specs.Stored.{endAtMost, knownAtMost, boundsShown, unshownFrom, unshown, accessShown, rowUnshown}
+use Rattle.rules.specs.Stored.{endAtMost, knownAtMost, boundsShown, unshownFrom, unshown, accessShown, rowUnshown, addressSafe, accessSafe}
+use Rattle.rules.specs.Ranges.{InRange}
 use Rattle.rules.specs.Rules.{boundsAt}
 use Rattle.rules.specs.Verdict.{verdictOf}
 use Rattle.rules.specs.declared.KnownEnd.{KnownEnd}
@@ -158,7 +159,7 @@ module _ (E : Environment) (f : FactSet) (K : List Bounds) (p : ℕ) (d : p < le
 
 -- What an access needs.
 abbrev needed : Environment → FactSet → List Bounds → Access → Bool
-needed E f K (Through p) = boundsShown f p (known K p) (declared E p)
+needed E f K (Through p i k) = boundsShown f p (known K p) (declared E p)
 needed E f K Nothing = true
 
 access-needs : (E : Environment) (f : FactSet) (K : List Bounds) (s : Simple) → needed E f K (accessOf s) ≡ accessShown E f K s
@@ -179,7 +180,7 @@ module _ (E : Environment) (f : FactSet) (K : List Bounds) (s : Simple) {a : Acc
   pub nothing-needed : a ≡ Nothing → true ≡ accessShown E f K s
   nothing-needed n = sym (ap (needed E f K) (sym e ∙ n)) ∙ access-needs E f K s
 
-  pub pointer-needed : {p : ℕ} {n d : Bounds} {b : Bool} → a ≡ Through p → n ≡ known K p → d ≡ declared E p → b ≡ boundsShown f p n d → b ≡ accessShown E f K s
+  pub pointer-needed : {p i k : ℕ} {n d : Bounds} {b : Bool} → a ≡ Through p i k → n ≡ known K p → d ≡ declared E p → b ≡ boundsShown f p n d → b ≡ accessShown E f K s
   pointer-needed t n d b = rw (n, d) at b ∙ (sym (ap (needed E f K) (sym e ∙ t)) ∙ access-needs E f K s)
 
 -- ---- rows
@@ -256,4 +257,52 @@ seen-access E f K s = sym (access-needs (seenAs (seenOf E)) f K s) ∙ (go (acce
   where
     go : (a : Access) → needed (seenAs (seenOf E)) f K a ≡ needed E f K a
     go Nothing = refl
-    go (Through p) = refl
+    go (Through p i k) = refl
+
+-- ---- point 9: accesses that are shown safe
+
+abbrev safeBy : Environment → FactSet → Access → Bool
+safeBy E f (Through p i k) = addressSafe f p i k (declared E p)
+safeBy E f Nothing = false
+
+access-safe : (E : Environment) (f : FactSet) (s : Simple) → safeBy E f (accessOf s) ≡ accessSafe E f s
+unfolding boundsRules.accessSafe
+access-safe E f (Literal x k) = refl
+access-safe E f (AddConstant x y k) = refl
+access-safe E f (Arithmetic x y z op) = refl
+access-safe E f (Null p) = refl
+access-safe E f (Address p o) = refl
+access-safe E f (PointerOffset p q k) = refl
+access-safe E f (PointerIndex p q i) = refl
+access-safe E f (Load x p i k) = refl
+access-safe E f (Store p i k x) = refl
+access-safe E f (Check c) = refl
+access-safe E f (Declare p r) = refl
+
+-- An access in range has a constant in range.
+pub access-short : (s : Simple) {p i k : ℕ} → InRange s → accessOf s ≡ Through p i k → k < 2 ^ 34
+access-short (Literal x j) r e = let z : _≡_ {A = ℕ} 0 1 = cc in absurd (omega arith)
+access-short (AddConstant x y j) r e = let z : _≡_ {A = ℕ} 0 1 = cc in absurd (omega arith)
+access-short (Arithmetic x y z op) r e = let u : _≡_ {A = ℕ} 0 1 = cc in absurd (omega arith)
+access-short (Null q) r e = let z : _≡_ {A = ℕ} 0 1 = cc in absurd (omega arith)
+access-short (Address q o) r e = let z : _≡_ {A = ℕ} 0 1 = cc in absurd (omega arith)
+access-short (PointerOffset q o j) r e = let z : _≡_ {A = ℕ} 0 1 = cc in absurd (omega arith)
+access-short (PointerIndex q o j) r e = let z : _≡_ {A = ℕ} 0 1 = cc in absurd (omega arith)
+access-short (Load x q j l) {k = k} r e = let z : l ≡ k = cc in omega arith
+access-short (Store q j l x) {k = k} r e = let z : l ≡ k = cc in omega arith
+access-short (Check c) r e = let z : _≡_ {A = ℕ} 0 1 = cc in absurd (omega arith)
+access-short (Declare q j) r e = let z : _≡_ {A = ℕ} 0 1 = cc in absurd (omega arith)
+
+module _ (E : Environment) (f : FactSet) (s : Simple) {a : Access} (e : a ≡ accessOf s) where
+  pub nothing-safe : a ≡ Nothing → false ≡ accessSafe E f s
+  nothing-safe n = sym (ap (safeBy E f) (sym e ∙ n)) ∙ access-safe E f s
+
+  pub address-asked : {p i k : ℕ} {d : Bounds} {b : Bool} → a ≡ Through p i k → d ≡ declared E p → b ≡ addressSafe f p i k d → b ≡ accessSafe E f s
+  address-asked t d b = rw d at b ∙ (sym (ap (safeBy E f) (sym e ∙ t)) ∙ access-safe E f s)
+
+pub seen-safe : (E : Environment) (f : FactSet) (s : Simple) → accessSafe (seenAs (seenOf E)) f s ≡ accessSafe E f s
+seen-safe E f s = sym (access-safe (seenAs (seenOf E)) f s) ∙ (go (accessOf s) ∙ access-safe E f s)
+  where
+    go : (a : Access) → safeBy (seenAs (seenOf E)) f a ≡ safeBy E f a
+    go Nothing = refl
+    go (Through p i k) = refl

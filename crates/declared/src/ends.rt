@@ -7,9 +7,10 @@ use rules::KnownEnd;
 use sums::BIAS;
 use sums::ZERO;
 use table::variables::End;
+ghost use Prim.Native.Nat.{_^_, _<_};
 ghost use mathlib.Core.Path.{_≡_};
 ghost use Rattle.rules.specs.BoundsRules.{comparableEnds};
-ghost use Rattle.rules.specs.Stored.{sameEnd, endAtMost, knownAtMost, boundsShown};
+ghost use Rattle.rules.specs.Stored.{sameEnd, endAtMost, knownAtMost, boundsShown, addressSafe};
 ghost use Rattle.declared.specs.Shown.{sameKnown, sameBounds};
 
 fn same_end(a: End, b: End) -> bool
@@ -99,4 +100,31 @@ pub(crate) fn bounds_shown(facts: FactSet, p: usize, known: Bounds, declared: Bo
         }
     }
     shows(facts, p, ZERO, BIAS)
+}
+
+// The address p + i + k, an end of the size of p, is shown to lie in the declared bounds of p, and p not to be null.
+pub(crate) fn address_safe(facts: FactSet, p: usize, i: usize, k: u64, declared: Bounds) -> bool
+    requires { ⌜ k < 2 ^ 34 ⌝ }
+    ensures { λ r. ⌜ r ≡ addressSafe facts p i k declared ⌝ }
+{
+    let size = declared.size;
+    if !shows(facts, ZERO, p, BIAS - 1) {
+        return false;
+    }
+    let lower = declared.lower;
+    let address = KnownEnd::Known(End {
+        pointer: p,
+        integer: i,
+        constant: k,
+    });
+    if !known_at_most(facts, size, lower, size, address) {
+        return false;
+    }
+    let upper = declared.upper;
+    let next = KnownEnd::Known(End {
+        pointer: p,
+        integer: i,
+        constant: k + 1,
+    });
+    known_at_most(facts, size, next, size, upper)
 }

@@ -7,6 +7,7 @@ use bounds::KnownBounds;
 use bounds::touched::Seen;
 use bounds::transfer::effect_on;
 use bounds::transfer::source_of;
+use ends::address_safe;
 use ends::bounds_shown;
 use ends::same_bounds;
 use facts::FactSet;
@@ -19,12 +20,12 @@ use words::sections::Sections;
 ghost use Prim.Native.Nat.{_^_, _<_};
 ghost use mathlib.Core.Path.{_≡_};
 ghost use Rattle.statements.specs.declared.Simple.the-variants.{Declare};
-ghost use Rattle.rules.specs.Stored.{unshown, rowUnshown, accessShown, boundsAfter};
+ghost use Rattle.rules.specs.Stored.{unshown, rowUnshown, accessShown, accessSafe, boundsAfter};
 ghost use Rattle.answers.specs.declared.refusals.Refusal.the-variants.{BoundsNotShown};
 ghost use Rattle.rules.specs.declared.Verdict.the-variants.{Refused};
 ghost use Rattle.rules.specs.Rules.{boundsAt};
 ghost use Rattle.rules.specs.Verdict.{environmentOf, verdictOf};
-ghost use Rattle.rules.specs.Ranges.{Short};
+ghost use Rattle.rules.specs.Ranges.{InRange, Short};
 ghost use Rattle.bounds.specs.Touched.{seenAs};
 ghost use Rattle.declared.specs.Shown.{accessOf, declaresOf};
 
@@ -74,9 +75,13 @@ pub fn check_known(environment: Seen, facts: FactSet, known: KnownBounds, at: us
     Verdict::Accepted
 }
 
-// The pointer that a statement reads or writes through, if any.
+// The pointer, the index and the constant by which a statement reads or writes, if it does.
 enum Access {
-    Through(usize),
+    Through {
+        pointer: usize,
+        index: usize,
+        constant: u64,
+    },
     Nothing,
 }
 
@@ -87,15 +92,23 @@ fn access_of(simple: Simple) -> Access
         Simple::Load {
             target: _,
             pointer,
-            index: _,
-            constant: _,
-        } => Access::Through(pointer),
+            index,
+            constant,
+        } => Access::Through {
+            pointer,
+            index,
+            constant,
+        },
         Simple::Store {
             pointer,
-            index: _,
-            constant: _,
+            index,
+            constant,
             source: _,
-        } => Access::Through(pointer),
+        } => Access::Through {
+            pointer,
+            index,
+            constant,
+        },
         _ => Access::Nothing,
     }
 }
@@ -105,12 +118,46 @@ pub fn access_shown(environment: Seen, facts: FactSet, known: KnownBounds, simpl
     ensures { λ r. ⌜ r ≡ accessShown (seenAs environment) facts (known .each) simple ⌝ }
 {
     let access = access_of(simple);
-    let Access::Through(p) = access else {
+    let Access::Through {
+        pointer,
+        index: _,
+        constant: _,
+    } = access
+    else {
         return true;
     };
     let each = known.each;
     let declared = environment.declared;
-    bounds_shown(facts, p, bounds_at(each, p), bounds_at(declared, p))
+    bounds_shown(
+        facts,
+        pointer,
+        bounds_at(each, pointer),
+        bounds_at(declared, pointer),
+    )
+}
+
+// The statement is an access that is shown safe (point 9).
+pub fn access_safe(environment: Seen, facts: FactSet, simple: Simple) -> bool
+    requires { ⌜ InRange simple ⌝ }
+    ensures { λ r. ⌜ r ≡ accessSafe (seenAs environment) facts simple ⌝ }
+{
+    let access = access_of(simple);
+    let Access::Through {
+        pointer,
+        index,
+        constant,
+    } = access
+    else {
+        return false;
+    };
+    let declared = environment.declared;
+    address_safe(
+        facts,
+        pointer,
+        index,
+        constant,
+        bounds_at(declared, pointer),
+    )
 }
 
 // The pointer and the row that a kind 14 names.

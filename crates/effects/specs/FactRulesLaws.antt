@@ -222,8 +222,8 @@ simple-ranged T h l (Null p) t = tt
 simple-ranged T h l (Address p o) t = tt
 simple-ranged T h l (PointerOffset p q k) t = (omega (arith, t .constant .high), omega (arith, t .source .below, l .variables))
 simple-ranged T h l (PointerIndex p q i) t = omega (arith, t .source .below, l .variables)
-simple-ranged T h l (Load x p i k) t = tt
-simple-ranged T h l (Store p i k x) t = tt
+simple-ranged T h l (Load x p i k) t = omega (arith, t .constant .high)
+simple-ranged T h l (Store p i k x) t = omega (arith, t .constant .high)
 simple-ranged T h l (Check c) t = offset-small t
 simple-ranged T h l (Declare p r) t = tt
 

@@ -5,3 +5,5 @@ pub mod Asked
 pub mod Applied
 pub mod ChangeLaws
 pub mod FactRulesLaws
+pub mod Entries
+pub mod EntryLaws

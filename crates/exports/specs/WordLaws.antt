@@ -49,16 +49,17 @@ module _ (w : List ℕ) {w′ : List ℕ} where
   unfolding answerWords
   not-begun-words e en ea eb ep eq s = rw (e, ← en, ← ea, ← ep, ← eb, ← eq) s
 
-pub no-room : {T : List ℤ} {w : List ℕ} → length w < 3 → CheckAnswer T w false w
-no-room {T} {w} h = record { room = sym (lt-leb 3 (length w) h); words = rw (lt-leb 3 (length w) h) refl }
+pub no-room : {T L : List ℤ} {w : List ℕ} → length w < 3 → CheckAnswer T L w false w
+no-room {w = w} h = record { room = sym (lt-leb 3 (length w) h); words = rw (lt-leb 3 (length w) h) refl }
 
-pub checked-words : {T : List ℤ} {w w′ : List ℕ} (v : Verdict) → 3 ≤ length w → Judged T v → w′ ≡ verdictWords (verdictReads v) w → CheckAnswer T w true w′
+pub checked-words : {T L : List ℤ} {w w′ : List ℕ} (v : Verdict) → 3 ≤ length w → Judged T L v → w′ ≡ verdictWords (verdictReads v) w
+    → CheckAnswer T L w true w′
 unfolding Judged
-checked-words {T} {w} {w′} v h a e =
+checked-words {T} {L} {w} {w′} v h a e =
     record {
       room = sym (le-leb 3 (length w) h);
       words = rw (le-leb 3 (length w) h)
-          (decided T (λ d. w′ ≡ verdictWords (firstReads (chainFaults d T)) w) (λ d c. e ∙ ap (λ (x : Reading). verdictWords x w) (a .by-each d c .reads)));
+          (decided T (λ d. w′ ≡ verdictWords (firstReads (chainFaults d T L)) w) (λ d c. e ∙ ap (λ (x : Reading). verdictWords x w) (a .by-each d c .reads)));
     }
 
 pub no-room-to-run : {l : Lent} {w : List ℕ} {limit : ℕ} → length w < 4 → RunWords l limit w false (l .values) (l .cells) w

@@ -1,14 +1,16 @@
 -- Answers as words in a lent slice, as include/mizzengrape.h tells them.
-use Prim.Native.Nat.{ℕ, _%_, _^_}
+use Prim.Native.Nat.{ℕ, zero, suc, _+_, _%_, _^_}
 use mathlib.Core.Path.{_≡_}
-use mathlib.Core.Bool.{Bool, true, false}
-use mathlib.Core.List.{List}
+use mathlib.Core.Bool.{Bool, true, false, _&&_}
+use mathlib.Core.List.{List, [], _∷_}
 use lib.Dec.{leb}
 use lib.IntN.{ℤ}
 use lib.ListN.{length, set}
 use Rattle.rules.specs.Verdict.{Reading, firstReads}
 use Rattle.rules.specs.Verdict as reading
-use Rattle.rules.specs.ByChains.{Decided, chainFaults}
+use Rattle.rules.specs.BoundsRules.{consIf}
+use Rattle.rules.specs.Report.{reportedAt}
+use Rattle.rules.specs.ByChains.{Decider, byChains, Decided, chainFaults}
 use Rattle.answers.specs.Answers.{Answer, done, spent, stopped, refused, reads}
 use Rattle.interpreter.specs.Claim.{Lent, RunJudged}
 use Rattle.answers.specs.declared.stops.Outcome.{Outcome}
@@ -39,14 +41,43 @@ answerWords (spent n a) w = putFour w 1 n (wordOf a) 0
 answerWords (stopped n a k) w = putFour w 2 n (wordOf a) k
 answerWords (refused n a p) w = putFour w 3 n (wordOf a) (wordOf p)
 
--- Where there is room for an answer, the words of what the first fault of the table reads as, by the paper's chains; else nothing is written.
-abbrev pub checkedIf : Bool → List ℤ → List ℕ → List ℕ → Type 0
-checkedIf true T w w′ = Decided T (λ d. w′ ≡ verdictWords (firstReads (chainFaults d T)) w)
-checkedIf false T w w′ = w′ ≡ w
+-- Where there is room for an answer, the words of what the first fault of the table, with the list L of loop facts, reads as, by the paper's chains; else nothing is written.
+abbrev pub checkedIf : Bool → List ℤ → List ℤ → List ℕ → List ℕ → Type 0
+checkedIf true T L w w′ = Decided T (λ d. w′ ≡ verdictWords (firstReads (chainFaults d T L)) w)
+checkedIf false T L w w′ = w′ ≡ w
 
-pub record CheckAnswer (T : List ℤ) (w : List ℕ) (r : Bool) (w′ : List ℕ) : Type 0 where
+pub record CheckAnswer (T L : List ℤ) (w : List ℕ) (r : Bool) (w′ : List ℕ) : Type 0 where
   pub room : r ≡ leb 3 (length w)
-  pub words : checkedIf (leb 3 (length w)) T w w′
+  pub words : checkedIf (leb 3 (length w)) T L w w′
+
+-- ---- the report (document 02, point 9)
+
+-- Of n statements from number a on, those that a test chooses, "lowest statement first".
+unfoldable pub chosen : (ℕ → Bool) → ℕ → ℕ → List ℕ
+chosen test a zero = []
+chosen test a (suc n) = consIf (test a) a (chosen test (a + 1) n)
+
+-- The numbers put one after the other from index i on; the words behind stay.
+unfoldable pub putNumbers : List ℕ → ℕ → List ℕ → List ℕ
+putNumbers w i [] = w
+putNumbers w i (n ∷ ns) = putNumbers (set w i n) (i + 1) ns
+
+-- The statements that are reported, by the paper's chains.
+abbrev pub reportNumbers : Decider → List ℤ → List ℤ → List ℕ
+reportNumbers d T L = chosen (reportedAt (byChains d) T L) 0 1024
+
+-- Where there is room, the words of the verdict and the number of statements reported, and these statements; else nothing is written.
+abbrev pub reportedTo : Bool → List ℤ → List ℤ → List ℕ → List ℕ → List ℕ → List ℕ → Type 0
+reportedTo true T L w p w′ p′ = Decided T (λ d. (w′ ≡ set (verdictWords (firstReads (chainFaults d T L)) w) 3 (length (reportNumbers d T L)))
+    × (p′ ≡ putNumbers p 0 (reportNumbers d T L)))
+reportedTo false T L w p w′ p′ = (w′ ≡ w) × (p′ ≡ p)
+
+-- w and p: the words that are lent for the answer and for the report, as they were; w′ and p′: what they hold then.
+pub record CheckReport (T L : List ℤ) (w p : List ℕ) (r : Bool) (w′ p′ : List ℕ) : Type 0 where
+  pub room : r ≡ (leb 4 (length w) && leb 1024 (length p))
+  pub words : reportedTo (leb 4 (length w) && leb 1024 (length p)) T L w p w′ p′
+
+-- ---- a run
 
 -- Where there is room for an answer, the words of an outcome for which, with the values and cells then, the claim about a run holds; else nothing is written.
 abbrev pub ranIf : Bool → Lent → ℕ → List ℕ → List ℕ → List ℕ → List ℕ → Type 0

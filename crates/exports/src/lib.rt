@@ -2,13 +2,17 @@
 use answers::stops::Outcome;
 use answers::stops::check_number;
 use answers::stops::check_statement;
+use reports::Report;
+use reports::has;
 use rules::Verdict;
+ghost use mathlib.Core.List.{[]};
 ghost use mathlib.Core.Path.{_≡_};
-ghost use Prim.Native.Nat.{_≤_};
+ghost use Prim.Native.Nat.{_<_, _≤_};
 ghost use lib.ListN.{length};
 ghost use Rattle.rules.specs.Verdict.{verdictReads};
 ghost use Rattle.answers.specs.Answers.{reads};
-ghost use Rattle.exports.specs.Words.{versionNumber, wordOf, putThree, putFour, verdictWords, answerWords, CheckAnswer, RunWords};
+ghost use Rattle.exports.specs.Words.{versionNumber, wordOf, putThree, putFour, verdictWords, answerWords, CheckAnswer, RunWords, CheckReport};
+ghost use Rattle.exports.specs.Numbers.{PutReported, PutAll};
 
 // The version that include/mizzengrape.h gives, as one number.
 const VERSION: u32 = 200;
@@ -93,13 +97,67 @@ pub extern "C" fn mizzengrape_version() -> u32
 // Checks a routine. False, and nothing written, where the answer has fewer than three words.
 #[no_mangle]
 pub extern "C" fn mizzengrape_check(table: &[i32], answer: &mut [u32]) -> bool
-    ensures { λ r. ⌜ CheckAnswer (now (table .entry)) (now (answer .entry)) r (now (answer .exit)) ⌝ }
+    ensures { λ r. ⌜ CheckAnswer (now (table .entry)) [] (now (answer .entry)) r (now (answer .exit)) ⌝ }
 {
     if answer.len() < 3 {
         return false;
     }
-    let verdict = checker::check(table);
+    let listed = [0i32; 0];
+    let checked = checker::check(table, &listed);
+    let verdict = checked.verdict;
     put_verdict(answer, verdict);
+    true
+}
+
+// The statement `at` put at `count`, where it is reported; how many are put then.
+fn put_reported(numbers: &mut [u32], report: Report, at: usize, count: usize) -> usize
+    requires { ⌜ (at < 1024) × (count ≤ at) × (1024 ≤ length (now numbers)) ⌝ }
+    ensures { λ r. ⌜ PutReported (report .words) at count (now (numbers .entry)) r (now (numbers .exit)) ⌝ }
+{
+    if has(report, at) {
+        numbers[count] = at as u32;
+        return count + 1;
+    }
+    count
+}
+
+// The reported statements, lowest first, at the front of the slice; how many there are.
+fn put_report(numbers: &mut [u32], report: Report) -> u32
+    requires { ⌜ 1024 ≤ length (now numbers) ⌝ }
+    ensures { λ r. ⌜ PutAll (report .words) (now (numbers .entry)) r (now (numbers .exit)) ⌝ }
+{
+    let mut count = 0;
+    let mut at = 0;
+    while at < 1024 {
+        count = put_reported(numbers, report, at, count);
+        at += 1;
+    }
+    count as u32
+}
+
+// Checks a routine with a list of loop facts, four words an entry. The fourth answer word is the number of accesses reported; their statements are put in
+// ascending order at the front of `numbers`. False, and nothing written, where the answer has fewer than four words or `numbers` fewer than 1,024.
+#[no_mangle]
+pub extern "C" fn mizzengrape_check_with_facts(
+    table: &[i32],
+    listed: &[i32],
+    answer: &mut [u32],
+    numbers: &mut [u32],
+) -> bool
+    ensures { λ r. ⌜ CheckReport (now (table .entry)) (now (listed .entry)) (now (answer .entry)) (now (numbers .entry)) r (now (answer .exit))
+        (now (numbers .exit)) ⌝ }
+{
+    if answer.len() < 4 {
+        return false;
+    }
+    if numbers.len() < 1024 {
+        return false;
+    }
+    let checked = checker::check(table, listed);
+    let verdict = checked.verdict;
+    put_verdict(answer, verdict);
+    let count = put_report(numbers, checked.report);
+    answer[3] = count;
     true
 }
 
@@ -116,6 +174,7 @@ pub extern "C" fn mizzengrape_run(
 ) -> bool
     ensures { λ r. ⌜ RunWords (record {
       table = now (table .entry);
+      listed = [];
       directory = now (directory .entry);
       cells = now (cells .entry);
       values = now (values .entry);
@@ -125,7 +184,37 @@ pub extern "C" fn mizzengrape_run(
     if answer.len() < 4 {
         return false;
     }
-    let outcome = interpreter::run(table, directory, cells, values, origins, limit);
+    let listed = [0i32; 0];
+    let outcome = interpreter::run(table, &listed, directory, cells, values, origins, limit);
+    put_outcome(answer, outcome);
+    true
+}
+
+// The same with a list of loop facts, four words an entry.
+#[no_mangle]
+pub extern "C" fn mizzengrape_run_with_facts(
+    table: &[i32],
+    listed: &[i32],
+    directory: &[u32],
+    cells: &mut [u32],
+    values: &mut [u32],
+    origins: &[u32],
+    limit: u32,
+    answer: &mut [u32],
+) -> bool
+    ensures { λ r. ⌜ RunWords (record {
+      table = now (table .entry);
+      listed = now (listed .entry);
+      directory = now (directory .entry);
+      cells = now (cells .entry);
+      values = now (values .entry);
+      origins = now (origins .entry);
+    }) limit (now (answer .entry)) r (now (values .exit)) (now (cells .exit)) (now (answer .exit)) ⌝ }
+{
+    if answer.len() < 4 {
+        return false;
+    }
+    let outcome = interpreter::run(table, listed, directory, cells, values, origins, limit);
     put_outcome(answer, outcome);
     true
 }

@@ -21,5 +21,8 @@ pub fn check_file(bytes: &[u8]) -> Verdict
     }
     let mut table = [0i32; 7704];
     let count = encoding::read_words(bytes, &mut table);
-    checker::check(&table[..count])
+    let listed = [0i32; 0];
+    let checked = checker::check(&table[..count], &listed);
+    let verdict = checked.verdict;
+    verdict
 }

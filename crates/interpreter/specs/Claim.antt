@@ -21,9 +21,14 @@ use Rattle.blocks.specs.Layout.{also}
 use Rattle.rules.specs.BoundsRules.{isPointer, inForce}
 use Rattle.rules.specs.Verdict.{environmentOf, faults}
 use Rattle.rules.specs.FactSets.{FactSets}
-use Rattle.rules.specs.ByChains.{byChains, Decided}
+use Rattle.rules.specs.ByChains.{Decider, byChains, DecidesTable, Decided}
+use Rattle.rules.specs.Report.{reportedAt}
+use Rattle.listed.specs.Entries.{entriesOf, EntriesHold}
+use Rattle.conditions.specs.declared.Condition.{Condition}
+use Rattle.statements.specs.declared.Statement.the-variants.{While}
+use Rattle.statements.specs.declared.StatementRead.the-variants.{Read}
 use Rattle.rules.specs.declared.Environment.{Environment}
-use Rattle.machine.specs.Machine.{Failing, none, fails, boundsTrue, Status, going, stopped, stuck, Point, halted, start, pointAfter}
+use Rattle.machine.specs.Machine.{value, Failing, none, fails, boundsTrue, Status, going, stopped, stuck, Point, halted, start, pointAfter}
 use Rattle.machine.specs.Points.{inBundle, failingAt, accessFrom, AccessInside, Outside, LastZero}
 use Rattle.entry.specs.Entry.{entryRefusals}
 use Rattle.answers.specs.Answers.{Answer, reads}
@@ -33,12 +38,14 @@ use Rattle.answers.specs.declared.stops.Outcome.{Outcome}
 -- ---- what a call of `run` is lent and what it leaves
 pub record Lent : Type 0 where
   pub table : List ℤ
+  -- the list of loop facts (document 02, point 9): "The list is lent beside the routine, to a run too."
+  pub listed : List ℤ
   pub directory : List ℕ
   pub cells : List ℕ
   pub values : List ℕ
   pub origins : List ℕ
 
--- What it leaves: its answer, and what the two buffers hold that it may write. (Table, directory and origins are lent to be read.)
+-- What it leaves: its answer, and what the two buffers hold that it may write. (Table, list, directory and origins are lent to be read.)
 pub record Leaves : Type 0 where
   pub answer : Outcome
   pub values : List ℕ
@@ -51,7 +58,7 @@ entryFaults (WellFormed h) l = entryRefusals h (environmentOf (l .table) h) (l .
 
 -- "A run checks the routine first, then 10 to 12", then 16: the faults in that order, of which the first counts. "A run is begun when no cause refuses it."
 unfoldable pub runFaults : FactSets → Lent → List Refusal
-runFaults S l = also (faults S (l .table)) (entryFaults (formOf (l .table)) l)
+runFaults S l = also (faults S (l .table) (l .listed)) (entryFaults (formOf (l .table)) l)
 
 -- A refused run: its answer reads as that refusal's number, place and pointer; no cell and no value is changed.
 pub record NotBegun (f : Refusal) (l : Lent) (m : Leaves) : Type 0 where
@@ -99,6 +106,11 @@ module _ (l : Lent) (h : Sections) where
     pub untouched : (i : ℕ) → Outside (l .directory) (h .objects) i → getD (pointOf t .cells) i 0 ≡ getD (l .cells) i 0
     -- Document 02, point 7: "At every point of a run the last cell of each terminated object is 0."
     pub last-zero : LastZero (environmentOf (l .table) h) (l .directory) (h .objects) (pointOf t .cells)
+    -- Document 02, point 9: each listed fact means "x <= y + k at every test": where its while is due.
+    pub listed : (c : Condition) (n : ℕ) → statementAt (l .table) h (pointOf t .due) ≡ Read (While c n)
+        → EntriesHold (entriesOf (l .listed) (pointOf t .due)) (value (pointOf t .values))
+    -- "No reported access stops a run at 2 or 3, whoever wrote the list": it fails no check. (What is reported: `Reported` in rules/ByChains.)
+    pub reported : (d : Decider) → DecidesTable (l .table) d → reportedAt (byChains d) (l .table) (l .listed) (pointOf t .due) ≡ true → failingDue t ≡ none
     -- The plain machine has had a step at each point so far (that it has the next one is `goes-on`).
     pub has-step : pointOf t .status ≢ stuck
     -- A run that goes on has made t steps.

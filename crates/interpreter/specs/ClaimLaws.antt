@@ -10,9 +10,8 @@ use lib.IntN.{ℤ}
 use lib.ListN.{length, getD}
 use Rattle.sums.specs.Numbers.{maxValue}
 use Rattle.answers.specs.declared.refusals.Refusal.{Refusal}
-use Rattle.answers.specs.declared.refusals.Refusal.the-variants.{Length, Directory, ObjectLength, VariableRecord, StatementRecord}
 use Rattle.words.specs.declared.sections.Sections.{Sections}
-use Rattle.table.specs.Form.{lengthRight, directoryRight, sectionsOf, lowestObject, lowestVariable, lowestStatement, itemsForm, formOf, lowestRow}
+use Rattle.table.specs.Form.{sectionsOf, formOf}
 use Rattle.table.specs.FormLaws.{well-formed}
 use Rattle.table.specs.declared.Form.{Form}
 use Rattle.table.specs.declared.Form.the-variants.{WellFormed, Refused}
@@ -20,7 +19,7 @@ use Rattle.blocks.specs.Flow.{tableFlow}
 use Rattle.blocks.specs.Written.{written, Written}
 use Rattle.rules.specs.BoundsRules.{ownRows}
 use Rattle.rules.specs.EnvironmentLaws.{environment-declares}
-use Rattle.rules.specs.AcceptedLaws.{clear, faults-clear}
+use Rattle.rules.specs.AcceptedLaws.{clear, faults-clear, formed-sections}
 use Rattle.blocks.specs.Layout.{also}
 use Rattle.rules.specs.Verdict.{environmentOf, verdictOf}
 use Rattle.rules.specs.Stored.{faults, store}
@@ -51,32 +50,12 @@ use Rattle.answers.specs.declared.stops.Outcome.{Outcome}
 
 -- ---- the contract of `run`
 
-kept-second : (b : Bool) (r : Refusal) (f : Form) (h : Sections) → cond b (Refused r) f ≡ WellFormed h → f ≡ WellFormed h
-kept-second true r f h e = let z : _≡_ {A = ℕ} 0 1 = cc in absurd (omega arith)
-kept-second false r f h e = e
-
-kept-first : (b : Bool) (r : Refusal) (f : Form) (h : Sections) → cond b f (Refused r) ≡ WellFormed h → f ≡ WellFormed h
-kept-first true r f h e = e
-kept-first false r f h e = let z : _≡_ {A = ℕ} 0 1 = cc in absurd (omega arith)
-
--- The sections of a well-formed table are those that its directory gives.
-pub formed-sections : (T : List ℤ) (h : Sections) → formOf T ≡ WellFormed h → h ≡ sectionsOf T
-unfolding formOf itemsForm
-formed-sections T h e =
-    let g : Sections = sectionsOf T in
-    let a = kept-first (directoryRight T g) Directory (itemsForm T g) h (kept-first (lengthRight T) Length _ h e) in
-    let o = kept-second (ltb (lowestObject T g) (g .objects)) (ObjectLength (lowestObject T g)) _ h a in
-    let v = kept-second (ltb (lowestVariable T g) (g .variables)) (VariableRecord (lowestVariable T g)) _ h o in
-    let w = kept-second (ltb (lowestRow T g) (g .rows)) (VariableRecord (g .variables + lowestRow T g)) _ h v in
-    let b : WellFormed g ≡ WellFormed h = kept-second (ltb (lowestStatement T g) (g .statements)) (StatementRecord (lowestStatement T g)) (WellFormed g) h w in
-    cc
-
 -- The words that are lent are of 32 bits.
 pub record Small (cs vs : List ℕ) : Type 0 where
   pub cells-small : (i : ℕ) → getD cs i 0 ≤ maxValue
   pub values-small : (x : ℕ) → getD vs x 0 ≤ maxValue
 
-module _ (T : List ℤ) (h : Sections) (formed : formOf T ≡ WellFormed h) (accepts : faults T ≡ []) (D cs vs os : List ℕ) (small : Small cs vs)
+module _ (T : List ℤ) (h : Sections) (L : List ℤ) (formed : formOf T ≡ WellFormed h) (accepts : faults T L ≡ []) (D cs vs os : List ℕ) (small : Small cs vs)
     (none : entryRefusals h (environmentOf T h) D cs vs os ≡ []) where
   begun : Begun h (environmentOf T h) D cs vs os
   begun = entry-begun h (environmentOf T h) D cs vs os (admitted h (environmentOf T h) D cs vs os none) (small .values-small) (small .cells-small)
@@ -84,33 +63,33 @@ module _ (T : List ℤ) (h : Sections) (formed : formOf T ≡ WellFormed h) (acc
 
   -- What the loop asks.
   pub run-prepared : (w : List ℕ) → 2 * h .statements ≤ length w → Prepared T h (endsOf (environmentOf T h) ownRows) D (written (tableFlow T h) w) vs
-  run-prepared w room = start-prepared T h D cs vs os w (well-formed T h formed) (clear T h formed accepts .laid) room
+  run-prepared w room = start-prepared T h D cs vs os w (well-formed T h formed) (clear T h L formed accepts .laid) room
       (admitted h (environmentOf T h) D cs vs os none)
 
   pub run-safe : (w : List ℕ) → 2 * h .statements ≤ length w → (limit : ℕ)
       → SafeRun T h (endsOf (environmentOf T h) ownRows) D (written (tableFlow T h) w) limit 0 vs cs
   run-safe w room limit =
-      start-safe T h D cs vs os w (well-formed T h formed) (clear T h formed accepts .laid) room (admitted h (environmentOf T h) D cs vs os none)
-      (unstuck T h formed accepts D cs vs os begun) (rows-long T h formed accepts D cs vs os begun) limit
+      start-safe T h D cs vs os w (well-formed T h formed) (clear T h L formed accepts .laid) room (admitted h (environmentOf T h) D cs vs os none)
+      (unstuck T h L formed accepts D cs vs os begun) (rows-long T h L formed accepts D cs vs os begun) limit
 
   -- What the loop leaves is the claim.
   pub run-claim : (w : List ℕ) → 2 * h .statements ≤ length w → (limit : ℕ) (r : Outcome) (W′ vs′ cs′ : List ℕ)
       → Ends (bareRun T h (endsOf (environmentOf T h) ownRows) D (written (tableFlow T h) w) limit 0 0 vs cs) r W′ vs′ cs′
-      → Ran (lends T D cs vs os) (sectionsOf T) limit (leaves r vs′ cs′)
+      → Ran (lends T L D cs vs os) (sectionsOf T) limit (leaves r vs′ cs′)
   run-claim w room limit r W′ vs′ cs′ e =
       let agrees : bareRun T h (endsOf (environmentOf T h) ownRows) D (written (tableFlow T h) w) limit 0 0 vs cs ≡ resultShown (environmentOf T h) h
-      (point T h formed accepts D cs vs os begun limit)
-      = start-agrees T h D cs vs os w (well-formed T h formed) (clear T h formed accepts .laid) room (admitted h (environmentOf T h) D cs vs os none)
-      (unstuck T h formed accepts D cs vs os begun) (rows-long T h formed accepts D cs vs os begun) limit in
-      let answered : reads r ≡ shown T h formed accepts D cs vs os begun limit =
-      ap reads (e .outcome ∙ ap (λ (o : Result). o .outcome) agrees) ∙ reads-at T h formed accepts D cs vs os begun limit in
-      subst (λ (g : Sections). Ran (lends T D cs vs os) g limit (leaves r vs′ cs′)) (formed-sections T h formed) (record {
+      (point T h L formed accepts D cs vs os begun limit)
+      = start-agrees T h D cs vs os w (well-formed T h formed) (clear T h L formed accepts .laid) room (admitted h (environmentOf T h) D cs vs os none)
+      (unstuck T h L formed accepts D cs vs os begun) (rows-long T h L formed accepts D cs vs os begun) limit in
+      let answered : reads r ≡ shown T h L formed accepts D cs vs os begun limit =
+      ap reads (e .outcome ∙ ap (λ (o : Result). o .outcome) agrees) ∙ reads-at T h L formed accepts D cs vs os begun limit in
+      subst (λ (g : Sections). Ran (lends T L D cs vs os) g limit (leaves r vs′ cs′)) (formed-sections T h formed) (record {
         ends = record {
           answer = answered;
           values = e .values ∙ ap (λ (o : Result). o .values) agrees;
           cells = e .cells ∙ ap (λ (o : Result). o .cells) agrees;
         };
-        every-point = λ t l. at-point T h formed accepts D cs vs os begun limit t (reads r) answered l;
+        every-point = λ t l. at-point T h L formed accepts D cs vs os begun limit t (reads r) answered l;
       })
 
 -- What the functions below `run` promise: the same by the store's facts.
@@ -120,52 +99,52 @@ RunStored l limit m = RunAnswer (runFaults store l) l limit m
 -- ---- refusals of a run
 
 -- The verdict was a refusal.
-pub check-refused : (T : List ℤ) (D cs vs os : List ℕ) (limit : ℕ) (r : Refusal) → verdict.Refused r ≡ verdictOf (faults T)
-    → RunAnswer (runFaults store (lends T D cs vs os)) (lends T D cs vs os) limit (leaves (outcome.Refused r) vs cs)
+pub check-refused : (T L : List ℤ) (D cs vs os : List ℕ) (limit : ℕ) (r : Refusal) → verdict.Refused r ≡ verdictOf (faults T L)
+    → RunAnswer (runFaults store (lends T L D cs vs os)) (lends T L D cs vs os) limit (leaves (outcome.Refused r) vs cs)
 unfolding runFaults RunAnswer also verdictOf
-check-refused T D cs vs os limit r a = go (faults T) a
+check-refused T L D cs vs os limit r a = go (faults T L) a
   where
     go : (fs : List Refusal) → verdict.Refused r ≡ verdictOf fs
-        → RunAnswer (also fs (entryFaults (formOf T) (lends T D cs vs os))) (lends T D cs vs os) limit (leaves (outcome.Refused r) vs cs)
+        → RunAnswer (also fs (entryFaults (formOf T) (lends T L D cs vs os))) (lends T L D cs vs os) limit (leaves (outcome.Refused r) vs cs)
     go [] a = let z : _≡_ {A = ℕ} 0 1 = cc in absurd (omega arith)
     go (f ∷ fs) a = record { answer = let e : r ≡ f = cc in ap (λ (x : Refusal). reads (outcome.Refused x)) e; values = refl; cells = refl }
 
 -- A table with no fault is well formed.
-pub no-form-refused : (T : List ℤ) (r : Refusal) → faults T ≡ [] → formOf T ≡ Refused r → ⊥
-no-form-refused T r e f = let p = faults-clear T e in let q = p .1 .form in let z : _≡_ {A = ℕ} 0 1 = cc in omega arith
+pub no-form-refused : (T L : List ℤ) (r : Refusal) → faults T L ≡ [] → formOf T ≡ Refused r → ⊥
+no-form-refused T L r e f = let p = faults-clear T L e in let q = p .1 .form in let z : _≡_ {A = ℕ} 0 1 = cc in omega arith
 
 -- Of an accepted table the faults of a run are those of the entry.
-entry-only : (T : List ℤ) (h : Sections) (D cs vs os : List ℕ) → formOf T ≡ WellFormed h → faults T ≡ []
-    → runFaults store (lends T D cs vs os) ≡ entryRefusals h (environmentOf T h) D cs vs os
+entry-only : (T : List ℤ) (h : Sections) (L : List ℤ) (D cs vs os : List ℕ) → formOf T ≡ WellFormed h → faults T L ≡ []
+    → runFaults store (lends T L D cs vs os) ≡ entryRefusals h (environmentOf T h) D cs vs os
 unfolding runFaults also
-entry-only T h D cs vs os f e = rw (e, f)
+entry-only T h L D cs vs os f e = rw (e, f)
 
 pub entered-none : (rs : List Refusal) → entered rs ≡ entry.Begun → rs ≡ []
 unfolding entered
 entered-none [] e = refl
 entered-none (r ∷ rs) e = cc
 
-pub entry-refused : (T : List ℤ) (h : Sections) (D cs vs os : List ℕ) (limit : ℕ) (r : Refusal) → formOf T ≡ WellFormed h → faults T ≡ []
+pub entry-refused : (T : List ℤ) (h : Sections) (L : List ℤ) (D cs vs os : List ℕ) (limit : ℕ) (r : Refusal) → formOf T ≡ WellFormed h → faults T L ≡ []
     → entered (entryRefusals h (environmentOf T h) D cs vs os) ≡ entry.Refused r
-    → RunAnswer (runFaults store (lends T D cs vs os)) (lends T D cs vs os) limit (leaves (outcome.Refused r) vs cs)
+    → RunAnswer (runFaults store (lends T L D cs vs os)) (lends T L D cs vs os) limit (leaves (outcome.Refused r) vs cs)
 unfolding RunAnswer entered
-entry-refused T h D cs vs os limit r f e q = rw (entry-only T h D cs vs os f e) (go (entryRefusals h (environmentOf T h) D cs vs os) q)
+entry-refused T h L D cs vs os limit r f e q = rw (entry-only T h L D cs vs os f e) (go (entryRefusals h (environmentOf T h) D cs vs os) q)
   where
-    go : (rs : List Refusal) → entered rs ≡ entry.Refused r → RunAnswer rs (lends T D cs vs os) limit (leaves (outcome.Refused r) vs cs)
+    go : (rs : List Refusal) → entered rs ≡ entry.Refused r → RunAnswer rs (lends T L D cs vs os) limit (leaves (outcome.Refused r) vs cs)
     go [] q = let z : _≡_ {A = ℕ} 0 1 = cc in absurd (omega arith)
     go (x ∷ rs) q = record { answer = let e : r ≡ x = cc in ap (λ (y : Refusal). reads (outcome.Refused y)) e; values = refl; cells = refl }
 
-pub begun-ran : (T : List ℤ) (h : Sections) (D cs vs os : List ℕ) (limit : ℕ) (r : Outcome) (vs′ cs′ : List ℕ) → formOf T ≡ WellFormed h → faults T ≡ []
-    → entryRefusals h (environmentOf T h) D cs vs os ≡ [] → Ran (lends T D cs vs os) (sectionsOf T) limit (leaves r vs′ cs′)
-    → RunAnswer (runFaults store (lends T D cs vs os)) (lends T D cs vs os) limit (leaves r vs′ cs′)
+pub begun-ran : (T : List ℤ) (h : Sections) (L : List ℤ) (D cs vs os : List ℕ) (limit : ℕ) (r : Outcome) (vs′ cs′ : List ℕ) → formOf T ≡ WellFormed h → faults T L ≡ []
+    → entryRefusals h (environmentOf T h) D cs vs os ≡ [] → Ran (lends T L D cs vs os) (sectionsOf T) limit (leaves r vs′ cs′)
+    → RunAnswer (runFaults store (lends T L D cs vs os)) (lends T L D cs vs os) limit (leaves r vs′ cs′)
 unfolding RunAnswer
-begun-ran T h D cs vs os limit r vs′ cs′ f e n a = rw (entry-only T h D cs vs os f e, n) a
+begun-ran T h L D cs vs os limit r vs′ cs′ f e n a = rw (entry-only T h L D cs vs os f e, n) a
 
 -- ---- what the code has in hand where the loop begins
 
-pub record Launched (T : List ℤ) (h : Sections) (D cs vs os W S : List ℕ) : Type 0 where
+pub record Launched (T : List ℤ) (h : Sections) (L : List ℤ) (D cs vs os W S : List ℕ) : Type 0 where
   pub formed : formOf T ≡ WellFormed h
-  pub accepts : faults T ≡ []
+  pub accepts : faults T L ≡ []
   pub small : Small cs vs
   pub none : entryRefusals h (environmentOf T h) D cs vs os ≡ []
   pub ends : W ≡ endsOf (environmentOf T h) ownRows
@@ -173,11 +152,11 @@ pub record Launched (T : List ℤ) (h : Sections) (D cs vs os W S : List ℕ) : 
   pub room : 2 * h .statements ≤ length slice
   pub successors : S ≡ written (tableFlow T h) slice
 
-pub launched : {T : List ℤ} {h : Sections} {D cs vs os W S : List ℕ} {E′ : Environment} {v : EntryVerdict} {b : Bool} (w : List ℕ)
-    → formOf T ≡ WellFormed h → faults T ≡ [] → Small cs vs → E′ ≡ environmentOf T h → v ≡ entered (entryRefusals h E′ D cs vs os) → v ≡ entry.Begun
+pub launched : {T : List ℤ} {h : Sections} {L : List ℤ} {D cs vs os W S : List ℕ} {E′ : Environment} {v : EntryVerdict} {b : Bool} (w : List ℕ)
+    → formOf T ≡ WellFormed h → faults T L ≡ [] → Small cs vs → E′ ≡ environmentOf T h → v ≡ entered (entryRefusals h E′ D cs vs os) → v ≡ entry.Begun
     → W ≡ endsOf E′ ownRows
-    → Written T h w b S → length w ≡ 2048 → Launched T h D cs vs os W S
-launched {T} {h} {D} {cs} {vs} {os} {W} {S} {E′} {v} w f a l e q g k s n =
+    → Written T h w b S → length w ≡ 2048 → Launched T h L D cs vs os W S
+launched {T} {h} {L} {D} {cs} {vs} {os} {W} {S} {E′} {v} w f a l e q g k s n =
     let room : 2 * h .statements ≤ length w = omega (arith, well-formed T h f .limits .statements) in
     record {
       formed = f;
@@ -190,38 +169,38 @@ launched {T} {h} {D} {cs} {vs} {os} {W} {S} {E′} {v} w f a l e q g k s n =
       successors = rw (le-leb (2 * h .statements) (length w) room) at (s .entries);
     }
 
-module _ {T : List ℤ} {h : Sections} {D cs vs os W S : List ℕ} (L : Launched T h D cs vs os W S) (limit : ℕ) where
+module _ {T : List ℤ} {h : Sections} {L : List ℤ} {D cs vs os W S : List ℕ} (begins : Launched T h L D cs vs os W S) (limit : ℕ) where
   pub launched-ready : Prepared T h W D S vs × SafeRun T h W D S limit 0 vs cs
-  launched-ready = rw (L .ends, L .successors) (
-    run-prepared T h (L .formed) (L .accepts) D cs vs os (L .small) (L .none) (L .slice) (L .room),
-    run-safe T h (L .formed) (L .accepts) D cs vs os (L .small) (L .none) (L .slice) (L .room) limit,
+  launched-ready = rw (begins .ends, begins .successors) (
+    run-prepared T h L (begins .formed) (begins .accepts) D cs vs os (begins .small) (begins .none) (begins .slice) (begins .room),
+    run-safe T h L (begins .formed) (begins .accepts) D cs vs os (begins .small) (begins .none) (begins .slice) (begins .room) limit,
   )
 
   pub launched-ran : {r : Outcome} {W′ vs′ cs′ : List ℕ} → Ends (bareRun T h W D S limit 0 0 vs cs) r W′ vs′ cs′
-      → RunAnswer (runFaults store (lends T D cs vs os)) (lends T D cs vs os) limit (leaves r vs′ cs′)
+      → RunAnswer (runFaults store (lends T L D cs vs os)) (lends T L D cs vs os) limit (leaves r vs′ cs′)
   launched-ran {r} {W′} {vs′} {cs′} e =
-      begun-ran T h D cs vs os limit r vs′ cs′ (L .formed) (L .accepts) (L .none)
-      (run-claim T h (L .formed) (L .accepts) D cs vs os (L .small) (L .none) (L .slice) (L .room) limit r W′ vs′ cs′ (rw (L .ends, L .successors) at e))
+      begun-ran T h L D cs vs os limit r vs′ cs′ (begins .formed) (begins .accepts) (begins .none)
+      (run-claim T h L (begins .formed) (begins .accepts) D cs vs os (begins .small) (begins .none) (begins .slice) (begins .room) limit r W′ vs′ cs′ (rw (begins .ends, begins .successors) at e))
 
 -- ---- the paper's facts
 
-same-run : (fs gs : List Refusal) (T : List ℤ) (D cs vs os : List ℕ) (limit : ℕ) (r : Outcome) (vs′ cs′ : List ℕ) → SameFirst fs gs
-    → RunAnswer fs (lends T D cs vs os) limit (leaves r vs′ cs′) → RunAnswer gs (lends T D cs vs os) limit (leaves r vs′ cs′)
+same-run : (fs gs : List Refusal) (T L : List ℤ) (D cs vs os : List ℕ) (limit : ℕ) (r : Outcome) (vs′ cs′ : List ℕ) → SameFirst fs gs
+    → RunAnswer fs (lends T L D cs vs os) limit (leaves r vs′ cs′) → RunAnswer gs (lends T L D cs vs os) limit (leaves r vs′ cs′)
 unfolding RunAnswer
-same-run [] [] T D cs vs os limit r vs′ cs′ s a = a
-same-run [] (g ∷ gs) T D cs vs os limit r vs′ cs′ s a = absurd s
-same-run (f ∷ fs) [] T D cs vs os limit r vs′ cs′ s a = absurd s
-same-run (f ∷ fs) (g ∷ gs) T D cs vs os limit r vs′ cs′ s a =
+same-run [] [] T L D cs vs os limit r vs′ cs′ s a = a
+same-run [] (g ∷ gs) T L D cs vs os limit r vs′ cs′ s a = absurd s
+same-run (f ∷ fs) [] T L D cs vs os limit r vs′ cs′ s a = absurd s
+same-run (f ∷ fs) (g ∷ gs) T L D cs vs os limit r vs′ cs′ s a =
     record { answer = a .answer ∙ ap (λ (x : Refusal). reads (outcome.Refused x)) s; values = a .values; cells = a .cells }
 
-pub run-judged : (T : List ℤ) (D cs vs os : List ℕ) (limit : ℕ) (r : Outcome) (vs′ cs′ : List ℕ)
-    → RunAnswer (runFaults store (lends T D cs vs os)) (lends T D cs vs os) limit (leaves r vs′ cs′)
-    → RunJudged (lends T D cs vs os) limit (leaves r vs′ cs′)
+pub run-judged : (T L : List ℤ) (D cs vs os : List ℕ) (limit : ℕ) (r : Outcome) (vs′ cs′ : List ℕ)
+    → RunAnswer (runFaults store (lends T L D cs vs os)) (lends T L D cs vs os) limit (leaves r vs′ cs′)
+    → RunJudged (lends T L D cs vs os) limit (leaves r vs′ cs′)
 unfolding RunJudged runFaults
-run-judged T D cs vs os limit r vs′ cs′ a =
+run-judged T L D cs vs os limit r vs′ cs′ a =
     decided _ _ (λ d c.
-    same-run (runFaults store (lends T D cs vs os)) (runFaults (byChains d) (lends T D cs vs os)) T D cs vs os limit r vs′ cs′
-    (same-also (faults T) (verdictRules.faults (byChains d) T) _ _ (faults-agree T d c) (λ z. same-self (entryFaults (formOf T) (lends T D cs vs os)))) a)
+    same-run (runFaults store (lends T L D cs vs os)) (runFaults (byChains d) (lends T L D cs vs os)) T L D cs vs os limit r vs′ cs′
+    (same-also (faults T L) (verdictRules.faults (byChains d) T L) _ _ (faults-agree T L d c) (λ z. same-self (entryFaults (formOf T) (lends T L D cs vs os)))) a)
 
 -- ---- the whole run
 

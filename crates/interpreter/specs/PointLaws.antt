@@ -2,7 +2,7 @@
 use Prim.Native.Nat.{ℕ, _+_, _-_, _≤_, _<_}
 use mathlib.Core.Path.{_≡_, refl, sym, ap, ap₂, _∙_}
 use mathlib.Core.Logic.{_≢_, _↔_, _⊎_, inl, inr}
-use mathlib.Core.Bool.{Bool, true, false, cond}
+use mathlib.Core.Bool.{Bool, true, false, false≢true, cond}
 use mathlib.Core.List.{List, []}
 use native.Mathlib.Nat.{eq-or-lt-of-le}
 use native.Mathlib.Omega.{arith}
@@ -11,14 +11,29 @@ use lib.Dec.{ltb}
 use lib.IntN.{ℤ}
 use lib.ListN.{length, getD}
 use Rattle.words.specs.declared.sections.Sections.{Sections}
-use Rattle.table.specs.Form.{formOf}
+use Rattle.table.specs.Form.{formOf, sectionsOf}
+use Rattle.table.specs.FormLaws.{well-formed}
 use Rattle.table.specs.declared.Form.the-variants.{WellFormed}
+use Rattle.conditions.specs.declared.Condition.{Condition}
+use Rattle.statements.specs.Statements.{statementAt}
+use Rattle.statements.specs.declared.Statement.the-variants.{Plain, If, While, Bundle}
+use Rattle.statements.specs.declared.StatementRead.{StatementRead}
+use Rattle.statements.specs.declared.StatementRead.the-variants.{Read, Unread}
+use Rattle.blocks.specs.Tree.{tree}
+use Rattle.listed.specs.Entries.{entriesOf, EntriesHold}
+use Rattle.rules.specs.BoundsRules.{inForce}
+use Rattle.rules.specs.AcceptedLaws.{clear, formed-sections}
+use Rattle.rules.specs.ListedLaws.{entries-right, entries-mean}
+use Rattle.rules.specs.ByChains.{Decider, byChains, DecidesTable}
+use Rattle.rules.specs.StateBefore.{stateBefore}
+use Rattle.rules.specs.Report.{readSafe, safeAt, reportedIf, reportedAt}
+use Rattle.rules.specs.ReportLaws.{report-agrees}
 use Rattle.rules.specs.Verdict.{environmentOf}
-use Rattle.rules.specs.Stored.{faults}
+use Rattle.rules.specs.Stored.{store, newState, faults}
 use Rattle.rules.specs.declared.Verdict.the-variants as verdict
 use Rattle.rules.specs.declared.Environment.{Environment}
-use Rattle.machine.specs.Machine.{Status, going, stopped, stuck, fails, Point, start, pointAfter}
-use Rattle.machine.specs.Points.{Access, no-access, access, accessFrom, AccessInside, Outside}
+use Rattle.machine.specs.Machine.{value, Status, going, stopped, stuck, none, fails, Point, start, pointAfter}
+use Rattle.machine.specs.Points.{Access, no-access, access, accessFrom, AccessInside, Outside, failingAt}
 use Rattle.machine.specs.Soundness.{Begun, Sound, AccessAllowed}
 use Rattle.machine.specs.Frame.{Own}
 use Rattle.machine.specs.FrameLaws.{run-framed, own-names, own-origins, outside-own}
@@ -42,8 +57,8 @@ allowed-inside D n (access a o) h = h .inside
 
 -- ---- what is lent and left, field by field
 
-abbrev pub lends : List ℤ → List ℕ → List ℕ → List ℕ → List ℕ → Lent
-lends T D cs vs os = record { table = T; directory = D; cells = cs; values = vs; origins = os }
+abbrev pub lends : List ℤ → List ℤ → List ℕ → List ℕ → List ℕ → List ℕ → Lent
+lends T L D cs vs os = record { table = T; listed = L; directory = D; cells = cs; values = vs; origins = os }
 
 abbrev pub leaves : Outcome → List ℕ → List ℕ → Leaves
 leaves r vs cs = record { answer = r; values = vs; cells = cs }
@@ -103,15 +118,20 @@ reads-shown h (stopped n) steps due five =
     ap₂ (says.stopped steps) (statement-of n due) (number-of n due (k .0) (k .1))
 reads-shown h stuck steps due five = refl
 
+-- A reported statement of an accepted table is shown safe.
+reported-safe : (T L : List ℤ) (a : ℕ) → faults T L ≡ [] → reportedAt store T L a ≡ true → safeAt store T (sectionsOf T) L a ≡ true
+unfolding reportedAt reportedIf
+reported-safe T L a f e = rw f at e
+
 -- ---- every point of a begun run
 
-module _ (T : List ℤ) (h : Sections) (formed : formOf T ≡ WellFormed h) (accepts : faults T ≡ []) (D cs vs os : List ℕ)
+module _ (T : List ℤ) (h : Sections) (L : List ℤ) (formed : formOf T ≡ WellFormed h) (accepts : faults T L ≡ []) (D cs vs os : List ℕ)
     (begun : Begun h (environmentOf T h) D cs vs os) where
   abbrev E : Environment
   E = environmentOf T h
 
   abbrev lent : Lent
-  lent = lends T D cs vs os
+  lent = lends T L D cs vs os
 
   abbrev first : Point
   first = start T h E D cs vs os
@@ -119,8 +139,8 @@ module _ (T : List ℤ) (h : Sections) (formed : formOf T ≡ WellFormed h) (acc
   abbrev pub point : ℕ → Point
   point t = pointAfter T h E D t first
 
-  right : (t : ℕ) → Sound T h E D (length cs) (point t)
-  right = sound T h formed accepts D cs vs os begun
+  right : (t : ℕ) → Sound T h E D (length cs) L (point t)
+  right = sound T h L formed accepts D cs vs os begun
 
   pub unstuck : (t : ℕ) → point t .status ≢ stuck
   unstuck t = right t .has-step
@@ -225,12 +245,43 @@ module _ (T : List ℤ) (h : Sections) (formed : formOf T ≡ WellFormed h) (acc
           (facts .stops k .0 s ∙ ap fails j, cc)
       by-status e stuck s = absurd (unstuck (t + 1) s)
 
+  -- ---- point 9
+
+  listed : (t : ℕ) (c : Condition) (n : ℕ) → statementAt T h (point t .due) ≡ Read (While c n)
+      → EntriesHold (entriesOf L (point t .due)) (value (point t .values))
+  listed t c n e =
+      let w = well-formed T h formed .limits in
+      entries-mean T h w (entriesOf L (point t .due)) (value (point t .values)) (entries-right T h w L (clear T h L formed accepts .listed) (point t .due))
+      (right t .listed c n e)
+
+  read-passes : (t : ℕ) (r : StatementRead) → statementAt T h (point t .due) ≡ r
+      → readSafe store E r (stateBefore store E L (tree T h) newState (point t .due)) ≡ true → failingAt (inForce E (point t .rows)) r (point t .values) ≡ none
+  read-passes t (Read (Plain s)) e q = right t .safe s e q
+  read-passes t (Read (If c n m)) e q = absurd (false≢true q)
+  read-passes t (Read (While c n)) e q = absurd (false≢true q)
+  read-passes t (Read (Bundle n)) e q = absurd (false≢true q)
+  read-passes t Unread e q = absurd (false≢true q)
+
+  safe-passes : (t : ℕ) → safeAt store T h L (point t .due) ≡ true → failingDue lent h t ≡ none
+  unfolding safeAt
+  safe-passes t q = read-passes t (statementAt T h (point t .due)) refl q
+
+  reported : (t : ℕ) (d : Decider) → DecidesTable T d → reportedAt (byChains d) T L (point t .due) ≡ true → failingDue lent h t ≡ none
+  reported t d c r =
+      let e : reportedAt store T L (point t .due) ≡ true = report-agrees T L d c (point t .due) ∙ r in
+      safe-passes t (ap (λ (g : Sections). safeAt store T g L (point t .due)) (formed-sections T h formed) ∙ by-store t e)
+    where
+      by-store : (t : ℕ) → reportedAt store T L (point t .due) ≡ true → safeAt store T (sectionsOf T) L (point t .due) ≡ true
+      by-store t e = reported-safe T L (point t .due) accepts e
+
   pub at-point : (limit t : ℕ) (a : Answer) → a ≡ shown limit → t ≤ limit → AtPoint lent h limit a t
   at-point limit t a e l = rw e (record {
     bounds = right t .bounds;
     accesses = λ s b. allowed-inside D (length (point s .cells)) (accessFrom T h E (point s .status) (point s)) (right s .access-allowed);
     untouched = untouched t;
     last-zero = right t .last-zero;
+    listed = listed t;
+    reported = λ d c r. reported t d c r;
     has-step = unstuck t;
     counted = λ d. counted t (d .0) (d .1);
     finished = finished limit t l;

@@ -26,7 +26,7 @@ module _ (l : Lent) where
 -- "two runs of one routine with equal directories, entry values, origins .., whose memories differ only in cells of unreachable objects, or in cells of no
 -- object": the second is lent the cells ds in place of those of l.
 abbrev pub withCells : Lent → List ℕ → Lent
-withCells l ds = record { table = l .table; directory = l .directory; cells = ds; values = l .values; origins = l .origins }
+withCells l ds = record { table = l .table; listed = l .listed; directory = l .directory; cells = ds; values = l .values; origins = l .origins }
 
 pub record DifferElsewhere (l : Lent) (ds : List ℕ) : Type 0 where
   pub long : length (l .cells) ≡ length ds

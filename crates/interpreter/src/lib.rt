@@ -25,15 +25,17 @@ ghost use Rattle.interpreter.specs.ClaimLaws.{RunStored};
 fn run_sections(
     table: &[i32],
     sections: Sections,
+    listed: &[i32],
     directory: &[u32],
     cells: &mut [u32],
     values: &mut [u32],
     origins: &[u32],
     limit: u32,
 ) -> Outcome
-    requires { ⌜ (formOf (now table) ≡ WellFormed sections) × (faults (now table) ≡ []) ⌝ }
+    requires { ⌜ (formOf (now table) ≡ WellFormed sections) × (faults (now table) (now listed) ≡ []) ⌝ }
     ensures { λ r. ⌜ RunStored (record {
       table = now (table .entry);
+      listed = now (listed .entry);
       directory = now (directory .entry);
       cells = now (cells .entry);
       values = now (values .entry);
@@ -66,15 +68,17 @@ fn run_sections(
 // A run of an accepted table. (Its form is right, so the first arm is never taken; it answers what it would mean.)
 fn run_accepted(
     table: &[i32],
+    listed: &[i32],
     directory: &[u32],
     cells: &mut [u32],
     values: &mut [u32],
     origins: &[u32],
     limit: u32,
 ) -> Outcome
-    requires { ⌜ faults (now table) ≡ [] ⌝ }
+    requires { ⌜ faults (now table) (now listed) ≡ [] ⌝ }
     ensures { λ r. ⌜ RunStored (record {
       table = now (table .entry);
+      listed = now (listed .entry);
       directory = now (directory .entry);
       cells = now (cells .entry);
       values = now (values .entry);
@@ -85,14 +89,24 @@ fn run_accepted(
     match form {
         Form::Refused(refusal) => Outcome::Refused(refusal),
         Form::WellFormed(sections) => {
-            run_sections(table, sections, directory, cells, values, origins, limit)
+            run_sections(
+                table,
+                sections,
+                listed,
+                directory,
+                cells,
+                values,
+                origins,
+                limit,
+            )
         }
     }
 }
 
-// Checks the routine and what is lent, then runs it, `limit` steps at most. Cells and values are changed in place; a refusal changes nothing.
+// Checks the routine with its list of loop facts and what is lent, then runs it, `limit` steps at most. Cells and values are changed in place; a refusal changes nothing.
 pub fn run(
     table: &[i32],
+    listed: &[i32],
     directory: &[u32],
     cells: &mut [u32],
     values: &mut [u32],
@@ -101,15 +115,17 @@ pub fn run(
 ) -> Outcome
     ensures { λ r. ⌜ RunJudged (record {
       table = now (table .entry);
+      listed = now (listed .entry);
       directory = now (directory .entry);
       cells = now (cells .entry);
       values = now (values .entry);
       origins = now (origins .entry);
     }) limit (record { answer = r; values = now (values .exit); cells = now (cells .exit) }) ⌝ }
 {
-    let verdict = check(table);
+    let checked = check(table, listed);
+    let verdict = checked.verdict;
     match verdict {
         Verdict::Refused(refusal) => Outcome::Refused(refusal),
-        Verdict::Accepted => run_accepted(table, directory, cells, values, origins, limit),
+        Verdict::Accepted => run_accepted(table, listed, directory, cells, values, origins, limit),
     }
 }

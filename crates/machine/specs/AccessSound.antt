@@ -1,24 +1,31 @@
 -- An access through a pointer whose declared bounds are true lies in the origin object, where no check fails.
-use Prim.Native.Nat.{ℕ, suc, _+_, _≤_, _<_, _-_}
+use Prim.Native.Nat.{ℕ, suc, _+_, _≤_, _<_, _-_, _*_, _^_}
 use mathlib.Core.Path.{_≡_, refl, sym, _∙_}
 use mathlib.Core.Logic.{inl, inr, _≢_}
 use mathlib.Core.Bool.{Bool, true, false, _||_, not, _&&_, false≢true}
 use mathlib.Core.List.{List}
 use native.Mathlib.Omega.{arith}
-use borrow.Author.Tests.{eqb-true, eq-eqb, ltb-false, leb-false, eqb-false, le-leb, lt-ltb}
-use lib.Dec.{ltb, eqb}
+use borrow.Author.Tests.{eqb-true, eq-eqb, ltb-false, leb-false, eqb-false, le-leb, lt-ltb, le-ltb, lt-leb, ne-eqb}
+use lib.Dec.{leb, ltb, eqb}
 use lib.ListN.{getD}
-use Rattle.sums.specs.Numbers.{bias}
+use Rattle.sums.specs.Numbers.{bias, zeroVar}
+use Rattle.facts.specs.Store.{shown}
+use Rattle.facts.specs.declared.FactSet.{FactSet}
+use Rattle.chains.specs.Sound.{InRange, Holds}
+use Rattle.words.specs.SectionsLaws.{both}
+use Rattle.table.specs.declared.variables.End.{End}
+use Rattle.rules.specs.Stored.{endAtMost, knownAtMost, addressSafe}
 use Rattle.statements.specs.declared.Simple.{Simple}
 use Rattle.statements.specs.declared.Simple.the-variants.{Literal, AddConstant, Arithmetic, Null, Address}
 use Rattle.statements.specs.declared.Simple.the-variants.{PointerOffset, PointerIndex, Load, Store, Check, Declare}
 use Rattle.rules.specs.FactsTrue.{neither}
 use Rattle.rules.specs.BoundsRules.{declared, elementSize, isString, isTerminated, upperLimit}
-use Rattle.rules.specs.BoundsTrue.{endAt, BoundsHold}
+use Rattle.rules.specs.BoundsTrue.{endAt, BoundsHold, Proper, end-below}
+use Rattle.rules.specs.BoundsRules as boundsRules
 use Rattle.rules.specs.EnvironmentLaws.{DeclaredEnds}
 use Rattle.rules.specs.declared.KnownEnd.the-variants.{Known}
 use Rattle.rules.specs.declared.Environment.{Environment}
-use Rattle.machine.specs.Machine.{value, lowerEnd, upperEnd, low, high, inOrigin, Failing, none}
+use Rattle.machine.specs.Machine.{value, lowerEnd, upperEnd, low, high, inOrigin, Failing, none, address, loadFailing, storeFailing}
 use Rattle.machine.specs.Machine.{firstOf, accessFailing, Memory, beyond, terminatorFailing}
 use Rattle.machine.specs.Good.{TrueOf, InObject}
 
@@ -161,3 +168,60 @@ module _ (E : Environment) (D : List ℕ) (objects : ℕ) (m : Memory) (p : ℕ)
       go : (b : Bool) → eqb x 0 ≡ b → (eqb a (upperEnd E (m .values) p) && not b) ≡ false → x ≡ 0
       go true z f = eqb-true x 0 z
       go false z f = let g : (true && not false) ≡ false = rw (eq-eqb a (upperEnd E (m .values) p) q) at f in absurd (false≢true (sym g))
+
+  -- ---- point 9: no check fails at an access that is shown safe
+
+  -- What is shown of it, of the values.
+  record Safe (a : ℕ) : Type 0 where
+    some : 1 ≤ value (m .values) p
+    above : lowerEnd E (m .values) p ≤ a
+    below : a < upperEnd E (m .values) p
+
+  ends-pass : (f : FactSet) (i k : ℕ) → Holds f (value (m .values)) → InRange (value (m .values)) → p < 17 → i < 17
+      → (shown f zeroVar p (bias - 1)
+      && (knownAtMost f (elementSize E p) (Known (ends .low)) (elementSize E p) (Known (record { pointer = p; integer = i; constant = k }))
+      && knownAtMost f (elementSize E p) (Known (record { pointer = p; integer = i; constant = k + 1 })) (elementSize E p) (Known (ends .high)))) ≡ true
+      → Safe (address E (m .values) p i k)
+  unfolding boundsRules.knownAtMost
+  ends-pass f i k h g hp hi t =
+      let v : ℕ → ℕ = value (m .values) in
+      let s : ℕ = elementSize E p in
+      let a : End = record { pointer = p; integer = i; constant = k } in
+      let b : End = record { pointer = p; integer = i; constant = k + 1 } in
+      let x = both (shown f zeroVar p (bias - 1)) (endAtMost f s (ends .low) s a && endAtMost f s b s (ends .high)) t in
+      let y = both (endAtMost f s (ends .low) s a) (endAtMost f s b s (ends .high)) (x .1) in
+      record {
+        some = omega (arith, h zeroVar p (bias - 1) (omega arith) hp (x .0), g .zero-is);
+        above = omega (arith, end-below f v h g s (ends .low) a (ends .low-proper .pointer) (ends .low-proper .integer) hp hi (y .0), lower-value);
+        below = omega (arith, end-below f v h g s b (ends .high) hp hi (ends .high-proper .pointer) (ends .high-proper .integer) (y .1), upper-value);
+      }
+
+  safe-address : (f : FactSet) (i k : ℕ) → Holds f (value (m .values)) → InRange (value (m .values)) → p < 17 → i < 17
+      → addressSafe f p i k (declared E p) ≡ true → Safe (address E (m .values) p i k)
+  unfolding boundsRules.addressSafe
+  safe-address f i k h g hp hi t = let d = ends .bounds in ends-pass f i k h g hp hi (rw d at t)
+
+  not-beyond : (s : Bool) (u a : ℕ) → a < u → beyond s u a ≡ false
+  not-beyond true u a l = le-ltb u a (omega arith)
+  not-beyond false u a l = lt-leb u a l
+
+  module _ (a : ℕ) (w : Safe a) where
+    passes : (rest : Failing) → accessFailing E (m .values) p a rest ≡ rest
+    unfolding accessFailing
+    passes rest =
+        let e₁ : eqb (value (m .values) p) 0 ≡ false = ne-eqb (value (m .values) p) 0 (λ z. omega (arith, w .some)) in
+        let e₂ : ltb a (lowerEnd E (m .values) p) ≡ false = le-ltb a (lowerEnd E (m .values) p) (w .above) in
+        let e₃ : beyond (isString E p) (upperEnd E (m .values) p) a ≡ false = not-beyond (isString E p) (upperEnd E (m .values) p) a (w .below) in
+        rw (e₁, e₂, e₃)
+
+    below-end : (x : ℕ) → terminatorFailing E (m .values) p a x ≡ none
+    unfolding terminatorFailing
+    below-end x = rw (ne-eqb a (upperEnd E (m .values) p) (λ z. omega (arith, w .below)))
+
+  pub safe-load : (f : FactSet) (i k : ℕ) → Holds f (value (m .values)) → InRange (value (m .values)) → p < 17 → i < 17
+      → addressSafe f p i k (declared E p) ≡ true → loadFailing E (m .values) p (address E (m .values) p i k) ≡ none
+  safe-load f i k h g hp hi t = passes _ (safe-address f i k h g hp hi t) none
+
+  pub safe-store : (f : FactSet) (i k x : ℕ) → Holds f (value (m .values)) → InRange (value (m .values)) → p < 17 → i < 17
+      → addressSafe f p i k (declared E p) ≡ true → storeFailing E (m .values) p (address E (m .values) p i k) x ≡ none
+  safe-store f i k x h g hp hi t = let w = safe-address f i k h g hp hi t in passes _ w _ ∙ below-end _ w x

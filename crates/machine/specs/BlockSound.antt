@@ -23,9 +23,12 @@ use Rattle.blocks.specs.Tree.{Block, nil, plain, branch, loop, bundle, unread, 
 use Rattle.blocks.specs.Flow.{Successors, successors, entry, lead}
 use Rattle.blocks.specs.Shape.{size}
 use Rattle.rules.specs.FactSets.{State}
-use Rattle.rules.specs.Stored.{loopFacts, effect, bundleBounds, bundleFaults, sidesJoined, blockFaults, boundsAfter}
+use Rattle.rules.specs.Stored.{loopFacts, entriesUnshown, entryFacts, effect, bundleBounds, bundleFaults, sidesJoined, blockFaults, boundsAfter}
 use Rattle.rules.specs.Stored.{stateAfter, assumed, atHead, accessIn, unshownIn, declaredIn, bundleAfter, blockAfter}
 use Rattle.rules.specs.FactsTrue.{Agree, among-left, among-right, loop-facts-hold}
+use Rattle.rules.specs.ListedLaws.{EntriesTrue, entries-true, entries-hold}
+use Rattle.listed.specs.Entries.{entriesOf}
+use Rattle.listed.specs.declared.Entry.{Entry}
 use Rattle.rules.specs.BoundsRules.{isPointer, known, inForce}
 use Rattle.blocks.specs.LayoutLaws.{no-first, no-rest}
 use Rattle.rules.specs.RuleLaws.{access-passed, bounds-passed, rows-passed}
@@ -38,7 +41,7 @@ use Rattle.machine.specs.ConditionSound.{condition-holds, negated-holds}
 use Rattle.machine.specs.AccessSound.{Ready}
 use Rattle.machine.specs.SimpleSound.{Done, done-map}
 use Rattle.machine.specs.PerformedSound.{performed-good}
-use Rattle.machine.specs.Places.{LinkedLine, Linked, Stands, AtLine, Framed, At, StandsAt}
+use Rattle.machine.specs.Places.{LinkedLine, Linked, Stands, AtLine, Framed, headState, At, StandsAt}
 use Rattle.rules.specs.BoundsRules as boundsRules
 use Rattle.rules.specs.Rules as walkRules
 
@@ -101,24 +104,79 @@ module _ (T : List ℤ) (h : Sections) (E : Environment) (D : List ℕ) (room : 
   ready-outside (Check c) F m t g = tt
   ready-outside (Declare p r) F m t g = tt
 
-  -- The facts at the head of a loop, from the values that held before it.
-  framed-head : (A : List ℕ) (F : FactSet) (m : Memory) → Framed A F m → InRange (value (m .values)) → Holds (loopFacts A F) (value (m .values))
-  framed-head A F m w r = loop-facts-hold A F (w .old) (value (m .values)) (w .range) r (w .held) (w .agree)
+  -- The facts at the head of a loop, from the values that held before it, and its entries, which are true now.
+  framed-head : (es : List Entry) (A : List ℕ) (F : FactSet) (m : Memory) → Framed A F m → InRange (value (m .values)) → EntriesTrue es (value (m .values))
+      → Holds (entryFacts es (loopFacts A F)) (value (m .values))
+  framed-head es A F m w r t =
+      entries-hold es (loopFacts A F) (value (m .values)) r (loop-facts-hold A F (w .old) (value (m .values)) (w .range) r (w .held) (w .agree)) t
 
-  module _ (f : ℕ → Successors) where
+  module _ (f : ℕ → Successors) (L : List ℤ) where
+    -- ---- what a walk without faults says of the parts
+
+    module _ (a : ℕ) (c : Condition) (t e r : Block) (F : State FactSet) (q : blockFaults E L (branch a c t e r) F ≡ []) where
+      then-clear : blockFaults E L t (assumed F c) ≡ []
+      unfolding walkRules.blockFaults
+      then-clear = no-first _ _ q
+
+      else-clear : blockFaults E L e (assumed F (negatedOf c)) ≡ []
+      unfolding walkRules.blockFaults
+      else-clear = no-first _ _ (no-rest _ _ q)
+
+      -- 13 does not refuse: the sides of an if leave the same rows in force.
+      sides-same : blockAfter E L t (assumed F c) .rows ≡ blockAfter E L e (assumed F (negatedOf c)) .rows
+      unfolding walkRules.blockFaults
+      sides-same = rows-passed a _ _ (no-first _ _ (no-rest _ _ (no-rest _ _ q)))
+
+      joined-clear : blockFaults E L r (sidesJoined E (blockAfter E L t (assumed F c)) (blockAfter E L e (assumed F (negatedOf c)))) ≡ []
+      unfolding walkRules.blockFaults
+      joined-clear = no-rest _ _ (no-rest _ _ (no-rest _ _ q))
+
+    module _ (a : ℕ) (c : Condition) (t r : Block) (F : State FactSet) (q : blockFaults E L (loop a c t r) F ≡ []) where
+      -- 17 does not refuse: the entries of the loop are shown before it and at the end of its body.
+      entries-before : entriesUnshown (entriesOf L a) (F .facts) ≡ []
+      unfolding walkRules.blockFaults
+      entries-before = no-first _ _ q
+
+      body-clear : blockFaults E L t (assumed (headState h E D room L a t F) c) ≡ []
+      unfolding walkRules.blockFaults
+      body-clear = no-first _ _ (no-rest _ _ q)
+
+      entries-again : entriesUnshown (entriesOf L a) (blockAfter E L t (assumed (headState h E D room L a t F) c) .facts) ≡ []
+      unfolding walkRules.blockFaults
+      entries-again = no-first _ _ (no-rest _ _ (no-rest _ _ q))
+
+      -- 13 does not refuse: so do the head and the end of a body.
+      ends-same : F .rows ≡ blockAfter E L t (assumed (headState h E D room L a t F) c) .rows
+      unfolding walkRules.blockFaults
+      ends-same = rows-passed a _ _ (no-first _ _ (no-rest _ _ (no-rest _ _ (no-rest _ _ q))))
+
+      left-clear : blockFaults E L r (assumed (headState h E D room L a t F) (negatedOf c)) ≡ []
+      unfolding walkRules.blockFaults
+      left-clear = no-rest _ _ (no-rest _ _ (no-rest _ _ (no-rest _ _ q)))
+
     -- Arriving at a block: at its first statement, or at what follows an empty one.
-    pub enter : (b : Block) (F : State FactSet) (after d : ℕ) (m : Memory) → Linked T h f b after → d ≡ entry b after → GoodOut F m
-        → At h E D room b F d m ⊎ StandsAt h E D room after (blockAfter E b F) d m
+    pub enter : (b : Block) (F : State FactSet) (after d : ℕ) (m : Memory) → Linked T h f b after → blockFaults E L b F ≡ [] → d ≡ entry b after → GoodOut F m
+        → At h E D room L b F d m ⊎ StandsAt h E D room after (blockAfter E L b F) d m
     unfolding entry walkRules.blockAfter
-    enter nil F after d m l e g = inr (e, g)
-    enter (plain a s r) F after d m l e g = inl (inl (e, g))
-    enter (branch a c t u r) F after d m l e g = inl (inl (e, g))
-    enter (loop a c t r) F after d m l e g =
+    enter nil F after d m l q e g = inr (e, g)
+    enter (plain a s r) F after d m l q e g = inl (inl (e, g))
+    enter (branch a c t u r) F after d m l q e g = inl (inl (e, g))
+    enter (loop a c t r) F after d m l q e g =
         let A = assigned t in
         let w : Framed A (F .facts) m = record { old = value (m .values); held = g .facts; range = g .steady .range; agree = λ z q. refl } in
-        inl (inl (w, inl (e, with-facts h E D room F (atHead A F) (declaredIn E F) m g refl (framed-head A (F .facts) m w (g .steady .range)))))
-    enter (bundle a ss r) F after d m l e g = inl (inl (e, g))
-    enter (unread a) F after d m l e g = absurd l
+        let v = entries-true (entriesOf L a) (F .facts) (value (m .values)) (g .facts) (entries-before a c t r F q) in
+        inl (inl (
+          w,
+          inl (
+            (
+              e,
+              with-facts h E D room F (atHead (entriesOf L a) A F) (declaredIn E F) m g refl (framed-head (entriesOf L a) A (F .facts) m w (g .steady .range) v),
+            ),
+            v,
+          ),
+        ))
+    enter (bundle a ss r) F after d m l q e g = inl (inl (e, g))
+    enter (unread a) F after d m l q e g = absurd l
 
     enter-line : (a : ℕ) (ss : List Simple) (F : State FactSet) (K : List Bounds) (after d : ℕ) (m : Memory) → d ≡ lead a (length ss) after → GoodAt F K m
         → AtLine h E D room a ss F K d m ⊎ Stands h E D room after (bundleAfter ss F) (bundleBounds E ss F K) d m
@@ -133,7 +191,7 @@ module _ (T : List ℤ) (h : Sections) (E : Environment) (D : List ℕ) (room : 
     step-at P a r s d e q = rw (d, e, q)
 
     abbrev Goal : Block → State FactSet → ℕ → Memory → ℕ → Memory → Type 0
-    Goal b F after m d n = (At h E D room b F d n ⊎ StandsAt h E D room after (blockAfter E b F) d n)
+    Goal b F after m d n = (At h E D room L b F d n ⊎ StandsAt h E D room after (blockAfter E L b F) d n)
         × Agree (assigned b) (value (m .values)) (value (n .values))
 
     abbrev GoalLine : ℕ → List Simple → State FactSet → List Bounds → ℕ → Memory → ℕ → Memory → Type 0
@@ -167,34 +225,34 @@ module _ (T : List ℤ) (h : Sections) (E : Environment) (D : List ℕ) (room : 
 
     -- The end of a bundle: all declared bounds are shown.
     bundle-out : (a : ℕ) (ss : List Simple) (r : Block) (F : State FactSet) (after d : ℕ) (m : Memory) → Linked T h f r after
-        → unshownIn E (bundleAfter ss F) (bundleBounds E ss F (declaredIn E F)) ≡ []
+        → blockFaults E L r (bundleAfter ss F) ≡ [] → unshownIn E (bundleAfter ss F) (bundleBounds E ss F (declaredIn E F)) ≡ []
         → AtLine h E D room (a + 1) ss F (declaredIn E F) d m
         ⊎ Stands h E D room (entry r after) (bundleAfter ss F) (bundleBounds E ss F (declaredIn E F)) d m
-        → At h E D room (bundle a ss r) F d m ⊎ StandsAt h E D room after (blockAfter E (bundle a ss r) F) d m
+        → At h E D room L (bundle a ss r) F d m ⊎ StandsAt h E D room after (blockAfter E L (bundle a ss r) F) d m
     unfolding walkRules.blockAfter
-    bundle-out a ss r F after d m l q (inl x) = inl (inr (inl x))
-    bundle-out a ss r F after d m l q (inr x) =
-        into (into (enter r (bundleAfter ss F) after d m l (x .0)
+    bundle-out a ss r F after d m l u q (inl x) = inl (inr (inl x))
+    bundle-out a ss r F after d m l u q (inr x) =
+        into (into (enter r (bundleAfter ss F) after d m l u (x .0)
         (redeclared T h E D room S (bundleAfter ss F) (bundleBounds E ss F (declaredIn E F)) m q (x .1))))
 
     -- ---- ifs
 
     module _ (a : ℕ) (c : Condition) (t e r : Block) (F : State FactSet) (after : ℕ) (l : Linked T h f (branch a c t e r) after)
-        (same : blockAfter E t (assumed F c) .rows ≡ blockAfter E e (assumed F (negatedOf c)) .rows) where
+        (q : blockFaults E L (branch a c t e r) F ≡ []) where
       abbrev thenState : State FactSet
-      thenState = blockAfter E t (assumed F c)
+      thenState = blockAfter E L t (assumed F c)
 
       abbrev elseState : State FactSet
-      elseState = blockAfter E e (assumed F (negatedOf c))
+      elseState = blockAfter E L e (assumed F (negatedOf c))
 
       -- Where the sides meet.
       join-out : (d : ℕ) (m : Memory) → StandsAt h E D room (entry r after) (sidesJoined E thenState elseState) d m
-          → At h E D room (branch a c t e r) F d m ⊎ StandsAt h E D room after (blockAfter E (branch a c t e r) F) d m
+          → At h E D room L (branch a c t e r) F d m ⊎ StandsAt h E D room after (blockAfter E L (branch a c t e r) F) d m
       unfolding walkRules.blockAfter
-      join-out d m x = into (into (into (enter r (sidesJoined E thenState elseState) after d m (l .4) (x .0) (x .1))))
+      join-out d m x = into (into (into (enter r (sidesJoined E thenState elseState) after d m (l .4) (joined-clear a c t e r F q) (x .0) (x .1))))
 
-      then-out : (d : ℕ) (m : Memory) → At h E D room t (assumed F c) d m ⊎ StandsAt h E D room (entry r after) thenState d m
-          → At h E D room (branch a c t e r) F d m ⊎ StandsAt h E D room after (blockAfter E (branch a c t e r) F) d m
+      then-out : (d : ℕ) (m : Memory) → At h E D room L t (assumed F c) d m ⊎ StandsAt h E D room (entry r after) thenState d m
+          → At h E D room L (branch a c t e r) F d m ⊎ StandsAt h E D room after (blockAfter E L (branch a c t e r) F) d m
       then-out d m (inl x) = inl (inr (inl x))
       then-out d m (inr x) =
           join-out d m (
@@ -203,13 +261,13 @@ module _ (T : List ℤ) (h : Sections) (E : Environment) (D : List ℕ) (room : 
                 (joined-left-holds (isPointer E) (thenState .facts) (elseState .facts) (value (m .values)) (x .1 .steady .range) (x .1 .facts)),
           )
 
-      else-out : (d : ℕ) (m : Memory) → At h E D room e (assumed F (negatedOf c)) d m ⊎ StandsAt h E D room (entry r after) elseState d m
-          → At h E D room (branch a c t e r) F d m ⊎ StandsAt h E D room after (blockAfter E (branch a c t e r) F) d m
+      else-out : (d : ℕ) (m : Memory) → At h E D room L e (assumed F (negatedOf c)) d m ⊎ StandsAt h E D room (entry r after) elseState d m
+          → At h E D room L (branch a c t e r) F d m ⊎ StandsAt h E D room after (blockAfter E L (branch a c t e r) F) d m
       else-out d m (inl x) = inl (inr (inr (inl x)))
       else-out d m (inr x) =
           join-out d m (
             x .0,
-            rw same
+            rw (sides-same a c t e r F q)
                 (with-facts h E D room elseState (record { facts = sidesJoined E thenState elseState .facts; rows = elseState .rows })
                 (declaredIn E elseState) m (x .1) refl
                 (joined-right-holds (isPointer E) (thenState .facts) (elseState .facts) (value (m .values)) (x .1 .steady .range) (x .1 .facts))),
@@ -217,67 +275,72 @@ module _ (T : List ℤ) (h : Sections) (E : Environment) (D : List ℕ) (room : 
 
       branch-head : (P : Point) → GoodOut F (memoryOf P) → (b : Bool) → conditionHolds (P .values) c ≡ b
           → Fine (Goal (branch a c t e r) F after (memoryOf P)) P (branched b P (successors a (entry t (entry r after)) (entry e (entry r after))))
-      branch-head P g true q =
+      branch-head P g true z =
           leads (entry t (entry r after)) (memoryOf P) (
             then-out (entry t (entry r after)) (memoryOf P)
-                (enter t (assumed F c) (entry r after) (entry t (entry r after)) (memoryOf P) (l .2) refl
+                (enter t (assumed F c) (entry r after) (entry t (entry r after)) (memoryOf P) (l .2) (then-clear a c t e r F q) refl
                 (with-facts h E D room F (assumed F c) (declaredIn E F) (memoryOf P) g refl
-                (condition-holds (F .facts) (P .values) (g .steady .range) (g .facts) c q))),
+                (condition-holds (F .facts) (P .values) (g .steady .range) (g .facts) c z))),
             λ z n. refl,
           )
-      branch-head P g false q =
+      branch-head P g false z =
           let typed = read-typed T h a (If c (size t) (size e)) (l .0) in
           leads (entry e (entry r after)) (memoryOf P) (
             else-out (entry e (entry r after)) (memoryOf P)
-                (enter e (assumed F (negatedOf c)) (entry r after) (entry e (entry r after)) (memoryOf P) (l .3) refl
+                (enter e (assumed F (negatedOf c)) (entry r after) (entry e (entry r after)) (memoryOf P) (l .3) (else-clear a c t e r F q) refl
                 (with-facts h E D room F (assumed F (negatedOf c)) (declaredIn E F) (memoryOf P) g refl
-                (negated-holds (F .facts) (P .values) (g .steady .range) (g .facts) c (typed .condition .relation) q))),
+                (negated-holds (F .facts) (P .values) (g .steady .range) (g .facts) c (typed .condition .relation) z))),
             λ z n. refl,
           )
 
     -- ---- whiles
 
     module _ (a : ℕ) (c : Condition) (t r : Block) (F : State FactSet) (after : ℕ) (l : Linked T h f (loop a c t r) after)
-        (same : F .rows ≡ blockAfter E t (assumed (atHead (assigned t) F) c) .rows) where
+        (q : blockFaults E L (loop a c t r) F ≡ []) where
       abbrev dropped : List ℕ
       dropped = assigned t
 
       abbrev head : State FactSet
-      head = atHead dropped F
+      head = atHead (entriesOf L a) dropped F
 
-      -- The end of the body makes the while due: all that the body changed was dropped at the head.
+      -- The end of the body makes the while due: all that the body changed was dropped at the head, and the entries are shown again.
       loop-out : (d : ℕ) (m : Memory) → Framed dropped (F .facts) m
-          → At h E D room t (assumed head c) d m ⊎ StandsAt h E D room a (blockAfter E t (assumed head c)) d m
-          → At h E D room (loop a c t r) F d m ⊎ StandsAt h E D room after (blockAfter E (loop a c t r) F) d m
+          → At h E D room L t (assumed head c) d m ⊎ StandsAt h E D room a (blockAfter E L t (assumed head c)) d m
+          → At h E D room L (loop a c t r) F d m ⊎ StandsAt h E D room after (blockAfter E L (loop a c t r) F) d m
       loop-out d m w (inl x) = inl (inl (w, inr x))
       loop-out d m w (inr x) =
+          let v = entries-true (entriesOf L a) (blockAfter E L t (assumed head c) .facts) (value (m .values)) (x .1 .facts) (entries-again a c t r F q) in
           inl (inl (
             w,
             inl (
-              x .0,
-              rw same (with-facts h E D room (blockAfter E t (assumed head c))
-                  (record { facts = head .facts; rows = blockAfter E t (assumed head c) .rows })
-                  (declaredIn E (blockAfter E t (assumed head c))) m (x .1) refl (framed-head dropped (F .facts) m w (x .1 .steady .range))),
+              (
+                x .0,
+                rw (ends-same a c t r F q) (with-facts h E D room (blockAfter E L t (assumed head c))
+                    (record { facts = head .facts; rows = blockAfter E L t (assumed head c) .rows })
+                    (declaredIn E (blockAfter E L t (assumed head c))) m (x .1) refl
+                    (framed-head (entriesOf L a) dropped (F .facts) m w (x .1 .steady .range) v)),
+              ),
+              v,
             ),
           ))
 
       loop-head : (P : Point) → Framed dropped (F .facts) (memoryOf P) → GoodOut head (memoryOf P) → (b : Bool) → conditionHolds (P .values) c ≡ b
           → Fine (Goal (loop a c t r) F after (memoryOf P)) P (branched b P (successors a (entry t a) (entry r after)))
       unfolding walkRules.blockAfter
-      loop-head P w g true q =
+      loop-head P w g true z =
           leads (entry t a) (memoryOf P) (
             loop-out (entry t a) (memoryOf P) w
-                (enter t (assumed head c) a (entry t a) (memoryOf P) (l .2) refl
+                (enter t (assumed head c) a (entry t a) (memoryOf P) (l .2) (body-clear a c t r F q) refl
                 (with-facts h E D room head (assumed head c) (declaredIn E F) (memoryOf P) g refl
-                (condition-holds (head .facts) (P .values) (g .steady .range) (g .facts) c q))),
+                (condition-holds (head .facts) (P .values) (g .steady .range) (g .facts) c z))),
             λ z n. refl,
           )
-      loop-head P w g false q =
+      loop-head P w g false z =
           let typed = read-typed T h a (While c (size t)) (l .0) in
           leads (entry r after) (memoryOf P) (
-            into (enter r (assumed head (negatedOf c)) after (entry r after) (memoryOf P) (l .3) refl
+            into (enter r (assumed head (negatedOf c)) after (entry r after) (memoryOf P) (l .3) (left-clear a c t r F q) refl
                 (with-facts h E D room head (assumed head (negatedOf c)) (declaredIn E F) (memoryOf P) g refl
-                (negated-holds (head .facts) (P .values) (g .steady .range) (g .facts) c (typed .condition .relation) q))),
+                (negated-holds (head .facts) (P .values) (g .steady .range) (g .facts) c (typed .condition .relation) z))),
             λ z n. refl,
           )
 
@@ -287,19 +350,8 @@ module _ (T : List ℤ) (h : Sections) (E : Environment) (D : List ℕ) (room : 
 
     -- ---- every block
 
-    -- 13 does not refuse: the sides of an if leave the same rows in force, and so do the head and the end of a body.
-    sides-same : (a : ℕ) (c : Condition) (t e r : Block) (F : State FactSet) → blockFaults E (branch a c t e r) F ≡ []
-        → blockAfter E t (assumed F c) .rows ≡ blockAfter E e (assumed F (negatedOf c)) .rows
-    unfolding walkRules.blockFaults
-    sides-same a c t e r F q = rows-passed a _ _ (no-first _ _ (no-rest _ _ (no-rest _ _ q)))
-
-    ends-same : (a : ℕ) (c : Condition) (t r : Block) (F : State FactSet) → blockFaults E (loop a c t r) F ≡ []
-        → F .rows ≡ blockAfter E t (assumed (atHead (assigned t) F) c) .rows
-    unfolding walkRules.blockFaults
-    ends-same a c t r F q = rows-passed a _ _ (no-first _ _ (no-rest _ _ q))
-
-    pub block-step : (b : Block) (F : State FactSet) (after : ℕ) (P : Point) → Linked T h f b after → blockFaults E b F ≡ []
-        → At h E D room b F (P .due) (memoryOf P)
+    pub block-step : (b : Block) (F : State FactSet) (after : ℕ) (P : Point) → Linked T h f b after → blockFaults E L b F ≡ []
+        → At h E D room L b F (P .due) (memoryOf P)
         → Fine (Goal b F after (memoryOf P)) P (step P)
     unfolding walkRules.blockFaults walkRules.blockAfter assigned statementStep
     block-step nil F after P l q i = absurd i
@@ -311,7 +363,7 @@ module _ (T : List ℤ) (h : Sections) (E : Environment) (D : List ℕ) (room : 
         (λ e.
         done-map
         (λ n w. (
-          into (enter r (stateAfter s F) after (entry r after) n (l .2) refl
+          into (enter r (stateAfter s F) after (entry r after) n (l .2) (no-rest _ _ (no-rest _ _ q)) refl
               (redeclared T h E D room S (stateAfter s F) (boundsAfter (effect E (F .facts) s) (declaredIn E F)) n shown (w .good))),
           λ z u. w .agree z (among-left z (target s) (assigned r) u),
         ))
@@ -321,49 +373,49 @@ module _ (T : List ℤ) (h : Sections) (E : Environment) (D : List ℕ) (room : 
         fine-map (λ d n w. (into (w .0), λ z u. w .1 z (among-right z (target s) (assigned r) u)))
         (block-step r (stateAfter s F) after P (l .2) (no-rest _ _ (no-rest _ _ q)) i)
     block-step (branch a c t e r) F after P l q (inl i) =
-        rw (step-at P a _ _ (i .0) (l .0) (l .1)) (branch-head a c t e r F after l (sides-same a c t e r F q) P (i .1) (conditionHolds (P .values) c) refl)
+        rw (step-at P a _ _ (i .0) (l .0) (l .1)) (branch-head a c t e r F after l q P (i .1) (conditionHolds (P .values) c) refl)
     block-step (branch a c t e r) F after P l q (inr (inl i)) =
         fine-map (λ d n w. (
-          then-out a c t e r F after l (sides-same a c t e r F q) d n (w .0),
+          then-out a c t e r F after l q d n (w .0),
           λ z u. w .1 z (among-left z (assigned t) (assigned e ++ assigned r) u),
         ))
-        (block-step t (assumed F c) (entry r after) P (l .2) (no-first _ _ q) i)
+        (block-step t (assumed F c) (entry r after) P (l .2) (then-clear a c t e r F q) i)
     block-step (branch a c t e r) F after P l q (inr (inr (inl i))) =
         fine-map
         (λ d n w. (
-          else-out a c t e r F after l (sides-same a c t e r F q) d n (w .0),
+          else-out a c t e r F after l q d n (w .0),
           λ z u. w .1 z (among-left z (assigned e) (assigned r) (among-right z (assigned t) (assigned e ++ assigned r) u)),
         ))
-        (block-step e (assumed F (negatedOf c)) (entry r after) P (l .3) (no-first _ _ (no-rest _ _ q)) i)
+        (block-step e (assumed F (negatedOf c)) (entry r after) P (l .3) (else-clear a c t e r F q) i)
     block-step (branch a c t e r) F after P l q (inr (inr (inr i))) =
         fine-map
         (λ d n w.
         (into (into (into (w .0))), λ z u. w .1 z (among-right z (assigned e) (assigned r) (among-right z (assigned t) (assigned e ++ assigned r) u))))
-        (block-step r (sidesJoined E (blockAfter E t (assumed F c)) (blockAfter E e (assumed F (negatedOf c)))) after P (l .4)
-        (no-rest _ _ (no-rest _ _ (no-rest _ _ q))) i)
+        (block-step r (sidesJoined E (blockAfter E L t (assumed F c)) (blockAfter E L e (assumed F (negatedOf c)))) after P (l .4)
+        (joined-clear a c t e r F q) i)
     block-step (loop a c t r) F after P l q (inl (w, inl i)) =
-        rw (step-at P a _ _ (i .0) (l .0) (l .1)) (loop-head a c t r F after l (ends-same a c t r F q) P w (i .1) (conditionHolds (P .values) c) refl)
+        rw (step-at P a _ _ (i .0 .0) (l .0) (l .1)) (loop-head a c t r F after l q P w (i .0 .1) (conditionHolds (P .values) c) refl)
     block-step (loop a c t r) F after P l q (inl (w, inr i)) =
         fine-map
         (λ d n x. (
-          loop-out a c t r F after l (ends-same a c t r F q) d n (framed-step a c t r F after l (ends-same a c t r F q) (memoryOf P) n w (x .1)) (x .0),
+          loop-out a c t r F after l q d n (framed-step a c t r F after l q (memoryOf P) n w (x .1)) (x .0),
           λ z u. x .1 z (among-left z (assigned t) (assigned r) u),
         ))
-        (block-step t (assumed (atHead (assigned t) F) c) a P (l .2) (no-first _ _ q) i)
+        (block-step t (assumed (headState h E D room L a t F) c) a P (l .2) (body-clear a c t r F q) i)
     block-step (loop a c t r) F after P l q (inr i) =
         fine-map (λ d n w. (into (w .0), λ z u. w .1 z (among-right z (assigned t) (assigned r) u)))
-        (block-step r (assumed (atHead (assigned t) F) (negatedOf c)) after P (l .3) (no-rest _ _ (no-rest _ _ q)) i)
+        (block-step r (assumed (headState h E D room L a t F) (negatedOf c)) after P (l .3) (left-clear a c t r F q) i)
     block-step (bundle a ss r) F after P l q (inl i) =
         let next = lead (a + 1) (length ss) (entry r after) in
         let shown = bounds-passed a _ (no-first _ _ (no-rest _ _ q)) in
         rw (step-at P a _ _ (i .0) (l .0) (l .1))
         (leads next (memoryOf P) (
-          bundle-out a ss r F after next (memoryOf P) (l .3) shown (enter-line (a + 1) ss F (declaredIn E F) (entry r after) next (memoryOf P) refl (i .1)),
+          bundle-out a ss r F after next (memoryOf P) (l .3) (no-rest _ _ (no-rest _ _ q)) shown (enter-line (a + 1) ss F (declaredIn E F) (entry r after) next (memoryOf P) refl (i .1)),
           λ z u. refl,
         ))
     block-step (bundle a ss r) F after P l q (inr (inl i)) =
         let shown = bounds-passed a _ (no-first _ _ (no-rest _ _ q)) in
-        fine-map (λ d n w. (bundle-out a ss r F after d n (l .3) shown (w .0), λ z u. w .1 z (among-left z (targets ss) (assigned r) u)))
+        fine-map (λ d n w. (bundle-out a ss r F after d n (l .3) (no-rest _ _ (no-rest _ _ q)) shown (w .0), λ z u. w .1 z (among-left z (targets ss) (assigned r) u)))
         (line-step (a + 1) ss F (declaredIn E F) (entry r after) P (l .2) (no-first _ _ q) i)
     block-step (bundle a ss r) F after P l q (inr (inr i)) =
         fine-map (λ d n w. (into (into (w .0)), λ z u. w .1 z (among-right z (targets ss) (assigned r) u)))

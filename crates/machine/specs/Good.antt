@@ -14,11 +14,10 @@ use Rattle.sums.specs.Numbers.{bias, maxValue}
 use Rattle.chains.specs.Sound.{InRange, Holds, Except}
 use Rattle.facts.specs.declared.FactSet.{FactSet}
 use Rattle.words.specs.declared.sections.Sections.{Sections}
-use Rattle.blocks.specs.Tree.{tree}
 use Rattle.blocks.specs.Layout.{layout}
 use Rattle.rules.specs.BoundsRules.{isPointer, declared, known, inForce, isString, upperLimit}
 use Rattle.rules.specs.FactSets.{State}
-use Rattle.rules.specs.Stored.{boundsShown, blockFaults, effectOn, boundsAfter, newState, unshownIn, declaredIn}
+use Rattle.rules.specs.Stored.{boundsShown, effectOn, boundsAfter, unshownIn, declaredIn}
 use Rattle.rules.specs.BoundsTrue.{BoundsHold, known-after, all-shown, shown-holds, ProperEnd}
 use Rattle.rules.specs.EnvironmentLaws.{Declares, DeclaredEnds, Named}
 use Rattle.rules.specs.declared.Bounds.{Bounds}
@@ -28,11 +27,10 @@ use Rattle.machine.specs.Machine.{value, low, high, Memory}
 use Rattle.machine.specs.Points.{LastZero}
 use Rattle.machine.specs.Soundness.{Placed, Apart}
 
--- What stays the same in a run of an accepted routine: the table is laid out and its walk has no fault, the environment is the table's, and each object
--- is placed in a memory of `room` cells.
+-- What stays the same in a run of an accepted routine: the table is laid out, the environment is the table's, and each object is placed in a memory of `room`
+-- cells.
 pub record Setting (T : List ℤ) (h : Sections) (E : Environment) (D : List ℕ) (room : ℕ) : Type 0 where
   pub laid : layout T h ≡ []
-  pub walked : blockFaults E (tree T h) newState ≡ []
   pub declares : Declares T h E
   pub pairs : length D ≡ 2 * h .objects
   pub placed : (o : ℕ) → o < h .objects → Placed E D room o

@@ -9,7 +9,7 @@ pub mod AccessSound
 pub mod SimpleSound
 pub mod PerformedSound
 pub mod Places
-pub mod NeverDue
+pub mod Before
 pub mod BlockSound
 pub mod Standing
 pub mod EntrySound

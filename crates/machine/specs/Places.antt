@@ -19,6 +19,8 @@ use Rattle.blocks.specs.Shape.{size, ReadsLine, Reads, RightLine, Right}
 use Rattle.rules.specs.FactSets.{State}
 use Rattle.rules.specs.Stored.{effect, sidesJoined, boundsAfter, stateAfter, assumed, atHead, declaredIn, bundleAfter, blockAfter}
 use Rattle.rules.specs.FactsTrue.{Agree}
+use Rattle.listed.specs.Entries.{entriesOf}
+use Rattle.rules.specs.ListedLaws.{EntriesTrue}
 use Rattle.rules.specs.declared.Bounds.{Bounds}
 use Rattle.rules.specs.declared.Environment.{Environment}
 use Rattle.machine.specs.Machine.{value, Memory}
@@ -83,17 +85,26 @@ module _ (h : Sections) (E : Environment) (D : List ℕ) (room : ℕ) where
   abbrev pub StandsAt : ℕ → State FactSet → ℕ → Memory → Type 0
   StandsAt a F d m = Stands a F (declaredIn E F) d m
 
+-- Beside the list L of loop facts (point 9).
+module _ (h : Sections) (E : Environment) (D : List ℕ) (room : ℕ) (L : List ℤ) where
+  -- The state at the head of a loop, and the test of a loop: its entries are true there.
+  abbrev pub headState : ℕ → Block → State FactSet → State FactSet
+  headState a t F = atHead (entriesOf L a) (assigned t) F
+
+  abbrev pub Tests : ℕ → Block → State FactSet → ℕ → Memory → Type 0
+  Tests a t F d m = StandsAt h E D room a (headState a t F) d m × EntriesTrue (entriesOf L a) (value (m .values))
+
   -- At a statement of the block, which was entered with the facts and rows F.
   abbrev pub At : Block → State FactSet → ℕ → Memory → Type 0
   At nil F d m = ⊥
-  At (plain a s r) F d m = StandsAt a F d m ⊎ At r (stateAfter s F) d m
+  At (plain a s r) F d m = StandsAt h E D room a F d m ⊎ At r (stateAfter s F) d m
   At (branch a c t e r) F d m =
-      StandsAt a F d m
+      StandsAt h E D room a F d m
       ⊎ (At t (assumed F c) d m
       ⊎ (At e (assumed F (negatedOf c)) d m
-      ⊎ At r (sidesJoined E (blockAfter E t (assumed F c)) (blockAfter E e (assumed F (negatedOf c)))) d m))
+      ⊎ At r (sidesJoined E (blockAfter E L t (assumed F c)) (blockAfter E L e (assumed F (negatedOf c)))) d m))
   At (loop a c t r) F d m =
-      (Framed (assigned t) (F .facts) m × (StandsAt a (atHead (assigned t) F) d m ⊎ At t (assumed (atHead (assigned t) F) c) d m))
-      ⊎ At r (assumed (atHead (assigned t) F) (negatedOf c)) d m
-  At (bundle a ss r) F d m = StandsAt a F d m ⊎ (AtLine (a + 1) ss F (declaredIn E F) d m ⊎ At r (bundleAfter ss F) d m)
+      (Framed (assigned t) (F .facts) m × (Tests a t F d m ⊎ At t (assumed (headState a t F) c) d m))
+      ⊎ At r (assumed (headState a t F) (negatedOf c)) d m
+  At (bundle a ss r) F d m = StandsAt h E D room a F d m ⊎ (AtLine h E D room (a + 1) ss F (declaredIn E F) d m ⊎ At r (bundleAfter ss F) d m)
   At (unread a) F d m = ⊥

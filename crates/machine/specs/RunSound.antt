@@ -15,6 +15,10 @@ use Rattle.facts.specs.declared.FactSet.{FactSet}
 use Rattle.chains.specs.Facts.{Variables, Contradiction}
 use Rattle.chains.specs.History.{known}
 use Rattle.chains.specs.HistoryLaws.{contradicts-exactly}
+use Rattle.chains.specs.Sound.{Holds}
+use Rattle.words.specs.Typed.{IsIndex, missing, given}
+use Rattle.conditions.specs.declared.Condition.{Condition}
+use Rattle.statements.specs.Typed.{SimpleTyped}
 use Rattle.words.specs.declared.sections.Sections.{Sections}
 use Rattle.statements.specs.Statements.{statementAt}
 use Rattle.statements.specs.StatementLaws.{read-typed, read-within}
@@ -35,7 +39,10 @@ use Rattle.rules.specs.FactsTrue.{Agree}
 use Rattle.rules.specs.FactSets.{State}
 use Rattle.rules.specs.BoundsRules.{isPointer, declared, ownRows, inForce}
 use Rattle.rules.specs.EnvironmentLaws.{Declares, environment-declares, Named}
-use Rattle.rules.specs.Stored.{store, faults, newState, declaredIn, blockAfter}
+use Rattle.rules.specs.Stored.{store, faults, newState, declaredIn, safeIn, accessSafe, blockAfter, blockFaults}
+use Rattle.rules.specs.ListedLaws.{EntriesTrue, entries-right}
+use Rattle.listed.specs.Entries.{entriesOf}
+use Rattle.rules.specs.BoundsRules as boundsRules
 use Rattle.rules.specs.StateBefore.{stateBefore}
 use Rattle.rules.specs.BeforeLaws.{before-represented}
 use Rattle.rules.specs.StateRepresentation.{new-represented}
@@ -48,22 +55,22 @@ use Rattle.machine.specs.Machine.{Point, memoryOf, statementStep, succes
 use Rattle.machine.specs.Points.{inBundle, simpleAccess, unlessFailing, statementAccess, accessIf, accessFrom, LastZero}
 use Rattle.machine.specs.Soundness.{AccessRight, AccessAllowed, Begun, Sound}
 use Rattle.machine.specs.Good.{Setting, Steady, Good, declared-true}
-use Rattle.machine.specs.AccessSound.{Inside, Ready, inside-origin, access-inside}
+use Rattle.machine.specs.AccessSound.{Inside, Ready, inside-origin, access-inside, safe-load, safe-store}
 use Rattle.machine.specs.Places.{Linked, linked, At, StandsAt, Stands}
 use Rattle.machine.specs.BlockSound.{Fine, leads, stops, enter, block-step}
 use Rattle.machine.specs.Standing.{Standing, standing}
-use Rattle.machine.specs.NeverDue.{consistent}
+use Rattle.machine.specs.Before.{Before, before-due}
 use Rattle.machine.specs.EntrySound.{true-test, begun-good}
 use Rattle.rules.specs.Rules as walkRules
 
-module _ (T : List ℤ) (h : Sections) (E : Environment) (D : List ℕ) (room : ℕ) where
+module _ (T : List ℤ) (h : Sections) (E : Environment) (D : List ℕ) (room : ℕ) (L : List ℤ) where
   -- What the proof carries from point to point: the place in the tree with its facts and bounds, or the end of the table.
   pub record Invariant (P : Point) : Type 0 where
     pub has-step : P .status ≢ stuck
-    pub place : At h E D room (tree T h) newState (P .due) (memoryOf P)
-        ⊎ StandsAt h E D room (h .statements) (blockAfter E (tree T h) newState) (P .due) (memoryOf P)
+    pub place : At h E D room L (tree T h) newState (P .due) (memoryOf P)
+        ⊎ StandsAt h E D room (h .statements) (blockAfter E L (tree T h) newState) (P .due) (memoryOf P)
 
-  module _ (S : Setting T h E D room) where
+  module _ (S : Setting T h E D room) (walked : blockFaults E L (tree T h) newState ≡ []) where
     links : Linked T h (successorsOf T h E D) (tree T h) (h .statements)
     links =
         let l = table-laid T h (S .laid) in
@@ -73,7 +80,7 @@ module _ (T : List ℤ) (h : Sections) (E : Environment) (D : List ℕ) (room : 
 
     abbrev Next : Memory → ℕ → Memory → Type 0
     Next m d n =
-        (At h E D room (tree T h) newState d n ⊎ StandsAt h E D room (h .statements) (blockAfter E (tree T h) newState) d n)
+        (At h E D room L (tree T h) newState d n ⊎ StandsAt h E D room (h .statements) (blockAfter E L (tree T h) newState) d n)
         × Agree (assigned (tree T h)) (value (m .values)) (value (n .values))
 
     fine-kept : (P Q : Point) → Invariant P → Fine (Next (memoryOf P)) P Q → Invariant Q
@@ -84,10 +91,10 @@ module _ (T : List ℤ) (h : Sections) (E : Environment) (D : List ℕ) (room : 
     due-kept P i false q = i
     due-kept P i true q = go (i .place)
       where
-        go : At h E D room (tree T h) newState (P .due) (memoryOf P)
-            ⊎ StandsAt h E D room (h .statements) (blockAfter E (tree T h) newState) (P .due) (memoryOf P)
+        go : At h E D room L (tree T h) newState (P .due) (memoryOf P)
+            ⊎ StandsAt h E D room (h .statements) (blockAfter E L (tree T h) newState) (P .due) (memoryOf P)
             → Invariant (statementStep E D (statementAt T h (P .due)) (successorsOf T h E D (P .due)) P)
-        go (inl x) = fine-kept P _ i (block-step T h E D room S (successorsOf T h E D) (tree T h) newState (h .statements) P links (S .walked) x)
+        go (inl x) = fine-kept P _ i (block-step T h E D room S (successorsOf T h E D) L (tree T h) newState (h .statements) P links walked x)
         go (inr x) = absurd (omega (arith, ltb-true (P .due) (h .statements) q, x .0))
 
     pub next-kept : (P : Point) (s : Status) → Invariant P → Invariant (nextPoint T h E D s P)
@@ -108,23 +115,23 @@ module _ (T : List ℤ) (h : Sections) (E : Environment) (D : List ℕ) (room : 
     start-kept cs vs os g =
         record {
           has-step = λ e. let z : _≡_ {A = ℕ} 0 1 = cc in omega arith;
-          place = enter T h E D room S (successorsOf T h E D) (tree T h) newState (h .statements) _
-              (record { cells = cs; values = vs; origins = os; rows = ownRows }) links refl g;
+          place = enter T h E D room S (successorsOf T h E D) L (tree T h) newState (h .statements) _
+              (record { cells = cs; values = vs; origins = os; rows = ownRows }) links walked refl g;
         }
 
     -- ---- what the invariant says
 
     abbrev Somewhere : Point → Type 0
-    Somewhere P = Standing T h E D room (tree T h) (P .due) (memoryOf P)
-        ⊎ ((P .due ≡ h .statements) × Good h E D room (blockAfter E (tree T h) newState) (declaredIn E (blockAfter E (tree T h) newState)) (memoryOf P))
+    Somewhere P = Standing T h E D room L (tree T h) (P .due) (memoryOf P)
+        ⊎ ((P .due ≡ h .statements) × Good h E D room (blockAfter E L (tree T h) newState) (declaredIn E (blockAfter E L (tree T h) newState)) (memoryOf P))
 
     somewhere : (P : Point) → Invariant P → Somewhere P
     somewhere P i = go (i .place)
       where
-        go : At h E D room (tree T h) newState (P .due) (memoryOf P)
-            ⊎ StandsAt h E D room (h .statements) (blockAfter E (tree T h) newState) (P .due) (memoryOf P)
+        go : At h E D room L (tree T h) newState (P .due) (memoryOf P)
+            ⊎ StandsAt h E D room (h .statements) (blockAfter E L (tree T h) newState) (P .due) (memoryOf P)
             → Somewhere P
-        go (inl x) = inl (standing T h E D room S (successorsOf T h E D) (tree T h) newState (h .statements) (P .due) (memoryOf P) links (S .walked) x)
+        go (inl x) = inl (standing T h E D room L S (successorsOf T h E D) (tree T h) newState (h .statements) (P .due) (memoryOf P) links walked x)
         go (inr x) = inr x
 
     steady-of : (P : Point) → Somewhere P → Steady h room (memoryOf P)
@@ -147,7 +154,7 @@ module _ (T : List ℤ) (h : Sections) (E : Environment) (D : List ℕ) (room : 
     bounds-of : (P : Point) → Somewhere P → inBundle (tree T h) (P .due) ≡ false → (p : ℕ) → isPointer E p ≡ true
         → boundsTrue (inForce E (P .rows)) D (P .values) (P .origins) p ≡ true
     bounds-of P (inl w) e p t = bounds-at (w .state) (memoryOf P) p t (w .declared e)
-    bounds-of P (inr w) e p t = bounds-at (blockAfter E (tree T h) newState) (memoryOf P) p t (w .1)
+    bounds-of P (inr w) e p t = bounds-at (blockAfter E L (tree T h) newState) (memoryOf P) p t (w .1)
 
     -- The access of a statement that is due, where no check fails.
     access-right : (m : Memory) (origin a : ℕ) → Steady h room m → Inside D (h .objects) origin a → AccessRight D (length (m .cells)) a origin
@@ -212,7 +219,62 @@ module _ (T : List ℤ) (h : Sections) (E : Environment) (D : List ℕ) (room : 
     from-allowed P (stopped n) i = tt
     from-allowed P stuck i = tt
 
-    pub invariant-sound : (P : Point) → Invariant P → Sound T h E D room P
+    -- ---- point 9
+
+    listed-of : (P : Point) → Somewhere P → (c : Condition) (n : ℕ) → statementAt T h (P .due) ≡ Read (While c n)
+        → EntriesTrue (entriesOf L (P .due)) (value (P .values))
+    listed-of P (inl w) c n e = w .listed c n e
+    listed-of P (inr w) c n e = absurd (omega (arith, w .0, read-within T h (P .due) (While c n) e))
+
+    before-of : (P : Point) → Invariant P → P .due < h .statements → Before T h E D room L (stateBefore store E L (tree T h) newState (P .due)) (P .due) (memoryOf P)
+    before-of P i l = go (i .place)
+      where
+        go : At h E D room L (tree T h) newState (P .due) (memoryOf P)
+            ⊎ StandsAt h E D room (h .statements) (blockAfter E L (tree T h) newState) (P .due) (memoryOf P)
+            → Before T h E D room L (stateBefore store E L (tree T h) newState (P .due)) (P .due) (memoryOf P)
+        go (inl x) =
+            let t = table-laid T h (S .laid) in
+            before-due T h E D room L (tree T h) 0 newState (P .due) (memoryOf P) (t .numbered) (t .reads) x
+        go (inr x) = absurd (omega (arith, x .0))
+
+    index-below : (i : ℕ) → IsIndex T h i → i < 17
+    index-below i (missing e) = omega arith
+    index-below i (given g) = omega (arith, g .below, S .declares .few)
+
+    -- An access that is shown safe fails no check.
+    simple-safe : (s : Simple) (m : Memory) (f : FactSet) → SimpleTyped T h s → Steady h room m → Named h (m .rows) → Holds f (value (m .values))
+        → accessSafe (inForce E (m .rows)) f s ≡ true → failing (inForce E (m .rows)) (m .values) s ≡ none
+    unfolding boundsRules.accessSafe failing
+    simple-safe (Literal x k) m f y w n g e = absurd (false≢true e)
+    simple-safe (AddConstant x q k) m f y w n g e = absurd (false≢true e)
+    simple-safe (Arithmetic x q z op) m f y w n g e = absurd (false≢true e)
+    simple-safe (Null p) m f y w n g e = absurd (false≢true e)
+    simple-safe (Address p o) m f y w n g e = absurd (false≢true e)
+    simple-safe (PointerOffset p q k) m f y w n g e = absurd (false≢true e)
+    simple-safe (PointerIndex p q i) m f y w n g e = absurd (false≢true e)
+    simple-safe (Load x p i k) m f y w n g e =
+        safe-load (inForce E (m .rows)) D (h .objects) m p (S .declares .ends (m .rows) n p (S .declares .pointer p (y .pointer))) f i k g (w .range)
+        (omega (arith, y .pointer .below, S .declares .few)) (index-below i (y .index)) e
+    simple-safe (Store p i k x) m f y w n g e =
+        safe-store (inForce E (m .rows)) D (h .objects) m p (S .declares .ends (m .rows) n p (S .declares .pointer p (y .pointer))) f i k _ g (w .range)
+        (omega (arith, y .pointer .below, S .declares .few)) (index-below i (y .index)) e
+    simple-safe (Check c) m f y w n g e = absurd (false≢true e)
+    simple-safe (Declare p r) m f y w n g e = absurd (false≢true e)
+
+    named-of : (P : Point) → Somewhere P → Named h (P .rows)
+    named-of P (inl w) = rw (w .good .rows) (w .good .named)
+    named-of P (inr w) = rw (w .1 .rows) (w .1 .named)
+
+    safe-of : (P : Point) → Invariant P → (s : Simple) → statementAt T h (P .due) ≡ Read (Plain s)
+        → safeIn E (stateBefore store E L (tree T h) newState (P .due)) s ≡ true → failing (inForce E (P .rows)) (P .values) s ≡ none
+    safe-of P i s r e =
+        let w = somewhere P i in
+        let b = before-of P i (read-within T h (P .due) (Plain s) r) in
+        let q = b .rows s r in
+        simple-safe s (memoryOf P) (stateBefore store E L (tree T h) newState (P .due) .facts) (read-typed T h (P .due) (Plain s) r) (steady-of P w) (named-of P w)
+        (b .facts s r) (rw q e)
+
+    pub invariant-sound : (P : Point) → Invariant P → Sound T h E D room L P
     invariant-sound P i =
         let w = somewhere P i in
         let s = steady-of P w in
@@ -221,6 +283,8 @@ module _ (T : List ℤ) (h : Sections) (E : Environment) (D : List ℕ) (room : 
           bounds = bounds-of P w;
           access-allowed = from-allowed P (P .status) i;
           last-zero = last-of P w;
+          listed = listed-of P w;
+          safe = safe-of P i;
           due-within = due-of P w;
           cells-long = s .cells-long;
           values-long = s .values-long;
@@ -231,22 +295,21 @@ module _ (T : List ℤ) (h : Sections) (E : Environment) (D : List ℕ) (room : 
         }
 
     -- A run that goes on from any point where the invariant holds.
-    pub sound-from : (t : ℕ) (P : Point) → Invariant P → Sound T h E D room (pointAfter T h E D t P)
+    pub sound-from : (t : ℕ) (P : Point) → Invariant P → Sound T h E D room L (pointAfter T h E D t P)
     sound-from t P i = invariant-sound (pointAfter T h E D t P) (point-kept t P i)
 
 -- ---- the theorem
 
-module _ (T : List ℤ) (h : Sections) (formed : formOf T ≡ WellFormed h) (accepts : faults T ≡ []) (D cs vs os : List ℕ)
+module _ (T : List ℤ) (h : Sections) (L : List ℤ) (formed : formOf T ≡ WellFormed h) (accepts : faults T L ≡ []) (D cs vs os : List ℕ)
     (begun : Begun h (environmentOf T h) D cs vs os) where
   declares : Declares T h (environmentOf T h)
   declares = environment-declares T h (well-formed T h formed)
 
   pub begun-setting : Setting T h (environmentOf T h) D (length cs)
   begun-setting =
-      let a = clear T h formed accepts in
+      let a = clear T h L formed accepts in
       record {
         laid = a .laid;
-        walked = a .walked;
         declares = declares;
         pairs = begun .pairs;
         placed = begun .placed;
@@ -254,13 +317,16 @@ module _ (T : List ℤ) (h : Sections) (formed : formOf T ≡ WellFormed h) (acc
         memory = begun .memory;
       }
 
+  pub begun-walked : blockFaults (environmentOf T h) L (tree T h) newState ≡ []
+  begun-walked = clear T h L formed accepts .walked
+
   -- The invariant holds at the start.
-  pub begun-invariant : Invariant T h (environmentOf T h) D (length cs) (start T h (environmentOf T h) D cs vs os)
-  begun-invariant = start-kept T h (environmentOf T h) D (length cs) begun-setting cs vs os (begun-good T h (environmentOf T h) D cs vs os declares begun)
+  pub begun-invariant : Invariant T h (environmentOf T h) D (length cs) L (start T h (environmentOf T h) D cs vs os)
+  begun-invariant = start-kept T h (environmentOf T h) D (length cs) L begun-setting begun-walked cs vs os (begun-good T h (environmentOf T h) D cs vs os declares begun)
 
   -- Of a table that the checker accepts and a run that is begun, the claim holds at every point: after any number t of steps.
-  pub sound : (t : ℕ) → Sound T h (environmentOf T h) D (length cs) (pointAfter T h (environmentOf T h) D t (start T h (environmentOf T h) D cs vs os))
-  sound t = sound-from T h (environmentOf T h) D (length cs) begun-setting t (start T h (environmentOf T h) D cs vs os) begun-invariant
+  pub sound : (t : ℕ) → Sound T h (environmentOf T h) D (length cs) L (pointAfter T h (environmentOf T h) D t (start T h (environmentOf T h) D cs vs os))
+  sound t = sound-from T h (environmentOf T h) D (length cs) L begun-setting begun-walked t (start T h (environmentOf T h) D cs vs os) begun-invariant
 
   abbrev E : Environment
   E = environmentOf T h
@@ -269,26 +335,21 @@ module _ (T : List ℤ) (h : Sections) (formed : formOf T ≡ WellFormed h) (acc
   point t = pointAfter T h E D t (start T h E D cs vs os)
 
   -- The facts before a statement that is due do not contradict, by the store.
-  due-consistent : (t : ℕ) → point t .due < h .statements → contradictory (stateBefore store E (tree T h) newState (point t .due) .facts) ≡ false
-  due-consistent t l = go (point-kept T h E D (length cs) begun-setting t (start T h E D cs vs os) begun-invariant .place)
-    where
-      go : At h E D (length cs) (tree T h) newState (point t .due) (memoryOf (point t))
-          ⊎ Stands h E D (length cs) (h .statements) (blockAfter E (tree T h) newState) (declaredIn E (blockAfter E (tree T h) newState))
-          (point t .due) (memoryOf (point t))
-          → contradictory (stateBefore store E (tree T h) newState (point t .due) .facts) ≡ false
-      go (inl x) = consistent h E D (length cs) (tree T h) 0 newState (point t .due) (memoryOf (point t)) (table-laid T h (begun-setting .laid) .numbered) x
-      go (inr x) = absurd (omega (arith, x .0))
+  due-consistent : (t : ℕ) → point t .due < h .statements → contradictory (stateBefore store E L (tree T h) newState (point t .due) .facts) ≡ false
+  due-consistent t l =
+      before-of T h E D (length cs) L begun-setting begun-walked (point t)
+      (point-kept T h E D (length cs) L begun-setting begun-walked t (start T h E D cs vs os) begun-invariant) l .consistent
 
   abbrev vars : Variables
   vars = variables T h (well-formed T h formed .limits)
 
   -- A statement whose facts contradict is never due, by the paper's chains. (Point 11 walks it like any other, and no run comes to it.)
   pub never-due : (d : Decider) → DecidesTable T d → (t : ℕ) → point t .due < h .statements
-      → Contradiction (known vars (stateBefore (byChains d) E (tree T h) (walkRules.newState (byChains d)) (point t .due) .facts)) → ⊥
+      → Contradiction (known vars (stateBefore (byChains d) E L (tree T h) (walkRules.newState (byChains d)) (point t .due) .facts)) → ⊥
   never-due d decides t l c =
       let w = well-formed T h formed .limits in
-      let r = before-represented T h w d (decides h w formed) (tree T h) (point t .due) (table-laid T h (begun-setting .laid) .reads)
+      let r = before-represented T h w L (entries-right T h w L (clear T h L formed accepts .listed)) d (decides h w formed) (tree T h) (point t .due) (table-laid T h (begun-setting .laid) .reads)
       (new-represented vars d) in
-      let m = contradicts-exactly vars (stateBefore (byChains d) E (tree T h) (walkRules.newState (byChains d)) (point t .due) .facts)
+      let m = contradicts-exactly vars (stateBefore (byChains d) E L (tree T h) (walkRules.newState (byChains d)) (point t .due) .facts)
       (r .represents .legal) .1 c in
       false≢true (sym (due-consistent t l) ∙ (ap (λ (f : FactSet). f .contradiction) (sym (r .represents .same)) ∙ m))

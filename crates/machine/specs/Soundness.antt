@@ -9,9 +9,18 @@ use lib.ListN.{length, getD}
 use Rattle.sums.specs.Numbers.{bias, maxValue}
 use Rattle.words.specs.declared.sections.Sections.{Sections}
 use Rattle.blocks.specs.Tree.{tree}
+use Rattle.conditions.specs.declared.Condition.{Condition}
+use Rattle.statements.specs.Statements.{statementAt}
+use Rattle.statements.specs.declared.Simple.{Simple}
+use Rattle.statements.specs.declared.Statement.the-variants.{Plain, While}
+use Rattle.statements.specs.declared.StatementRead.the-variants.{Read}
+use Rattle.listed.specs.Entries.{entriesOf}
+use Rattle.rules.specs.ListedLaws.{EntriesTrue}
+use Rattle.rules.specs.Stored.{store, newState, safeIn}
+use Rattle.rules.specs.StateBefore.{stateBefore}
 use Rattle.rules.specs.BoundsRules.{isPointer, objectLength, inForce}
 use Rattle.rules.specs.declared.Environment.{Environment}
-use Rattle.machine.specs.Machine.{low, high, boundsTrue, inOrigin, stuck, Point}
+use Rattle.machine.specs.Machine.{value, low, high, boundsTrue, inOrigin, none, failing, stuck, Point}
 use Rattle.machine.specs.Points.{inBundle, Access, no-access, access, accessFrom, LastZero}
 
 -- ---- where a run is begun
@@ -54,7 +63,7 @@ AccessAllowed D n no-access = Unit {0}
 AccessAllowed D n (access a origin) = AccessRight D n a origin
 
 -- The claim for a point P of a run that was begun in a memory of `room` cells. (That no cell outside the objects is touched is the frame law.)
-pub record Sound (T : List ℤ) (h : Sections) (E : Environment) (D : List ℕ) (room : ℕ) (P : Point) : Type 0 where
+pub record Sound (T : List ℤ) (h : Sections) (E : Environment) (D : List ℕ) (room : ℕ) (L : List ℤ) (P : Point) : Type 0 where
   -- The machine is not without a step: no access that the checks let pass is outside its pointer's origin object.
   pub has-step : P .status ≢ stuck
   -- Outside bundles the declared bounds of every pointer are true; also where nothing is due, and where a check has stopped the run.
@@ -63,6 +72,11 @@ pub record Sound (T : List ℤ) (h : Sections) (E : Environment) (D : List ℕ) 
   pub access-allowed : AccessAllowed D (length (P .cells)) (accessFrom T h E (P .status) P)
   -- Point 7: "At every point of a run the last cell of each terminated object is 0."
   pub last-zero : LastZero E D (h .objects) (P .cells)
+  -- Point 9: each entry means "x <= y + k at every test", where its while is due.
+  pub listed : (c : Condition) (n : ℕ) → statementAt T h (P .due) ≡ Read (While c n) → EntriesTrue (entriesOf L (P .due)) (value (P .values))
+  -- Point 9: an access that is shown safe fails no check.
+  pub safe : (s : Simple) → statementAt T h (P .due) ≡ Read (Plain s) → safeIn E (stateBefore store E L (tree T h) newState (P .due)) s ≡ true
+      → failing (inForce E (P .rows)) (P .values) s ≡ none
   -- The statement due is one of the table, or the number past the last.
   pub due-within : P .due ≤ h .statements
   pub cells-long : length (P .cells) ≡ room

@@ -26,12 +26,15 @@ use Rattle.rules.specs.FactSets.{State}
 use Rattle.rules.specs.Stored.{effect, bundleFaults, sidesJoined, blockFaults, boundsAfter}
 use Rattle.rules.specs.Stored.{stateAfter, assumed, atHead, accessIn, declaredIn, bundleAfter, blockAfter}
 use Rattle.rules.specs.FactsTrue.{neither}
+use Rattle.rules.specs.ListedLaws.{EntriesTrue}
+use Rattle.listed.specs.Entries.{entriesOf}
+use Rattle.conditions.specs.declared.Condition.{Condition}
 use Rattle.rules.specs.BoundsRules.{inForce}
 use Rattle.blocks.specs.LayoutLaws.{no-first, no-rest}
 use Rattle.rules.specs.RuleLaws.{access-passed}
 use Rattle.rules.specs.declared.Bounds.{Bounds}
 use Rattle.rules.specs.declared.Environment.{Environment}
-use Rattle.machine.specs.Machine.{Memory}
+use Rattle.machine.specs.Machine.{Memory, value}
 use Rattle.machine.specs.Points.{inBundle}
 use Rattle.machine.specs.Good.{Setting, Good}
 use Rattle.machine.specs.AccessSound.{Ready}
@@ -39,7 +42,7 @@ use Rattle.machine.specs.BlockSound.{ready-inside, ready-outside}
 use Rattle.machine.specs.Places.{LinkedLine, Linked, AtLine, At}
 use Rattle.rules.specs.Rules as walkRules
 
-module _ (T : List ℤ) (h : Sections) (E : Environment) (D : List ℕ) (room : ℕ) where
+module _ (T : List ℤ) (h : Sections) (E : Environment) (D : List ℕ) (room : ℕ) (L : List ℤ) where
   pub record Standing (b : Block) (d : ℕ) (m : Memory) : Type 0 where
     pub state : State FactSet
     pub bounds : List Bounds
@@ -47,16 +50,27 @@ module _ (T : List ℤ) (h : Sections) (E : Environment) (D : List ℕ) (room : 
     pub within : d < h .statements
     pub ready : (s : Simple) → statementAt T h d ≡ Read (Plain s) → Ready (inForce E (m .rows)) D (h .objects) s m
     pub declared : inBundle b d ≡ false → Good h E D room state (declaredIn E state) m
+    -- Point 9: where a while is due, its entries are true.
+    pub listed : (c : Condition) (n : ℕ) → statementAt T h d ≡ Read (While c n) → EntriesTrue (entriesOf L d) (value (m .values))
 
   -- From a part of a block to the block.
   widened : (b c : Block) (d : ℕ) (m : Memory) → (inBundle c d ≡ false → inBundle b d ≡ false) → Standing b d m → Standing c d m
-  widened b c d m k s = record { state = s .state; bounds = s .bounds; good = s .good; within = s .within; ready = s .ready; declared = λ e. s .declared (k e) }
+  widened b c d m k s =
+      record {
+        state = s .state;
+        bounds = s .bounds;
+        good = s .good;
+        within = s .within;
+        ready = s .ready;
+        declared = λ e. s .declared (k e);
+        listed = s .listed;
+      }
 
   module _ (S : Setting T h E D room) (f : ℕ → Successors) where
     -- Outside a bundle.
     standing-here : (b : Block) (a d : ℕ) (s : Statement) (F : State FactSet) (m : Memory) → statementAt T h a ≡ Read s → d ≡ a
-        → Good h E D room F (declaredIn E F) m → Standing b d m
-    standing-here b a d s F m r e g =
+        → ((c : Condition) (n : ℕ) → s ≡ While c n → EntriesTrue (entriesOf L a) (value (m .values))) → Good h E D room F (declaredIn E F) m → Standing b d m
+    standing-here b a d s F m r e t g =
         record {
           state = F;
           bounds = declaredIn E F;
@@ -64,6 +78,7 @@ module _ (T : List ℤ) (h : Sections) (E : Environment) (D : List ℕ) (room : 
           within = omega (arith, read-within T h a s r);
           ready = λ q u. ready-outside T h E D room S q F m (read-typed T h d (Plain q) u) g;
           declared = λ u. g;
+          listed = λ c n u. let same : s ≡ While c n = cc in rw e (t c n same);
         }
 
     pub record StandingLine (a n d : ℕ) (m : Memory) : Type 0 where
@@ -72,6 +87,7 @@ module _ (T : List ℤ) (h : Sections) (E : Environment) (D : List ℕ) (room : 
       pub good : Good h E D room state bounds m
       pub within : d < h .statements
       pub ready : (s : Simple) → statementAt T h d ≡ Read (Plain s) → Ready (inForce E (m .rows)) D (h .objects) s m
+      pub listed : (c : Condition) (n : ℕ) → statementAt T h d ≡ Read (While c n) → EntriesTrue (entriesOf L d) (value (m .values))
       pub first : a ≤ d
       pub last : d < a + n
 
@@ -90,6 +106,7 @@ module _ (T : List ℤ) (h : Sections) (E : Environment) (D : List ℕ) (room : 
           good = i .1;
           within = omega (arith, read-within T h a (Plain s) (l .0));
           ready = λ t u. let same : s ≡ t = cc in rw (← same) (ready-inside T h E D room S s F K m (read-typed T h a (Plain s) (l .0)) shown (i .1));
+          listed = λ c n u. let z : _≡_ {A = ℕ} 0 1 = cc in absurd (omega arith);
           first = omega arith;
           last = omega arith;
         }
@@ -101,6 +118,7 @@ module _ (T : List ℤ) (h : Sections) (E : Environment) (D : List ℕ) (room : 
           good = w .good;
           within = w .within;
           ready = w .ready;
+          listed = w .listed;
           first = omega (arith, w .first);
           last = omega (arith, w .last);
         }
@@ -115,20 +133,21 @@ module _ (T : List ℤ) (h : Sections) (E : Environment) (D : List ℕ) (room : 
           good = w .good;
           within = w .within;
           ready = w .ready;
+          listed = w .listed;
           declared =
               λ e.
               let t : (true && true || inBundle r d) ≡ false = rw (lt-ltb a d (omega (arith, w .first)), lt-ltb d (a + 1 + length ss) (w .last)) at e in
               absurd (false≢true (sym t));
         }
 
-    pub standing : (b : Block) (F : State FactSet) (after d : ℕ) (m : Memory) → Linked T h f b after → blockFaults E b F ≡ [] → At h E D room b F d m
+    pub standing : (b : Block) (F : State FactSet) (after d : ℕ) (m : Memory) → Linked T h f b after → blockFaults E L b F ≡ [] → At h E D room L b F d m
         → Standing b d m
     unfolding walkRules.blockFaults inBundle
     standing nil F after d m l q i = absurd i
-    standing (plain a s r) F after d m l q (inl i) = standing-here (plain a s r) a d (Plain s) F m (l .0) (i .0) (i .1)
+    standing (plain a s r) F after d m l q (inl i) = standing-here (plain a s r) a d (Plain s) F m (l .0) (i .0) (λ c n u. let z : _≡_ {A = ℕ} 0 1 = cc in absurd (omega arith)) (i .1)
     standing (plain a s r) F after d m l q (inr i) =
         widened r (plain a s r) d m (λ e. e) (standing r (stateAfter s F) after d m (l .2) (no-rest _ _ (no-rest _ _ q)) i)
-    standing (branch a c t e r) F after d m l q (inl i) = standing-here (branch a c t e r) a d (If c (size t) (size e)) F m (l .0) (i .0) (i .1)
+    standing (branch a c t e r) F after d m l q (inl i) = standing-here (branch a c t e r) a d (If c (size t) (size e)) F m (l .0) (i .0) (λ c n u. let z : _≡_ {A = ℕ} 0 1 = cc in absurd (omega arith)) (i .1)
     standing (branch a c t e r) F after d m l q (inr (inl i)) =
         widened t (branch a c t e r) d m (λ u. neither (inBundle t d) (inBundle e d || inBundle r d) u .0)
         (standing t (assumed F c) (entry r after) d m (l .2) (no-first _ _ q) i)
@@ -137,17 +156,17 @@ module _ (T : List ℤ) (h : Sections) (E : Environment) (D : List ℕ) (room : 
         (standing e (assumed F (negatedOf c)) (entry r after) d m (l .3) (no-first _ _ (no-rest _ _ q)) i)
     standing (branch a c t e r) F after d m l q (inr (inr (inr i))) =
         widened r (branch a c t e r) d m (λ u. neither (inBundle e d) (inBundle r d) (neither (inBundle t d) (inBundle e d || inBundle r d) u .1) .1)
-        (standing r (sidesJoined E (blockAfter E t (assumed F c)) (blockAfter E e (assumed F (negatedOf c)))) after d m (l .4)
+        (standing r (sidesJoined E (blockAfter E L t (assumed F c)) (blockAfter E L e (assumed F (negatedOf c)))) after d m (l .4)
         (no-rest _ _ (no-rest _ _ (no-rest _ _ q))) i)
     standing (loop a c t r) F after d m l q (inl (w, inl i)) =
-        standing-here (loop a c t r) a d (While c (size t)) (atHead (assigned t) F) m (l .0) (i .0) (i .1)
+        standing-here (loop a c t r) a d (While c (size t)) (atHead (entriesOf L a) (assigned t) F) m (l .0) (i .0 .0) (λ x n u. i .1) (i .0 .1)
     standing (loop a c t r) F after d m l q (inl (w, inr i)) =
         widened t (loop a c t r) d m (λ u. neither (inBundle t d) (inBundle r d) u .0)
-        (standing t (assumed (atHead (assigned t) F) c) a d m (l .2) (no-first _ _ q) i)
+        (standing t (assumed (atHead (entriesOf L a) (assigned t) F) c) a d m (l .2) (no-first _ _ (no-rest _ _ q)) i)
     standing (loop a c t r) F after d m l q (inr i) =
         widened r (loop a c t r) d m (λ u. neither (inBundle t d) (inBundle r d) u .1)
-        (standing r (assumed (atHead (assigned t) F) (negatedOf c)) after d m (l .3) (no-rest _ _ (no-rest _ _ q)) i)
-    standing (bundle a ss r) F after d m l q (inl i) = standing-here (bundle a ss r) a d (Bundle (length ss)) F m (l .0) (i .0) (i .1)
+        (standing r (assumed (atHead (entriesOf L a) (assigned t) F) (negatedOf c)) after d m (l .3) (no-rest _ _ (no-rest _ _ (no-rest _ _ (no-rest _ _ q)))) i)
+    standing (bundle a ss r) F after d m l q (inl i) = standing-here (bundle a ss r) a d (Bundle (length ss)) F m (l .0) (i .0) (λ c n u. let z : _≡_ {A = ℕ} 0 1 = cc in absurd (omega arith)) (i .1)
     standing (bundle a ss r) F after d m l q (inr (inl i)) =
         standing-inside a ss r d m (standing-line (a + 1) ss F (declaredIn E F) (entry r after) d m (l .2) (no-first _ _ q) i)
     standing (bundle a ss r) F after d m l q (inr (inr i)) =

@@ -37,7 +37,8 @@ fn register(table: &[i32], cells: &mut [u32], values: &mut [u32], origins: &[u32
     let directory = [1, 4, 5, 4, 9, 4];
     let row = values[0];
     let boat = values[2];
-    let outcome = interpreter::run(table, &directory, cells, values, origins, LIMIT);
+    let listed = [0i32; 0];
+    let outcome = interpreter::run(table, &listed, &directory, cells, values, origins, LIMIT);
     text::console::write_text(lines::report::entry_line(boat, row, outcome));
 }
 

@@ -1,5 +1,5 @@
 -- The rules over the store and the rules over the paper's facts find the same first fault in every table: so the verdict is that of the paper.
-use Prim.Native.Nat.{ℕ, zero, suc, _+_, _≤_, _<_}
+use Prim.Native.Nat.{ℕ, zero, suc, _+_, _-_, _≤_, _<_}
 use mathlib.Core.Path.{_≡_, refl, sym, ap, ap₂, _∙_}
 use mathlib.Core.Logic.{inl, inr}
 use mathlib.Core.Bool.{Bool, true, false, not, _||_, _&&_, cond}
@@ -14,7 +14,7 @@ use Rattle.facts.specs.declared.FactSet.{FactSet}
 use Rattle.chains.specs.Facts.{Variables}
 use Rattle.chains.specs.History.{History}
 use Rattle.answers.specs.declared.refusals.Refusal.{Refusal}
-use Rattle.words.specs.Typed.{IsSmall}
+use Rattle.words.specs.Typed.{IsSmall, IsIndex}
 use Rattle.words.specs.declared.sections.Sections.{Sections}
 use Rattle.conditions.specs.Conditions.{negatedOf}
 use Rattle.conditions.specs.Typed.{Sides}
@@ -30,14 +30,17 @@ use Rattle.table.specs.FormLaws.{Formed, well-formed}
 use Rattle.table.specs.declared.Form.{Form}
 use Rattle.table.specs.declared.Form.the-variants as form
 use Rattle.blocks.specs.Layout.{also, layout}
+use Rattle.listed.specs.Entries.{entriesOf}
+use Rattle.listed.specs.ListForm.{listFaults}
 use Rattle.blocks.specs.Tree.{Block, nil, plain, branch, loop, bundle, unread, tree}
 use Rattle.blocks.specs.Shape.{size, ReadsLine, Reads, Formed as Shaped}
 use Rattle.blocks.specs.ShapeLaws.{table-laid}
 use Rattle.rules.specs.FactSets.{State}
 use Rattle.rules.specs.BoundsRules.{isPointer, declared, known, names, weight, comparableEnds, consIf, shiftEnd, shiftBounds, effectOn, boundsAfter}
 use Rattle.rules.specs.BoundsRules.{effect, endAtMost, knownAtMost, boundsShown, unshownFrom, unshown, accessShown, rowBound, inForce, rowUnshown}
+use Rattle.rules.specs.BoundsRules.{addressSafe, accessSafe}
 use Rattle.rules.specs.Rules.{accessAt, boundsAt, bundleBounds, bundleFaults, blockFaults, rowsAt, stateAfter}
-use Rattle.rules.specs.Rules.{assumed, unshownIn, accessIn, declaredIn, bundleAfter, blockAfter}
+use Rattle.rules.specs.Rules.{assumed, unshownIn, accessIn, safeIn, declaredIn, bundleAfter, blockAfter}
 use Rattle.rules.specs.Verdict.{environmentOf, sectionFaults, formFaults, faults, verdictOf}
 use Rattle.blocks.specs.LayoutLaws.{no-first, no-rest}
 use Rattle.rules.specs.EnvironmentLaws.{environment-declares}
@@ -45,7 +48,8 @@ use Rattle.rules.specs.Stored.{store}
 use Rattle.rules.specs.ByChains.{Decider, Decides, byChains, variables, DecidesTable}
 use Rattle.rules.specs.Representation.{Represents, shown-represented, end-represented, range-represented}
 use Rattle.rules.specs.StateRepresentation.{StateRepresents, new-represented, meets, state-after, state-assumed, state-negated, state-at-head}
-use Rattle.rules.specs.Fair.{weight-small, FairKnown, FairBounds, FairAll, FairEffect, later}
+use Rattle.rules.specs.ListedLaws.{EntriesRight, entries-right, entries-agree}
+use Rattle.rules.specs.Fair.{weight-small, FairEnd, index-node, FairKnown, FairBounds, FairAll, FairEffect, later}
 use Rattle.rules.specs.Fair.{constant-moved, after-fair, declared-fair, statement-fair, number-fair}
 use Rattle.rules.specs.declared.KnownEnd.{KnownEnd}
 use Rattle.rules.specs.declared.KnownEnd.the-variants.{Known, Unknown}
@@ -87,6 +91,9 @@ same-verdict (x ∷ xs) (y ∷ ys) s = ap Refused s
 same-bounds : (s : ℕ) {a b c d : KnownEnd} → a ≡ c → b ≡ d
     → _≡_ {A = Bounds} (record { size = s; lower = a; upper = b }) (record { size = s; lower = c; upper = d })
 same-bounds s p q = rw (p, q)
+
+all-three : {a b c x y z : Bool} → a ≡ x → b ≡ y → c ≡ z → (a && (b && c)) ≡ (x && (y && z))
+all-three p q r = rw (p, q, r)
 
 three : {a b c x y z : Bool} → a ≡ x → b ≡ y → c ≡ z → (a || b && c) ≡ (x || y && z)
 three p q r = rw (p, q, r)
@@ -203,6 +210,35 @@ module _ (T : List ℤ) (h : Sections) (w : Formed T h) (q : Decider) (right : D
     access-same R n K (Check c) l a s = refl
     access-same R n K (Declare p r) l a s = refl
 
+    -- Point 9: an address, as an end, is compared alike.
+    address-same : (R : List ℕ) (p i k : ℕ) → p < h .variables → IsIndex T h i → IsSmall k
+        → addressSafe store f p i k (declared (inForce E R) p) ≡ addressSafe (byChains q) H p i k (declared (inForce E R) p)
+    unfolding addressSafe
+    address-same R p i k l x s =
+        let d : Bounds = declared (inForce E R) p in
+        let b = declared-fair T h w R p in
+        let a : FairEnd vars 0 (record { pointer = p; integer = i; constant = k }) =
+        record { pointer = inr l; integer = index-node T h w x; low = omega (arith, s .low); high = omega (arith, s .high) } in
+        let c : FairEnd vars 0 (record { pointer = p; integer = i; constant = k + 1 }) =
+        record { pointer = inr l; integer = index-node T h w x; low = omega (arith, s .low); high = omega (arith, s .high) } in
+        all-three (shown-represented vars q right t zeroVar p (bias - 1) (inl refl) (inr l))
+        (known-agrees 0 (d .size) (d .size) (d .lower) (Known (record { pointer = p; integer = i; constant = k })) (omega arith) (b .size) (b .lower) a)
+        (known-agrees 0 (d .size) (d .size) (Known (record { pointer = p; integer = i; constant = k + 1 })) (d .upper) (omega arith) (b .size) c (b .upper))
+
+    safe-same : (R : List ℕ) (s : Simple) → SimpleTyped T h s → accessSafe store (inForce E R) f s ≡ accessSafe (byChains q) (inForce E R) H s
+    unfolding accessSafe
+    safe-same R (Literal x k) s = refl
+    safe-same R (AddConstant x y k) s = refl
+    safe-same R (Arithmetic x y z op) s = refl
+    safe-same R (Null p) s = refl
+    safe-same R (Address p o) s = refl
+    safe-same R (PointerOffset p r k) s = refl
+    safe-same R (PointerIndex p r i) s = refl
+    safe-same R (Load x p i k) s = address-same R p i k (s .pointer .below) (s .index) (s .constant)
+    safe-same R (Store p i k x) s = address-same R p i k (s .pointer .below) (s .index) (s .constant)
+    safe-same R (Check c) s = refl
+    safe-same R (Declare p r) s = refl
+
     row-same : (n : ℕ) (K : List Bounds) (s : Simple) → n ≤ 16 → FairAll vars n K → SimpleTyped T h s
         → rowUnshown store E f K s ≡ rowUnshown (byChains q) E H K s
     unfolding rowUnshown
@@ -230,6 +266,10 @@ module _ (T : List ℤ) (h : Sections) (w : Formed T h) (q : Decider) (right : D
         → accessIn store E W K s ≡ accessIn (byChains q) E U K s
     access-agrees n K s l a y = access-same (t .represents) (W .rows) n K s l a y
         ∙ ap (λ (R : List ℕ). accessShown (byChains q) (inForce E R) (U .facts) K s) (sym (t .rows))
+
+    pub safe-agrees : (s : Simple) → SimpleTyped T h s → safeIn store E W s ≡ safeIn (byChains q) E U s
+    safe-agrees s y = safe-same (t .represents) (W .rows) s y
+        ∙ ap (λ (R : List ℕ). accessSafe (byChains q) (inForce E R) (U .facts) s) (sym (t .rows))
 
     row-agrees : (n : ℕ) (K : List Bounds) (s : Simple) → n ≤ 16 → FairAll vars n K → SimpleTyped T h s
         → rowUnshown store E (W .facts) K s ≡ rowUnshown (byChains q) E (U .facts) K s
@@ -271,110 +311,115 @@ module _ (T : List ℤ) (h : Sections) (w : Formed T h) (q : Decider) (right : D
       (line-agrees (n + 1) (a + 1) ss (boundsAfter store (effect store E (W .facts) s) K) (omega arith) (r .1)
       (after-fair vars n (effect store E (W .facts) s) K (omega arith) (statement-fair T h w (W .facts) s y) g) (state-after T h (w .limits) q right t s y))
 
-  -- ---- a block
+  -- ---- a block, beside a list whose entries are right
 
-  record BlockAgrees (b : Block) (U : State History) (W : State FactSet) : Type 0 where
-    faults : SameFirst (blockFaults store E b W) (blockFaults (byChains q) E b U)
-    represents : blockFaults store E b W ≡ [] → StateRepresents vars (blockAfter (byChains q) E b U) (blockAfter store E b W)
+  module _ (L : List ℤ) (listed : (a : ℕ) → EntriesRight T h (w .limits) (entriesOf L a)) where
+    record BlockAgrees (b : Block) (U : State History) (W : State FactSet) : Type 0 where
+      faults : SameFirst (blockFaults store E L b W) (blockFaults (byChains q) E L b U)
+      represents : blockFaults store E L b W ≡ [] → StateRepresents vars (blockAfter (byChains q) E L b U) (blockAfter store E L b W)
 
-  bounds-fault : (a : ℕ) {ps qs : List ℕ} → ps ≡ qs → SameFirst (boundsAt a ps) (boundsAt a qs)
-  bounds-fault a {ps} {qs} e = same-of _ _ (ap (boundsAt a) e)
+    bounds-fault : (a : ℕ) {ps qs : List ℕ} → ps ≡ qs → SameFirst (boundsAt a ps) (boundsAt a qs)
+    bounds-fault a {ps} {qs} e = same-of _ _ (ap (boundsAt a) e)
 
-  plain-agrees : (a : ℕ) (s : Simple) (r : Block) {U : State History} {W : State FactSet} → SimpleTyped T h s → StateRepresents vars U W
-      → BlockAgrees r (stateAfter (byChains q) s U) (stateAfter store s W) → BlockAgrees (plain a s r) U W
-  unfolding blockFaults blockAfter
-  plain-agrees a s r {U} {W} y t rest =
-      let k : declaredIn (byChains q) E U ≡ declaredIn store E W = ap (λ (R : List ℕ). inForce E R .declared) (t .rows) in
-      let e : boundsAfter (byChains q) (effect (byChains q) E (U .facts) s) (declaredIn store E W) ≡ boundsAfter store (effect store E (W .facts) s)
-      (declaredIn store E W) =
-      after-agrees (t .represents) 0 (declaredIn store E W) s (omega arith) (declared-fair T h w (W .rows)) y in
-      record {
-        faults = same-also _ _ _ _ (rw k (bounds-fault a (row-agrees t 0 _ s (omega arith) (declared-fair T h w (W .rows)) y)))
-            (λ o. same-also _ _ _ _
-            (rw (k, e) (bounds-fault a (unshown-agrees (state-after T h (w .limits) q right t s y) 1 _ (omega arith)
-            (after-fair vars 0 (effect store E (W .facts) s) (declaredIn store E W) (omega arith) (statement-fair T h w (W .facts) s y)
-            (declared-fair T h w (W .rows))))))
-            (λ u. rest .faults));
-        represents = λ z. rest .represents (no-rest _ _ (no-rest _ _ z));
-      }
+    plain-agrees : (a : ℕ) (s : Simple) (r : Block) {U : State History} {W : State FactSet} → SimpleTyped T h s → StateRepresents vars U W
+        → BlockAgrees r (stateAfter (byChains q) s U) (stateAfter store s W) → BlockAgrees (plain a s r) U W
+    unfolding blockFaults blockAfter
+    plain-agrees a s r {U} {W} y t rest =
+        let k : declaredIn (byChains q) E U ≡ declaredIn store E W = ap (λ (R : List ℕ). inForce E R .declared) (t .rows) in
+        let e : boundsAfter (byChains q) (effect (byChains q) E (U .facts) s) (declaredIn store E W) ≡ boundsAfter store (effect store E (W .facts) s)
+        (declaredIn store E W) =
+        after-agrees (t .represents) 0 (declaredIn store E W) s (omega arith) (declared-fair T h w (W .rows)) y in
+        record {
+          faults = same-also _ _ _ _ (rw k (bounds-fault a (row-agrees t 0 _ s (omega arith) (declared-fair T h w (W .rows)) y)))
+              (λ o. same-also _ _ _ _
+              (rw (k, e) (bounds-fault a (unshown-agrees (state-after T h (w .limits) q right t s y) 1 _ (omega arith)
+              (after-fair vars 0 (effect store E (W .facts) s) (declaredIn store E W) (omega arith) (statement-fair T h w (W .facts) s y)
+              (declared-fair T h w (W .rows))))))
+              (λ u. rest .faults));
+          represents = λ z. rest .represents (no-rest _ _ (no-rest _ _ z));
+        }
 
-  bundle-agrees : (a : ℕ) (ss : List Simple) (r : Block) {U : State History} {W : State FactSet} → length ss ≤ 16
-      → LineAgrees 0 (a + 1) ss U W (declaredIn store E W) → StateRepresents vars U W
-      → (StateRepresents vars (bundleAfter (byChains q) ss U) (bundleAfter store ss W) → BlockAgrees r (bundleAfter (byChains q) ss U) (bundleAfter store ss W))
-      → BlockAgrees (bundle a ss r) U W
-  unfolding blockFaults blockAfter
-  bundle-agrees a ss r {U} {W} l i t rest =
-      let k : declaredIn (byChains q) E U ≡ declaredIn store E W = ap (λ (R : List ℕ). inForce E R .declared) (t .rows) in
-      record {
-        faults = same-also _ _ _ _ (rw k (i .faults)) (λ u.
-            let b = i .bounds u in
-            same-also _ _ _ _ (rw (k, b) (bounds-fault a (unshown-agrees (i .represents u) (0 + length ss) _ (omega arith) (i .fair u))))
-            (λ v. rest (i .represents u) .faults));
-        represents = λ z. rest (i .represents (no-first _ _ z)) .represents (no-rest _ _ (no-rest _ _ z));
-      }
+    bundle-agrees : (a : ℕ) (ss : List Simple) (r : Block) {U : State History} {W : State FactSet} → length ss ≤ 16
+        → LineAgrees 0 (a + 1) ss U W (declaredIn store E W) → StateRepresents vars U W
+        → (StateRepresents vars (bundleAfter (byChains q) ss U) (bundleAfter store ss W) → BlockAgrees r (bundleAfter (byChains q) ss U) (bundleAfter store ss W))
+        → BlockAgrees (bundle a ss r) U W
+    unfolding blockFaults blockAfter
+    bundle-agrees a ss r {U} {W} l i t rest =
+        let k : declaredIn (byChains q) E U ≡ declaredIn store E W = ap (λ (R : List ℕ). inForce E R .declared) (t .rows) in
+        record {
+          faults = same-also _ _ _ _ (rw k (i .faults)) (λ u.
+              let b = i .bounds u in
+              same-also _ _ _ _ (rw (k, b) (bounds-fault a (unshown-agrees (i .represents u) (0 + length ss) _ (omega arith) (i .fair u))))
+              (λ v. rest (i .represents u) .faults));
+          represents = λ z. rest (i .represents (no-first _ _ z)) .represents (no-rest _ _ (no-rest _ _ z));
+        }
 
-  branch-agrees : (a : ℕ) (c : Condition) (x y u : Block) {U : State History} {W : State FactSet} → StateRepresents vars U W
-      → BlockAgrees x (assumed (byChains q) U c) (assumed store W c) → BlockAgrees y (assumed (byChains q) U (negatedOf c)) (assumed store W (negatedOf c))
-      → ((U : State History) (W : State FactSet) → StateRepresents vars U W → BlockAgrees u U W) → BlockAgrees (branch a c x y u) U W
-  unfolding blockFaults blockAfter
-  branch-agrees a c x y u t i j rest =
-      record {
-        faults = same-also _ _ _ _ (i .faults) (λ z₁. same-also _ _ _ _ (j .faults) (λ z₂.
-            same-also _ _ _ _ (same-of _ _ (ap₂ (rowsAt a) (sym (i .represents z₁ .rows)) (sym (j .represents z₂ .rows))))
-            (λ z₃. rest _ _ (meets T h (w .limits) q right (i .represents z₁) (j .represents z₂)) .faults)));
-        represents = λ z. let e = no-rest _ _ z in rest _ _
-            (meets T h (w .limits) q right (i .represents (no-first _ _ z)) (j .represents (no-first _ _ e))) .represents (no-rest _ _ (no-rest _ _ e));
-      }
+    branch-agrees : (a : ℕ) (c : Condition) (x y u : Block) {U : State History} {W : State FactSet} → StateRepresents vars U W
+        → BlockAgrees x (assumed (byChains q) U c) (assumed store W c) → BlockAgrees y (assumed (byChains q) U (negatedOf c)) (assumed store W (negatedOf c))
+        → ((U : State History) (W : State FactSet) → StateRepresents vars U W → BlockAgrees u U W) → BlockAgrees (branch a c x y u) U W
+    unfolding blockFaults blockAfter
+    branch-agrees a c x y u t i j rest =
+        record {
+          faults = same-also _ _ _ _ (i .faults) (λ z₁. same-also _ _ _ _ (j .faults) (λ z₂.
+              same-also _ _ _ _ (same-of _ _ (ap₂ (rowsAt a) (sym (i .represents z₁ .rows)) (sym (j .represents z₂ .rows))))
+              (λ z₃. rest _ _ (meets T h (w .limits) q right (i .represents z₁) (j .represents z₂)) .faults)));
+          represents = λ z. let e = no-rest _ _ z in rest _ _
+              (meets T h (w .limits) q right (i .represents (no-first _ _ z)) (j .represents (no-first _ _ e))) .represents (no-rest _ _ (no-rest _ _ e));
+        }
 
-  loop-agrees : (a : ℕ) (c : Condition) (x u : Block) {U : State History} {W : State FactSet} → StateRepresents vars U W → Reads T h x
-      → Sides T h (c .left) (c .right) (c .offset)
-      → ((U : State History) (W : State FactSet) → StateRepresents vars U W → BlockAgrees x U W)
-      → ((U : State History) (W : State FactSet) → StateRepresents vars U W → BlockAgrees u U W) → BlockAgrees (loop a c x u) U W
-  unfolding blockFaults blockAfter
-  loop-agrees a c x u {U} {W} t r s body rest =
-      let l = state-at-head T h (w .limits) q right t x r in
-      let i = body _ _ (state-assumed T h (w .limits) q right l c s) in
-      record {
-        faults = same-also _ _ _ _ (i .faults) (λ z₁.
-            same-also _ _ _ _ (same-of _ _ (ap₂ (rowsAt a) (sym (t .rows)) (sym (i .represents z₁ .rows))))
-            (λ z₂. rest _ _ (state-negated T h (w .limits) q right l c s) .faults));
-        represents = λ z. rest _ _ (state-negated T h (w .limits) q right l c s) .represents (no-rest _ _ (no-rest _ _ z));
-      }
+    loop-agrees : (a : ℕ) (c : Condition) (x u : Block) {U : State History} {W : State FactSet} → StateRepresents vars U W → Reads T h x
+        → Sides T h (c .left) (c .right) (c .offset)
+        → ((U : State History) (W : State FactSet) → StateRepresents vars U W → BlockAgrees x U W)
+        → ((U : State History) (W : State FactSet) → StateRepresents vars U W → BlockAgrees u U W) → BlockAgrees (loop a c x u) U W
+    unfolding blockFaults blockAfter
+    loop-agrees a c x u {U} {W} t r s body rest =
+        let l = state-at-head T h (w .limits) q right t (entriesOf L a) (listed a) x r in
+        let i = body _ _ (state-assumed T h (w .limits) q right l c s) in
+        record {
+          faults = same-also _ _ _ _ (same-of _ _ (entries-agree T h (w .limits) q right (entriesOf L a) (listed a) (t .represents))) (λ z₀.
+              same-also _ _ _ _ (i .faults) (λ z₁.
+              same-also _ _ _ _ (same-of _ _ (entries-agree T h (w .limits) q right (entriesOf L a) (listed a) (i .represents z₁ .represents))) (λ z₂.
+              same-also _ _ _ _ (same-of _ _ (ap₂ (rowsAt a) (sym (t .rows)) (sym (i .represents z₁ .rows))))
+              (λ z₃. rest _ _ (state-negated T h (w .limits) q right l c s) .faults))));
+          represents = λ z. rest _ _ (state-negated T h (w .limits) q right l c s) .represents (no-rest _ _ (no-rest _ _ (no-rest _ _ (no-rest _ _ z))));
+        }
 
-  block-agrees : (d : ℕ) (b : Block) {U : State History} {W : State FactSet} → Shaped d b → Reads T h b → StateRepresents vars U W → BlockAgrees b U W
-  unfolding blockFaults blockAfter
-  block-agrees d nil o r t = record { faults = tt; represents = λ z. t }
-  block-agrees d (plain a s u) o r t =
-      let y = read-typed T h a (Plain s) (r .0) in
-      plain-agrees a s u y t (block-agrees d u (o .1) (r .1) (state-after T h (w .limits) q right t s y))
-  block-agrees d (branch a c x y u) o r t =
-      let s = read-typed T h a (If c (size x) (size y)) (r .0) .condition .sides in
-      branch-agrees a c x y u t (block-agrees (d + 1) x (o .1) (r .1) (state-assumed T h (w .limits) q right t c s))
-      (block-agrees (d + 1) y (o .2) (r .2) (state-negated T h (w .limits) q right t c s)) (λ U W t′. block-agrees d u (o .3) (r .3) t′)
-  block-agrees d (loop a c x u) o r t =
-      loop-agrees a c x u t (r .1) (read-typed T h a (While c (size x)) (r .0) .condition .sides) (λ U W t′. block-agrees (d + 1) x (o .1) (r .1) t′)
-      (λ U W t′. block-agrees d u (o .2) (r .2) t′)
-  block-agrees d (bundle a ss u) {U} {W} o r t =
-      bundle-agrees a ss u (o .2) (line-agrees 0 (a + 1) ss (declaredIn store E W) (omega (arith, o .2)) (r .1) (declared-fair T h w (W .rows)) t) t
-      (λ t′. block-agrees d u (o .3) (r .2) t′)
-  block-agrees d (unread a) o r t = absurd o
+    block-agrees : (d : ℕ) (b : Block) {U : State History} {W : State FactSet} → Shaped d b → Reads T h b → StateRepresents vars U W → BlockAgrees b U W
+    unfolding blockFaults blockAfter
+    block-agrees d nil o r t = record { faults = tt; represents = λ z. t }
+    block-agrees d (plain a s u) o r t =
+        let y = read-typed T h a (Plain s) (r .0) in
+        plain-agrees a s u y t (block-agrees d u (o .1) (r .1) (state-after T h (w .limits) q right t s y))
+    block-agrees d (branch a c x y u) o r t =
+        let s = read-typed T h a (If c (size x) (size y)) (r .0) .condition .sides in
+        branch-agrees a c x y u t (block-agrees (d + 1) x (o .1) (r .1) (state-assumed T h (w .limits) q right t c s))
+        (block-agrees (d + 1) y (o .2) (r .2) (state-negated T h (w .limits) q right t c s)) (λ U W t′. block-agrees d u (o .3) (r .3) t′)
+    block-agrees d (loop a c x u) o r t =
+        loop-agrees a c x u t (r .1) (read-typed T h a (While c (size x)) (r .0) .condition .sides) (λ U W t′. block-agrees (d + 1) x (o .1) (r .1) t′)
+        (λ U W t′. block-agrees d u (o .2) (r .2) t′)
+    block-agrees d (bundle a ss u) {U} {W} o r t =
+        bundle-agrees a ss u (o .2) (line-agrees 0 (a + 1) ss (declaredIn store E W) (omega (arith, o .2)) (r .1) (declared-fair T h w (W .rows)) t) t
+        (λ t′. block-agrees d u (o .3) (r .2) t′)
+    block-agrees d (unread a) o r t = absurd o
 
 -- ---- the whole table
 
-section-agrees : (T : List ℤ) (h : Sections) (w : Formed T h) (q : Decider) → Decides (variables T h (w .limits)) q
-    → SameFirst (sectionFaults store T h) (sectionFaults (byChains q) T h)
+section-agrees : (T : List ℤ) (h : Sections) (w : Formed T h) (L : List ℤ) (q : Decider) → Decides (variables T h (w .limits)) q
+    → SameFirst (sectionFaults store T h L) (sectionFaults (byChains q) T h L)
 unfolding sectionFaults
-section-agrees T h w q right =
+section-agrees T h w L q right =
     same-also _ _ _ _ (same-self (layout T h))
-    (λ z. let l = table-laid T h z in block-agrees T h w q right 0 (tree T h) (l .formed) (l .reads) (new-represented (variables T h (w .limits)) q) .faults)
+    (λ z. same-also _ _ _ _ (same-self (listFaults T h L)) (λ y.
+    let l = table-laid T h z in
+    block-agrees T h w q right L (entries-right T h (w .limits) L y) 0 (tree T h) (l .formed) (l .reads) (new-represented (variables T h (w .limits)) q) .faults))
 
-pub faults-agree : (T : List ℤ) (q : Decider) → DecidesTable T q → SameFirst (faults store T) (faults (byChains q) T)
+pub faults-agree : (T L : List ℤ) (q : Decider) → DecidesTable T q → SameFirst (faults store T L) (faults (byChains q) T L)
 unfolding faults
-faults-agree T q d = go (formOf T) refl
+faults-agree T L q d = go (formOf T) refl
   where
-    go : (f : Form) → formOf T ≡ f → SameFirst (formFaults store T f) (formFaults (byChains q) T f)
+    go : (f : Form) → formOf T ≡ f → SameFirst (formFaults store T L f) (formFaults (byChains q) T L f)
     go (form.Refused r) e = refl
-    go (form.WellFormed h) e = let w = well-formed T h e in section-agrees T h w q (d h (w .limits) e)
+    go (form.WellFormed h) e = let w = well-formed T h e in section-agrees T h w L q (d h (w .limits) e)
 
-pub verdict-agrees : (T : List ℤ) (q : Decider) → DecidesTable T q → verdictOf (faults store T) ≡ verdictOf (faults (byChains q) T)
-verdict-agrees T q d = same-verdict (faults store T) (faults (byChains q) T) (faults-agree T q d)
+pub verdict-agrees : (T L : List ℤ) (q : Decider) → DecidesTable T q → verdictOf (faults store T L) ≡ verdictOf (faults (byChains q) T L)
+verdict-agrees T L q d = same-verdict (faults store T L) (faults (byChains q) T L) (faults-agree T L q d)

@@ -4,6 +4,7 @@ use mathlib.Core.List.{List, [], _∷_}
 use lib.Dec.{ltb, eqb}
 use lib.IntN.{ℤ}
 use lib.ListN.{length}
+use Rattle.listed.specs.Entries.{entriesOf}
 use Rattle.facts.specs.declared.FactSet.{FactSet}
 use Rattle.chains.specs.Facts.{Variables}
 use Rattle.chains.specs.History.{History}
@@ -20,10 +21,12 @@ use Rattle.rules.specs.StateBefore.{lineBefore, stateBefore}
 use Rattle.rules.specs.Verdict.{environmentOf}
 use Rattle.rules.specs.Stored.{store}
 use Rattle.rules.specs.ByChains.{Decider, Decides, byChains, variables}
+use Rattle.rules.specs.ListedLaws.{EntriesRight}
 use Rattle.rules.specs.StateRepresentation.{StateRepresents, either, meets, state-after, state-assumed, state-negated, state-at-head}
 use Rattle.rules.specs.declared.Environment.{Environment}
 
-module _ (T : List ℤ) (h : Sections) (w : Limits h) (q : Decider) (right : Decides (variables T h w) q) where
+module _ (T : List ℤ) (h : Sections) (w : Limits h) (L : List ℤ) (listed : (a : ℕ) → EntriesRight T h w (entriesOf L a)) (q : Decider)
+    (right : Decides (variables T h w) q) where
   abbrev vars : Variables
   vars = variables T h w
 
@@ -39,7 +42,7 @@ module _ (T : List ℤ) (h : Sections) (w : Limits h) (q : Decider) (right : Dec
   line-represented a (s ∷ ss) r t = line-represented (a + 1) ss (r .1) (state-after T h w q right t s (read-typed T h a (Plain s) (r .0)))
 
   block-represented : (b : Block) {U : State History} {W : State FactSet} → Reads T h b → StateRepresents vars U W
-      → StateRepresents vars (blockAfter (byChains q) E b U) (blockAfter store E b W)
+      → StateRepresents vars (blockAfter (byChains q) E L b U) (blockAfter store E L b W)
   unfolding blockAfter
   block-represented nil r t = t
   block-represented (plain a s u) r t = block-represented u (r .1) (state-after T h w q right t s (read-typed T h a (Plain s) (r .0)))
@@ -49,7 +52,7 @@ module _ (T : List ℤ) (h : Sections) (w : Limits h) (q : Decider) (right : Dec
       (meets T h w q right (block-represented x (r .1) (state-assumed T h w q right t c s)) (block-represented y (r .2) (state-negated T h w q right t c s)))
   block-represented (loop a c x u) r t =
       let s = read-typed T h a (While c (size x)) (r .0) .condition .sides in
-      block-represented u (r .2) (state-negated T h w q right (state-at-head T h w q right t x (r .1)) c s)
+      block-represented u (r .2) (state-negated T h w q right (state-at-head T h w q right t (entriesOf L a) (listed a) x (r .1)) c s)
   block-represented (bundle a ss u) r t = block-represented u (r .2) (line-represented (a + 1) ss (r .1) t)
   block-represented (unread a) r t = absurd r
 
@@ -62,7 +65,7 @@ module _ (T : List ℤ) (h : Sections) (w : Limits h) (q : Decider) (right : Dec
   line-before a (s ∷ ss) d r t = either (eqb d a) t (line-before (a + 1) ss d (r .1) (state-after T h w q right t s (read-typed T h a (Plain s) (r .0))))
 
   pub before-represented : (b : Block) (d : ℕ) {U : State History} {W : State FactSet} → Reads T h b → StateRepresents vars U W
-      → StateRepresents vars (stateBefore (byChains q) E b U d) (stateBefore store E b W d)
+      → StateRepresents vars (stateBefore (byChains q) E L b U d) (stateBefore store E L b W d)
   unfolding stateBefore
   before-represented nil d r t = t
   before-represented (plain a s u) d r t =
@@ -77,7 +80,7 @@ module _ (T : List ℤ) (h : Sections) (w : Limits h) (q : Decider) (right : Dec
       (before-represented u d (r .3) (meets T h w q right (block-represented x (r .1) then) (block-represented y (r .2) other)))))
   before-represented (loop a c x u) d r t =
       let s = read-typed T h a (While c (size x)) (r .0) .condition .sides in
-      let head = state-at-head T h w q right t x (r .1) in
+      let head = state-at-head T h w q right t (entriesOf L a) (listed a) x (r .1) in
       either (eqb d a) t
       (either (ltb d (a + 1 + size x)) (before-represented x d (r .1) (state-assumed T h w q right head c s))
       (before-represented u d (r .2) (state-negated T h w q right head c s)))

@@ -211,6 +211,28 @@ module _ (S : FactSets) where
   accessShown E f K (Check c) = true
   accessShown E f K (Declare p r) = true
 
+  -- Point 9: "the facts before them show p >= 1, the lower end at most the address, and the address plus 1 at most the upper end, by the rule for ends": the
+  -- address p + i + k is an end of the size of p. So a read at the upper end of a kind 2 pointer is not shown safe.
+  unfoldable pub addressSafe : Facts → ℕ → ℕ → ℕ → Bounds → Bool
+  addressSafe f p i k d =
+      shown f zeroVar p (bias - 1)
+      && (knownAtMost f (d .size) (d .lower) (d .size) (Known (record { pointer = p; integer = i; constant = k }))
+      && knownAtMost f (d .size) (Known (record { pointer = p; integer = i; constant = k + 1 })) (d .size) (d .upper))
+
+  -- The statement is an access that is shown safe.
+  unfoldable pub accessSafe : Environment → Facts → Simple → Bool
+  accessSafe E f (Literal x k) = false
+  accessSafe E f (AddConstant x y k) = false
+  accessSafe E f (Arithmetic x y z op) = false
+  accessSafe E f (Null p) = false
+  accessSafe E f (Address p o) = false
+  accessSafe E f (PointerOffset p q k) = false
+  accessSafe E f (PointerIndex p q i) = false
+  accessSafe E f (Load x p i k) = addressSafe f p i k (declared E p)
+  accessSafe E f (Store p i k x) = addressSafe f p i k (declared E p)
+  accessSafe E f (Check c) = false
+  accessSafe E f (Declare p r) = false
+
   -- Point 2: "The row must be shown there as declared bounds are, else refusal 8 there with that pointer". "There": before the kind 14.
   unfoldable pub rowUnshown : Environment → Facts → List Bounds → Simple → List ℕ
   rowUnshown E f K (Literal x k) = []

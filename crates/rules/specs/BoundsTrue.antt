@@ -194,9 +194,9 @@ own-declared E p l = declared-in-force E ownRows p l ∙ rw (own-row p)
 -- ---- bounds that are shown
 
 module _ (f : FactSet) (v : ℕ → ℕ) (h : Holds f v) (range : InRange v) where
-  same-size : (s : ℕ) (e g : End) → Proper e → Proper g
+  same-size : (s : ℕ) (e g : End) → e .pointer < 17 → e .integer < 17 → g .pointer < 17 → g .integer < 17
       → store .endShown f s (e .pointer) (e .integer) (e .constant) (g .pointer) (g .integer) (g .constant) ≡ true → endAt v s e ≤ endAt v s g
-  same-size s e g r q t = go (either (sameEnd e g) (endShown f s (e .pointer) (e .integer) (e .constant) (g .pointer) (g .integer) (g .constant)) t)
+  same-size s e g hq hn hr hm t = go (either (sameEnd e g) (endShown f s (e .pointer) (e .integer) (e .constant) (g .pointer) (g .integer) (g .constant)) t)
     where
       go : (sameEnd e g ≡ true) ⊎ (endShown f s (e .pointer) (e .integer) (e .constant) (g .pointer) (g .integer) (g .constant) ≡ true)
           → endAt v s e ≤ endAt v s g
@@ -207,7 +207,7 @@ module _ (f : FactSet) (v : ℕ → ℕ) (h : Holds f v) (range : InRange v) whe
           let i : s * v (e .integer) ≡ s * v (g .integer) = ap (λ (n : ℕ). s * v n) (eqb-true (e .integer) (g .integer) (b .1)) in
           omega (arith, ap v (eqb-true (e .pointer) (g .pointer) (b .0)))
       go (inr z) =
-          end-true f v h s (e .pointer) (e .integer) (e .constant) (g .pointer) (g .integer) (g .constant) (r .pointer) (r .integer) (q .pointer) (q .integer) z
+          end-true f v h s (e .pointer) (e .integer) (e .constant) (g .pointer) (g .integer) (g .constant) hq hn hr hm z
 
   -- An end that names no integer has the same value whatever the size.
   resized : (s t : ℕ) (e : End) (g : End) → comparableEnds s e t g ≡ true → endAt v s g ≡ endAt v t g
@@ -225,7 +225,15 @@ module _ (f : FactSet) (v : ℕ → ℕ) (h : Holds f v) (range : InRange v) whe
   unfolding boundsRules.endAtMost
   end-at-most s e t g r q z =
       let b = both (comparableEnds s e t g) (store .endShown f s (e .pointer) (e .integer) (e .constant) (g .pointer) (g .integer) (g .constant)) z in
-      omega (arith, same-size s e g r q (b .1), resized s t e g (b .0))
+      omega (arith, same-size s e g (r .pointer) (r .integer) (q .pointer) (q .integer) (b .1), resized s t e g (b .0))
+
+  -- Ends of one size, of which one may be an address.
+  pub end-below : (s : ℕ) (e g : End) → e .pointer < 17 → e .integer < 17 → g .pointer < 17 → g .integer < 17 → endAtMost f s e s g ≡ true
+      → endAt v s e ≤ endAt v s g
+  unfolding boundsRules.endAtMost
+  end-below s e g hq hn hr hm z =
+      same-size s e g hq hn hr hm
+      (both (comparableEnds s e s g) (store .endShown f s (e .pointer) (e .integer) (e .constant) (g .pointer) (g .integer) (g .constant)) z .1)
 
   lower-shown : (low s t : ℕ) (e g : KnownEnd) → knownAtMost f s e t g ≡ true → ProperEnd g → LowerHolds low s e v → LowerHolds low t g v
   unfolding boundsRules.knownAtMost

@@ -1,6 +1,6 @@
 -- The verdict in the paper's own words. What is known is told by the operations that were done (a history), and each question is answered by a decider of
 -- the paper's sentence about chains. Nothing here speaks of how the code stores facts.
-use Prim.Native.Nat.{ℕ, _+_, _-_, _*_}
+use Prim.Native.Nat.{ℕ, _+_, _-_, _*_, _<_}
 use mathlib.Core.Path.{_≡_}
 use mathlib.Core.Logic.{_↔_}
 use mathlib.Core.Bool.{Bool, true}
@@ -17,6 +17,8 @@ use Rattle.table.specs.declared.Form.the-variants as form
 use Rattle.rules.specs.FactSets.{FactSets}
 use Rattle.rules.specs.BoundsRules.{isPointer}
 use Rattle.rules.specs.Verdict.{environmentOf, faults, Says}
+use Rattle.rules.specs.Report.{reportedAt}
+use Rattle.reports.specs.Reports.{reported}
 use Rattle.rules.specs.declared.KnownEnd.the-variants.{Known}
 use Rattle.rules.specs.declared.Verdict.{Verdict}
 
@@ -61,10 +63,14 @@ pub record Decided (T : List ℤ) (P : Decider → Type 0) : Type 0 where
   pub decides : DecidesTable T decider
   pub by-each : (d : Decider) → DecidesTable T d → P d
 
--- All faults of a table by the paper's rules, its facts and its chains.
-abbrev pub chainFaults : Decider → List ℤ → List Refusal
+-- All faults of a table and its list of loop facts by the paper's rules, its facts and its chains.
+abbrev pub chainFaults : Decider → List ℤ → List ℤ → List Refusal
 chainFaults d = faults (byChains d)
 
--- THE VERDICT ON A TABLE: that of the first fault.
-unfoldable pub Judged : List ℤ → Verdict → Type 0
-Judged T v = Decided T (λ d. Says (chainFaults d T) v)
+-- THE VERDICT ON A TABLE T with the list L of loop facts (point 9; an empty list: none): that of the first fault.
+unfoldable pub Judged : List ℤ → List ℤ → Verdict → Type 0
+Judged T L v = Decided T (λ d. Says (chainFaults d T L) v)
+
+-- THE REPORT ON A TABLE T with the list L (point 9): "exactly the accesses for which the facts before them show" that they are safe; statement d by its bit.
+unfoldable pub Reported : List ℤ → List ℤ → List ℕ → Type 0
+Reported T L ws = Decided T (λ d. (a : ℕ) → a < 1024 → reported ws a ≡ reportedAt (byChains d) T L a)

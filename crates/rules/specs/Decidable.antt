@@ -89,10 +89,10 @@ says fs v e = record { verdict = e; reads = ap verdictReads e ∙ go fs }
     go (r ∷ rs) = refl
 
 -- The rules over the store give the verdict that the paper gives.
-pub judged : (T : List ℤ) (v : Verdict) → v ≡ verdictOf (faults store T) → Judged T v
+pub judged : (T L : List ℤ) (v : Verdict) → v ≡ verdictOf (faults store T L) → Judged T L v
 unfolding Judged
-judged T v e = decided T (λ d. Says (chainFaults d T) v) (λ d r. says (chainFaults d T) v (e ∙ verdict-agrees T d r))
+judged T L v e = decided T (λ d. Says (chainFaults d T L) v) (λ d r. says (chainFaults d T L) v (e ∙ verdict-agrees T L d r))
 
-pub stored-verdict : (T : List ℤ) (v : Verdict) → Judged T v → v ≡ verdictOf (faults store T)
+pub stored-verdict : (T L : List ℤ) (v : Verdict) → Judged T L v → v ≡ verdictOf (faults store T L)
 unfolding Judged
-stored-verdict T v j = let d = decider-decides T in j .by-each (decider T) d .verdict ∙ sym (verdict-agrees T (decider T) d)
+stored-verdict T L v j = let d = decider-decides T in j .by-each (decider T) d .verdict ∙ sym (verdict-agrees T L (decider T) d)

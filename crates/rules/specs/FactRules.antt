@@ -8,6 +8,7 @@ use Rattle.conditions.specs.declared.Condition.{Condition}
 use Rattle.statements.specs.declared.Simple.{Simple}
 use Rattle.statements.specs.declared.Simple.the-variants.{Literal, AddConstant, Arithmetic, Null, Address}
 use Rattle.statements.specs.declared.Simple.the-variants.{PointerOffset, PointerIndex, Load, Store, Check, Declare}
+use Rattle.listed.specs.declared.Entry.{Entry}
 use Rattle.rules.specs.FactSets.{FactSets}
 
 -- A number among others.
@@ -88,3 +89,8 @@ module _ (S : FactSets) where
 
   unfoldable pub loopFacts : List ℕ → Facts → Facts
   loopFacts targets f = droppedEach 16 (λ v. among v targets) f
+
+  -- Point 9: "A listed fact counts at the head and after the loop", "all entries of that loop assumed together".
+  unfoldable pub entryFacts : List Entry → Facts → Facts
+  entryFacts [] f = f
+  entryFacts (e ∷ es) f = entryFacts es (added f (e .left) (e .right) (e .offset))

@@ -185,7 +185,7 @@ module _ (T : List ℤ) (h : Sections) (w : Formed T h) where
   abbrev vars : Variables
   vars = variables T h (w .limits)
 
-  index-node : {v : ℕ} → IsIndex T h v → Node vars v
+  pub index-node : {v : ℕ} → IsIndex T h v → Node vars v
   index-node (missing e) = inl e
   index-node (given i) = inr (i .below)
 

@@ -11,10 +11,13 @@ pub mod BoundsRules
 pub mod Rules
 pub mod Verdict
 pub mod StateBefore
+pub mod Report
+pub mod ReportLaws
 pub mod StateRepresentation
 pub mod BeforeLaws
 pub mod Ranges
 pub mod RuleLaws
+pub mod ListedLaws
 pub mod AcceptedLaws
 pub mod Routines
 pub mod FactsTrue

@@ -17,8 +17,8 @@ InRange (Null p) = Unit
 InRange (Address p o) = Unit
 InRange (PointerOffset p q k) = (k < 2 ^ 34) × (q < 16)
 InRange (PointerIndex p q i) = q < 16
-InRange (Load x p i k) = Unit
-InRange (Store p i k x) = Unit
+InRange (Load x p i k) = k < 2 ^ 34
+InRange (Store p i k x) = k < 2 ^ 34
 InRange (Check c) = c .offset < 2 ^ 32
 InRange (Declare p r) = Unit
 

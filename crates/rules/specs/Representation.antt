@@ -90,7 +90,7 @@ module _ (vars : Variables) where
   represents-join {H} {G} {f} {g} t u = record { legal = (t .legal, u .legal); same = ap₂ (joined (vars .pointer)) (t .same) (u .same) }
 
   module _ {H : History} {f : FactSet} (t : Represents vars H f) where
-    represents-add : (x y k : ℕ) → Comparable vars x y → Represents vars (add H x y k) (added f x y k)
+    pub represents-add : (x y k : ℕ) → Comparable vars x y → Represents vars (add H x y k) (added f x y k)
     represents-add x y k r = record { legal = (t .legal, r); same = ap (λ (s : FactSet). added s x y k) (t .same) }
 
     represents-shift : (x k : ℕ) → x < vars .count → Slight k → Represents vars (shift H x k) (shifted f x k)
@@ -188,10 +188,10 @@ module _ (T : List ℤ) (h : Sections) (w : Limits h) where
   integer-kind : {v : ℕ} → IsInteger T h v → vars .pointer v ≡ false
   integer-kind {v} p = kind-of v (p .below) ∙ integer-no-pointer T h v (p .kind)
 
-  two-integers : {x y : ℕ} → IsInteger T h x → IsInteger T h y → Comparable vars x y
+  pub two-integers : {x y : ℕ} → IsInteger T h x → IsInteger T h y → Comparable vars x y
   two-integers a b = same-kind (a .below) (b .below) (integer-kind a ∙ sym (integer-kind b))
 
-  two-pointers : {x y : ℕ} → IsPointer T h x → IsPointer T h y → Comparable vars x y
+  pub two-pointers : {x y : ℕ} → IsPointer T h x → IsPointer T h y → Comparable vars x y
   two-pointers a b = same-kind (a .below) (b .below) (pointer-kind a ∙ sym (pointer-kind b))
 
   slight : {k : ℕ} → IsSmall k → Slight k

@@ -20,6 +20,8 @@ use Rattle.table.specs.Form.{lowestObject, lowestVariable, lowestStatement, ite
 use Rattle.blocks.specs.Layout.{also, when, contents, bundleLayout, blockLayout, layout}
 use Rattle.blocks.specs.Parts.{verdict}
 use Rattle.blocks.specs.Shape.{size}
+use Rattle.listed.specs.Entries.{entryAt, belongs, entriesFrom, entriesOf}
+use Rattle.listed.specs.ListForm.{lowestEntry, listFaults}
 use Rattle.blocks.specs.Tree.{simples, parse, tree, targets, assigned}
 use Rattle.rules.specs.BoundsRules.{forgetEnd, forgetBounds, objectBounds, rowBound, rowsAfter, weight, upperLimit}
 use Rattle.rules.specs.Stored.{effect, endAtMost, knownAtMost, boundsShown, unshownFrom, unshown, accessShown, equated, positive, differs}
@@ -146,7 +148,7 @@ routines =
     (Accepted) ∷
     []
 
-computed : map (λ (r : Routine). verdictOf (faults (r .table))) routines ≡ map (λ (r : Routine). r .verdict) routines
+computed : map (λ (r : Routine). verdictOf (faults (r .table) [])) routines ≡ map (λ (r : Routine). r .verdict) routines
 unfolding routines concatenated leastSum shown withinEnd endShown newRow newSet loweredRow lowered marked added ownRow reroutedRow reassigned ranged dropped
     shifted joinedSum joinedRow joined tabulate lengthRight isNumber fourPairs sectionsOf fourthRight directoryRight objectRight variableReads rowReads
     statementReads lowestFrom lowestObject lowestVariable lowestRow lowestStatement itemsForm formOf negation negatedOf startRight inLimits isVariable kindOf
@@ -160,20 +162,20 @@ unfolding routines concatenated leastSum shown withinEnd endShown newRow newSet 
     boundsRules.rowUnshown boundsRules.accessShown factRules.equated factRules.positive factRules.differs factRules.relationFacts factRules.conditionFacts
     factRules.sumFacts factRules.offsetFacts factRules.factsAfter among factRules.droppedEach factRules.loopFacts accessAt boundsAt sameRows rowsAt
     walkRules.bundleAfter walkRules.bundleBounds walkRules.bundleFaults walkRules.blockAfter walkRules.blockFaults environmentOf verdictRules.sectionFaults
-    verdictRules.faults verdictOf
+    verdictRules.faults verdictOf entryAt belongs entriesFrom entriesOf listFaults lowestEntry factRules.entryFacts walkRules.entriesUnshown
 computed = refl
 
 -- By the paper's chains, the rules give each routine its verdict.
 abbrev pub Given : List Routine → Type 0
 Given [] = Unit {0}
-Given (r ∷ rs) = Decided (r .table) (λ d. verdictOf (chainFaults d (r .table)) ≡ r .verdict) × Given rs
+Given (r ∷ rs) = Decided (r .table) (λ d. verdictOf (chainFaults d (r .table) []) ≡ r .verdict) × Given rs
 
-given : (rs : List Routine) → map (λ (r : Routine). verdictOf (faults (r .table))) rs ≡ map (λ (r : Routine). r .verdict) rs → Given rs
+given : (rs : List Routine) → map (λ (r : Routine). verdictOf (faults (r .table) [])) rs ≡ map (λ (r : Routine). r .verdict) rs → Given rs
 given [] e = tt
 given (r ∷ rs) e =
-    let e₁ : verdictOf (faults (r .table)) ≡ r .verdict = cc in
-    let e₂ : map (λ (r : Routine). verdictOf (faults (r .table))) rs ≡ map (λ (r : Routine). r .verdict) rs = cc in
-    (decided _ _ (λ d c. sym (verdict-agrees (r .table) d c) ∙ e₁), given rs e₂)
+    let e₁ : verdictOf (faults (r .table) []) ≡ r .verdict = cc in
+    let e₂ : map (λ (r : Routine). verdictOf (faults (r .table) [])) rs ≡ map (λ (r : Routine). r .verdict) rs = cc in
+    (decided _ _ (λ d c. sym (verdict-agrees (r .table) [] d c) ∙ e₁), given rs e₂)
 
 pub right : Given routines
 right = given routines computed

@@ -32,7 +32,7 @@ same-rows (x ∷ xs) (y ∷ ys) e =
     let p = both (eqb x y) (sameRows xs ys) e in
     ap₂ (λ (n : ℕ) (l : List ℕ). n ∷ l) (eqb-true x y (p .0)) (same-rows xs ys (p .1))
 
-no-fault : (b : Bool) (r : Refusal) → when b r ≡ [] → b ≡ false
+pub no-fault : (b : Bool) (r : Refusal) → when b r ≡ [] → b ≡ false
 unfolding when
 no-fault true r e = let z : _≡_ {A = ℕ} 0 1 = cc in absurd (omega arith)
 no-fault false r e = refl

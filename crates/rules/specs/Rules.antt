@@ -3,16 +3,19 @@ use Prim.Native.Nat.{ℕ, _+_}
 use mathlib.Core.Bool.{Bool, true, false, not, _&&_}
 use mathlib.Core.List.{List, [], _∷_}
 use lib.Dec.{eqb}
+use lib.IntN.{ℤ}
 use Rattle.answers.specs.declared.refusals.Refusal.{Refusal}
-use Rattle.answers.specs.declared.refusals.Refusal.the-variants.{StatementRecord, BoundsNotShown, BundleAccess, RowsDiffer}
+use Rattle.answers.specs.declared.refusals.Refusal.the-variants.{StatementRecord, BoundsNotShown, BundleAccess, RowsDiffer, LoopFact}
 use Rattle.conditions.specs.Conditions.{negatedOf}
 use Rattle.conditions.specs.declared.Condition.{Condition}
 use Rattle.statements.specs.declared.Simple.{Simple}
 use Rattle.blocks.specs.Tree.{Block, nil, plain, branch, loop, bundle, unread, assigned}
 use Rattle.blocks.specs.Layout.{also, when}
+use Rattle.listed.specs.Entries.{entriesOf}
+use Rattle.listed.specs.declared.Entry.{Entry}
 use Rattle.rules.specs.FactSets.{FactSets, State}
-use Rattle.rules.specs.FactRules.{factsAfter, conditionFacts, loopFacts}
-use Rattle.rules.specs.BoundsRules.{isPointer, effect, boundsAfter, unshown, accessShown, ownRows, inForce, rowsAfter, rowUnshown}
+use Rattle.rules.specs.FactRules.{factsAfter, conditionFacts, loopFacts, entryFacts}
+use Rattle.rules.specs.BoundsRules.{isPointer, effect, boundsAfter, unshown, accessShown, accessSafe, ownRows, inForce, rowsAfter, rowUnshown}
 use Rattle.rules.specs.declared.Bounds.{Bounds}
 use Rattle.rules.specs.declared.Environment.{Environment}
 
@@ -40,7 +43,12 @@ unfoldable pub rowsAt : ℕ → List ℕ → List ℕ → List Refusal
 rowsAt a R Q = when (not (sameRows R Q)) (RowsDiffer a)
 
 module _ (S : FactSets) where
-  open FactSets S using (Facts, new, joined)
+  open FactSets S using (Facts, new, joined, shown)
+
+  -- Point 9, 17: "its fact is not shown before the loop (found before the body) or at the body's end", lowest entry first.
+  unfoldable pub entriesUnshown : List Entry → Facts → List Refusal
+  entriesUnshown [] f = []
+  entriesUnshown (e ∷ es) f = also (when (not (shown f (e .left) (e .right) (e .offset))) (LoopFact (e .number))) (entriesUnshown es f)
 
   -- ---- what is handed on
 
@@ -56,9 +64,9 @@ module _ (S : FactSets) where
   abbrev pub assumed : State Facts → Condition → State Facts
   assumed w c = record { facts = conditionFacts S (w .facts) c; rows = w .rows }
 
-  -- At the head of a loop whose body assigns the targets.
-  abbrev pub atHead : List ℕ → State Facts → State Facts
-  atHead targets w = record { facts = loopFacts S targets (w .facts); rows = w .rows }
+  -- At the head of a loop whose body assigns the targets. Point 9: the dropped facts with all entries of the loop.
+  abbrev pub atHead : List Entry → List ℕ → State Facts → State Facts
+  atHead entries targets w = record { facts = entryFacts S entries (loopFacts S targets (w .facts)); rows = w .rows }
 
   -- What is asked of the declared bounds in force.
   abbrev pub unshownIn : Environment → State Facts → List Bounds → List ℕ
@@ -66,6 +74,10 @@ module _ (S : FactSets) where
 
   abbrev pub accessIn : Environment → State Facts → List Bounds → Simple → Bool
   accessIn E w K s = accessShown S (inForce E (w .rows)) (w .facts) K s
+
+  -- Point 9: the access is shown safe, by the declared ends in force.
+  abbrev pub safeIn : Environment → State Facts → Simple → Bool
+  safeIn E w s = accessSafe S (inForce E (w .rows)) (w .facts) s
 
   -- Outside a bundle the known bounds are the declared ones.
   abbrev pub declaredIn : Environment → State Facts → List Bounds
@@ -95,18 +107,21 @@ module _ (S : FactSets) where
     abbrev pub sidesJoined : State Facts → State Facts → State Facts
     sidesJoined w v = record { facts = joined (isPointer E) (w .facts) (v .facts); rows = w .rows }
 
+  -- L is the list of loop facts (point 9): "The list is lent beside the routine".
+  module _ (E : Environment) (L : List ℤ) where
     -- What a block leaves. "If: the negated condition holds in the else block; afterwards what both sides show. While: variables assigned in the
     -- body are dropped first; then the condition holds in the body and its negation after it."
     unfoldable pub blockAfter : Block → State Facts → State Facts
     blockAfter nil w = w
     blockAfter (plain a s r) w = blockAfter r (stateAfter s w)
-    blockAfter (branch a c t e r) w = blockAfter r (sidesJoined (blockAfter t (assumed w c)) (blockAfter e (assumed w (negatedOf c))))
-    blockAfter (loop a c t r) w = blockAfter r (assumed (atHead (assigned t) w) (negatedOf c))
+    blockAfter (branch a c t e r) w = blockAfter r (sidesJoined E (blockAfter t (assumed w c)) (blockAfter e (assumed w (negatedOf c))))
+    blockAfter (loop a c t r) w = blockAfter r (assumed (atHead (entriesOf L a) (assigned t) w) (negatedOf c))
     blockAfter (bundle a ss r) w = blockAfter r (bundleAfter ss w)
     blockAfter (unread a) w = w
 
     -- The faults of a block, "statements in table order": 9, then the statement, then 8. Point 11: "A statement whose facts contradict is now walked like any
-    -- other, with every fact shown." Point 2: "13 comes after all inside the blocks".
+    -- other, with every fact shown." Point 2: "13 comes after all inside the blocks". Point 9: an entry "not shown before the loop (found before the body) or at
+    -- the body's end (before 13)".
     unfoldable pub blockFaults : Block → State Facts → List Refusal
     blockFaults nil w = []
     blockFaults (plain a s r) w =
@@ -117,11 +132,13 @@ module _ (S : FactSets) where
         also (blockFaults t (assumed w c))
         (also (blockFaults e (assumed w (negatedOf c)))
         (also (rowsAt a (blockAfter t (assumed w c) .rows) (blockAfter e (assumed w (negatedOf c)) .rows))
-        (blockFaults r (sidesJoined (blockAfter t (assumed w c)) (blockAfter e (assumed w (negatedOf c)))))))
+        (blockFaults r (sidesJoined E (blockAfter t (assumed w c)) (blockAfter e (assumed w (negatedOf c)))))))
     blockFaults (loop a c t r) w =
-        also (blockFaults t (assumed (atHead (assigned t) w) c))
-        (also (rowsAt a (w .rows) (blockAfter t (assumed (atHead (assigned t) w) c) .rows))
-        (blockFaults r (assumed (atHead (assigned t) w) (negatedOf c))))
+        also (entriesUnshown (entriesOf L a) (w .facts))
+        (also (blockFaults t (assumed (atHead (entriesOf L a) (assigned t) w) c))
+        (also (entriesUnshown (entriesOf L a) (blockAfter t (assumed (atHead (entriesOf L a) (assigned t) w) c) .facts))
+        (also (rowsAt a (w .rows) (blockAfter t (assumed (atHead (entriesOf L a) (assigned t) w) c) .rows))
+        (blockFaults r (assumed (atHead (entriesOf L a) (assigned t) w) (negatedOf c))))))
     blockFaults (bundle a ss r) w =
         also (bundleFaults E (a + 1) ss w (declaredIn E w))
         (also (boundsAt a (unshownIn E (bundleAfter ss w) (bundleBounds E ss w (declaredIn E w))))

@@ -3,11 +3,13 @@ use Prim.Native.Nat.{ℕ, _+_}
 use mathlib.Core.Bool.{cond}
 use mathlib.Core.List.{List, [], _∷_}
 use lib.Dec.{ltb, eqb}
+use lib.IntN.{ℤ}
 use lib.ListN.{length}
 use Rattle.conditions.specs.Conditions.{negatedOf}
 use Rattle.statements.specs.declared.Simple.{Simple}
 use Rattle.blocks.specs.Tree.{Block, nil, plain, branch, loop, bundle, unread, assigned}
 use Rattle.blocks.specs.Shape.{size}
+use Rattle.listed.specs.Entries.{entriesOf}
 use Rattle.rules.specs.FactSets.{FactSets, State}
 use Rattle.rules.specs.Rules.{stateAfter, assumed, atHead, bundleAfter, sidesJoined, blockAfter}
 use Rattle.rules.specs.declared.Environment.{Environment}
@@ -20,7 +22,7 @@ module _ (S : FactSets) where
   lineBefore a [] w d = w
   lineBefore a (s ∷ ss) w d = cond (eqb d a) w (lineBefore (a + 1) ss (stateAfter S s w) d)
 
-  module _ (E : Environment) where
+  module _ (E : Environment) (L : List ℤ) where
     -- Before statement d of a block that is entered with the state w.
     unfoldable pub stateBefore : Block → State Facts → ℕ → State Facts
     stateBefore nil w d = w
@@ -29,11 +31,11 @@ module _ (S : FactSets) where
         cond (eqb d a) w
         (cond (ltb d (a + 1 + size t)) (stateBefore t (assumed S w c) d)
         (cond (ltb d (a + 1 + size t + size e)) (stateBefore e (assumed S w (negatedOf c)) d)
-        (stateBefore r (sidesJoined S E (blockAfter S E t (assumed S w c)) (blockAfter S E e (assumed S w (negatedOf c)))) d)))
+        (stateBefore r (sidesJoined S E (blockAfter S E L t (assumed S w c)) (blockAfter S E L e (assumed S w (negatedOf c)))) d)))
     stateBefore (loop a c t r) w d =
         cond (eqb d a) w
-        (cond (ltb d (a + 1 + size t)) (stateBefore t (assumed S (atHead S (assigned t) w) c) d)
-        (stateBefore r (assumed S (atHead S (assigned t) w) (negatedOf c)) d))
+        (cond (ltb d (a + 1 + size t)) (stateBefore t (assumed S (atHead S (entriesOf L a) (assigned t) w) c) d)
+        (stateBefore r (assumed S (atHead S (entriesOf L a) (assigned t) w) (negatedOf c)) d))
     stateBefore (bundle a ss r) w d =
         cond (eqb d a) w (cond (ltb d (a + 1 + length ss)) (lineBefore (a + 1) ss w d) (stateBefore r (bundleAfter S ss w) d))
     stateBefore (unread a) w d = w

@@ -15,6 +15,7 @@ use Rattle.statements.specs.Typed.{SimpleTyped}
 use Rattle.statements.specs.declared.Simple.{Simple}
 use Rattle.blocks.specs.Tree.{Block, assigned}
 use Rattle.blocks.specs.Shape.{Reads}
+use Rattle.listed.specs.declared.Entry.{Entry}
 use Rattle.rules.specs.FactSets.{State}
 use Rattle.rules.specs.BoundsRules.{rowsAfter}
 use Rattle.rules.specs.Rules.{newState, stateAfter, assumed, atHead, sidesJoined}
@@ -23,6 +24,7 @@ use Rattle.rules.specs.Stored.{store}
 use Rattle.rules.specs.ByChains.{Decider, Decides, byChains, variables}
 use Rattle.rules.specs.Representation.{Represents, represents-new, represents-join, condition-represented}
 use Rattle.rules.specs.Representation.{negated-represented, after-represented, body-represented}
+use Rattle.rules.specs.ListedLaws.{EntriesRight, entries-represented}
 
 pub record StateRepresents (vars : Variables) (U : State History) (W : State FactSet) : Type 0 where
   pub represents : Represents vars (U .facts) (W .facts)
@@ -55,5 +57,7 @@ module _ (T : List ℤ) (h : Sections) (w : Limits h) (q : Decider) (right : Dec
         → StateRepresents vars (assumed (byChains q) U (negatedOf c)) (assumed store W (negatedOf c))
     state-negated c s = record { represents = negated-represented T h w q right (t .represents) c s; rows = t .rows }
 
-    pub state-at-head : (b : Block) → Reads T h b → StateRepresents vars (atHead (byChains q) (assigned b) U) (atHead store (assigned b) W)
-    state-at-head b r = record { represents = body-represented T h w q right (t .represents) b r; rows = t .rows }
+    pub state-at-head : (es : List Entry) → EntriesRight T h w es → (b : Block) → Reads T h b
+        → StateRepresents vars (atHead (byChains q) es (assigned b) U) (atHead store es (assigned b) W)
+    state-at-head es e b r =
+        record { represents = entries-represented T h w q right es e (body-represented T h w q right (t .represents) b r); rows = t .rows }

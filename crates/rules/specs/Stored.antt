@@ -14,6 +14,7 @@ use Rattle.statements.specs.declared.Simple.{Simple}
 use Rattle.table.specs.declared.variables.End.{End}
 use Rattle.table.specs.declared.Form.{Form}
 use Rattle.blocks.specs.Tree.{Block}
+use Rattle.listed.specs.declared.Entry.{Entry}
 use Rattle.rules.specs.FactSets.{FactSets, State}
 use Rattle.rules.specs.FactRules as facts
 use Rattle.rules.specs.BoundsRules as bounds
@@ -81,6 +82,9 @@ droppedEach = facts.droppedEach store
 abbrev pub loopFacts : List ℕ → FactSet → FactSet
 loopFacts = facts.loopFacts store
 
+abbrev pub entryFacts : List Entry → FactSet → FactSet
+entryFacts = facts.entryFacts store
+
 -- ---- bounds
 
 abbrev pub shiftEnd : ℕ → ℕ → ℕ → KnownEnd → KnownEnd
@@ -119,7 +123,16 @@ rowUnshown = bounds.rowUnshown store
 abbrev pub accessShown : Environment → FactSet → List Bounds → Simple → Bool
 accessShown = bounds.accessShown store
 
+abbrev pub addressSafe : FactSet → ℕ → ℕ → ℕ → Bounds → Bool
+addressSafe = bounds.addressSafe store
+
+abbrev pub accessSafe : Environment → FactSet → Simple → Bool
+accessSafe = bounds.accessSafe store
+
 -- ---- the walk
+
+abbrev pub entriesUnshown : List Entry → FactSet → List Refusal
+entriesUnshown = walk.entriesUnshown store
 
 abbrev pub newState : State FactSet
 newState = walk.newState store
@@ -130,7 +143,7 @@ stateAfter = walk.stateAfter store
 abbrev pub assumed : State FactSet → Condition → State FactSet
 assumed = walk.assumed store
 
-abbrev pub atHead : List ℕ → State FactSet → State FactSet
+abbrev pub atHead : List Entry → List ℕ → State FactSet → State FactSet
 atHead = walk.atHead store
 
 abbrev pub unshownIn : Environment → State FactSet → List Bounds → List ℕ
@@ -138,6 +151,9 @@ unshownIn = walk.unshownIn store
 
 abbrev pub accessIn : Environment → State FactSet → List Bounds → Simple → Bool
 accessIn = walk.accessIn store
+
+abbrev pub safeIn : Environment → State FactSet → Simple → Bool
+safeIn = walk.safeIn store
 
 abbrev pub declaredIn : Environment → State FactSet → List Bounds
 declaredIn = walk.declaredIn store
@@ -154,19 +170,19 @@ bundleFaults = walk.bundleFaults store
 abbrev pub sidesJoined : Environment → State FactSet → State FactSet → State FactSet
 sidesJoined = walk.sidesJoined store
 
-abbrev pub blockAfter : Environment → Block → State FactSet → State FactSet
+abbrev pub blockAfter : Environment → List ℤ → Block → State FactSet → State FactSet
 blockAfter = walk.blockAfter store
 
-abbrev pub blockFaults : Environment → Block → State FactSet → List Refusal
+abbrev pub blockFaults : Environment → List ℤ → Block → State FactSet → List Refusal
 blockFaults = walk.blockFaults store
 
 -- ---- the verdict
 
-abbrev pub sectionFaults : List ℤ → Sections → List Refusal
+abbrev pub sectionFaults : List ℤ → Sections → List ℤ → List Refusal
 sectionFaults = verdict.sectionFaults store
 
-abbrev pub formFaults : List ℤ → Form → List Refusal
+abbrev pub formFaults : List ℤ → List ℤ → Form → List Refusal
 formFaults = verdict.formFaults store
 
-abbrev pub faults : List ℤ → List Refusal
+abbrev pub faults : List ℤ → List ℤ → List Refusal
 faults = verdict.faults store

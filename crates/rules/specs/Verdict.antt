@@ -18,6 +18,7 @@ use Rattle.table.specs.declared.Form.{Form}
 use Rattle.table.specs.declared.Form.the-variants as form
 use Rattle.blocks.specs.Tree.{tree}
 use Rattle.blocks.specs.Layout.{also, layout}
+use Rattle.listed.specs.ListForm.{listFaults}
 use Rattle.rules.specs.FactSets.{FactSets}
 use Rattle.rules.specs.BoundsRules.{nothingKnown, upperLimit}
 use Rattle.rules.specs.Rules.{newState, blockFaults}
@@ -63,18 +64,18 @@ environmentOf T h =
 -- ---- the verdict
 
 module _ (S : FactSets) where
-  -- Cause 6, then the walk.
-  unfoldable pub sectionFaults : List ℤ → Sections → List Refusal
-  sectionFaults T h = also (layout T h) (blockFaults S (environmentOf T h) (tree T h) (newState S))
+  -- Cause 6, then the form of the list L of loop facts (point 9: "found after 6, before the walk"), then the walk.
+  unfoldable pub sectionFaults : List ℤ → Sections → List ℤ → List Refusal
+  sectionFaults T h L = also (layout T h) (also (listFaults T h L) (blockFaults S (environmentOf T h) L (tree T h) (newState S)))
 
   -- The first of the causes 1 to 5, else what follows them.
-  abbrev pub formFaults : List ℤ → Form → List Refusal
-  formFaults T (form.Refused r) = r ∷ []
-  formFaults T (form.WellFormed h) = sectionFaults T h
+  abbrev pub formFaults : List ℤ → List ℤ → Form → List Refusal
+  formFaults T L (form.Refused r) = r ∷ []
+  formFaults T L (form.WellFormed h) = sectionFaults T h L
 
-  -- The faults of a table in the order of the paper, of causes 1 to 5 the first alone. The first is the verdict; a table with none is accepted.
-  unfoldable pub faults : List ℤ → List Refusal
-  faults T = formFaults T (formOf T)
+  -- The faults of a table and its list in the order of the paper, of causes 1 to 5 the first alone. The first is the verdict; a table with none is accepted.
+  unfoldable pub faults : List ℤ → List ℤ → List Refusal
+  faults T L = formFaults T L (formOf T)
 
 -- The verdict: "accepted if the printed rules accept it and refused, by the first rule it breaks, if they do not".
 unfoldable pub verdictOf : List Refusal → Verdict

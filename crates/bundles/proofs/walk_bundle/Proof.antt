@@ -17,11 +17,11 @@ use Rattle.rules.specs.Verdict.{environmentOf}
 use Rattle.declared.specs.Force.{stateOf}
 
 abbrev Inv-loop : tie.InvT-loop
-Inv-loop table sections head count sizes spans rows₀ seen₀ known₀ facts₀ at₀ left₀ rows seen known facts at left =
-    Held table sections (environmentOf table sections) head count (stateOf facts₀ (rows₀ .each)) (inForce (environmentOf table sections) (rows₀ .each) .declared) at left facts (rows .each) seen (known .each)
+Inv-loop table sections head count sizes spans rows₀ seen₀ known₀ facts₀ report₀ at₀ left₀ rows seen known facts report at left =
+    Held table sections (environmentOf table sections) head count (stateOf facts₀ (rows₀ .each)) (inForce (environmentOf table sections) (rows₀ .each) .declared) (report₀ .words) at left facts (rows .each) seen (known .each) (report .words)
 
 abbrev μ-loop : tie.MeasureT-loop
-μ-loop table sections head count sizes spans rows₀ seen₀ known₀ facts₀ at₀ left₀ rows seen known facts at left = left
+μ-loop table sections head count sizes spans rows₀ seen₀ known₀ facts₀ report₀ at₀ left₀ rows seen known facts report at left = left
 
 pub walk-bundle-spec : {M : Type 1} → statement M
 walk-bundle-spec =
@@ -29,7 +29,7 @@ walk-bundle-spec =
     (tie.spec
     Inv-loop μ-loop
     (λ c. search needs)  -- add-at
-    (λ c. held-none _ _ _ _ _ _ _ (c .before .before .before .before .before .pre .3 .seen) refl)
+    (λ c. held-none _ _ _ _ _ _ _ _ (c .before .before .before .before .before .pre .3 .seen) refl)
     (λ c κs. search needs) (λ c. search needs) (λ c. search needs) (λ c. search needs)
     (λ c. omega (
       arith,
@@ -65,29 +65,32 @@ walk-bundle-spec =
     (c .before .access-shown .ensures) (not-true _ (c .if1 .taken)) refl)
     (λ c κs. (read-ranged _ _ _ _ ((sym (c .before .before .before .before .before .before .before .before .before .before .before .read-due .ensures) ∙ c .before .before .before .before .before .before .before .before .before .got .given .1)
     ∙ ap Read (c .before .before .before .before .before .before .statement .given .1))))
-    (λ c κs. search needs)
+    (λ c κs. omega (arith, read-within _ _ _ _ (sym (c .before .before .before .before .before .before .before .before .before .before .before .before .read-due .ensures) ∙ c .before .before .before .before .before .before .before .before .before .before .got .given .1), read-limits _ _ _ _ (sym (c .before .before .before .before .before .before .before .before .before .before .before .before .read-due .ensures) ∙ c .before .before .before .before .before .before .before .before .before .before .got .given .1)))
     (λ c κs. (read-ranged _ _ _ _ ((sym (c .before .before .before .before .before .before .before .before .before .before .before .before .before .read-due .ensures) ∙ c .before .before .before .before .before .before .before .before .before .before .before .got .given .1)
     ∙ ap Read (c .before .before .before .before .before .before .before .before .statement .given .1))))
-    (λ c κs. applied-short (environmentOf (now (c .before .before .before .before .before .before .before .before .before .before .before .before .before .before .before .before .before .before .before .before .before .before .args .table))
-    (c .before .before .before .before .before .before .before .before .before .before .before .before .before .before .before .before .before .before .before .before .before .before .args .sections)) _ _
-    (measured-by _ _ (c .before .before .before .before .before .before .before .before .before .before .before .before .before .before .before .before .before .before .before .before .before .before .pre .2) (carried-out _ _ _ _ _ (c .before .before .ask-statement .ensures)
-    (c .before .answer .ensures) (c .plan-statement .ensures) refl)) (c .before .before .before .before .before .before .before .before .before .before .before .before .before .before .before .before .before .before .before .before .before .before .pre .0)
-    (read-ranged _ _ _ _ ((sym (c .before .before .before .before .before .before .before .before .before .before .before .before .before .before .read-due .ensures) ∙ c .before .before .before .before .before .before .before .before .before .before .before .before .got .given .1)
-    ∙ ap Read (c .before .before .before .before .before .before .before .before .before .statement .given .1))))
     (λ c κs. search needs)
-    (λ c. omega (arith, (c .before .before .before .before .before .before .before .before .before .before .before .before .before .before .before .before .before .loop-test .taken)))
-    (λ c. held-more (c .before .before .before .before .before .before .before .before .before .before .before .before .before .before .before .before .before .before .loop .inv)
-    (c .before .before .before .before .before .before .before .before .before .before .before .before .before .before .before .before .before .loop-test .taken)
-    (sym (c .before .before .before .before .before .before .before .before .before .before .before .before .before .before .before .before .read-due .ensures) ∙ c .before .before .before .before .before .before .before .before .before .before .before .before .before .before .got .given .1)
-    (c .before .before .before .before .before .before .before .before .before .before .before .statement .given .1) (sym (c .before .before .before .before .before .before .before .before .before .declares-of .ensures)
-    ∙ c .before .before .before .before .before .before .before .enum-told4 .given .1) (c .before .before .before .before .before .before .access-shown .ensures) (not-false _ (c .before .before .before .before .before .if1 .left))
-    (applied-facts (environmentOf (now (c .before .before .before .before .before .before .before .before .before .before .before .before .before .before .before .before .before .before .before .before .before .before .before .before .args .table))
+    (λ c κs. (read-ranged _ _ _ _ ((sym (c .before .before .before .before .before .before .before .before .before .before .before .before .before .before .before .read-due .ensures) ∙ c .before .before .before .before .before .before .before .before .before .before .before .before .before .got .given .1)
+    ∙ ap Read (c .before .before .before .before .before .before .before .before .before .before .statement .given .1))))
+    (λ c κs. applied-short (environmentOf (now (c .before .before .before .before .before .before .before .before .before .before .before .before .before .before .before .before .before .before .before .before .before .before .before .before .args .table))
     (c .before .before .before .before .before .before .before .before .before .before .before .before .before .before .before .before .before .before .before .before .before .before .before .before .args .sections)) _ _
-    (measured-by _ _ (c .before .before .before .before .before .before .before .before .before .before .before .before .before .before .before .before .before .before .before .before .before .before .before .before .pre .2)
+    (measured-by _ _ (c .before .before .before .before .before .before .before .before .before .before .before .before .before .before .before .before .before .before .before .before .before .before .before .before .pre .2) (carried-out _ _ _ _ _ (c .before .before .ask-statement .ensures)
+    (c .before .answer .ensures) (c .plan-statement .ensures) refl)) (c .before .before .before .before .before .before .before .before .before .before .before .before .before .before .before .before .before .before .before .before .before .before .before .before .pre .0)
+    (read-ranged _ _ _ _ ((sym (c .before .before .before .before .before .before .before .before .before .before .before .before .before .before .before .before .read-due .ensures) ∙ c .before .before .before .before .before .before .before .before .before .before .before .before .before .before .got .given .1)
+    ∙ ap Read (c .before .before .before .before .before .before .before .before .before .before .before .statement .given .1))))
+    (λ c κs. search needs)
+    (λ c. omega (arith, (c .before .before .before .before .before .before .before .before .before .before .before .before .before .before .before .before .before .before .before .loop-test .taken)))
+    (λ c. held-more (c .before .before .before .before .before .before .before .before .before .before .before .before .before .before .before .before .before .before .before .before .loop .inv)
+    (c .before .before .before .before .before .before .before .before .before .before .before .before .before .before .before .before .before .before .before .loop-test .taken)
+    (sym (c .before .before .before .before .before .before .before .before .before .before .before .before .before .before .before .before .before .before .read-due .ensures) ∙ c .before .before .before .before .before .before .before .before .before .before .before .before .before .before .before .before .got .given .1)
+    (c .before .before .before .before .before .before .before .before .before .before .before .before .before .statement .given .1) (sym (c .before .before .before .before .before .before .before .before .before .before .before .declares-of .ensures)
+    ∙ c .before .before .before .before .before .before .before .before .before .enum-told4 .given .1) (c .before .before .before .before .before .before .before .before .access-shown .ensures) (not-false _ (c .before .before .before .before .before .before .before .if1 .left)) (c .before .before .before .before .before .before .access-safe .ensures) (c .before .before .before .before .before .mark-if .ensures)
+    (applied-facts (environmentOf (now (c .before .before .before .before .before .before .before .before .before .before .before .before .before .before .before .before .before .before .before .before .before .before .before .before .before .before .args .table))
+    (c .before .before .before .before .before .before .before .before .before .before .before .before .before .before .before .before .before .before .before .before .before .before .before .before .before .before .args .sections)) _ _
+    (measured-by _ _ (c .before .before .before .before .before .before .before .before .before .before .before .before .before .before .before .before .before .before .before .before .before .before .before .before .before .before .pre .2)
     (carried-out _ _ _ _ _ (c .before .before .before .before .ask-statement .ensures) (c .before .before .before .answer .ensures) (c .before .before .plan-statement .ensures) (c .after .ensures))))
-    (applied-effect (environmentOf (now (c .before .before .before .before .before .before .before .before .before .before .before .before .before .before .before .before .before .before .before .before .before .before .before .before .args .table))
-    (c .before .before .before .before .before .before .before .before .before .before .before .before .before .before .before .before .before .before .before .before .before .before .before .before .args .sections)) _ _
-    (measured-by _ _ (c .before .before .before .before .before .before .before .before .before .before .before .before .before .before .before .before .before .before .before .before .before .before .before .before .pre .2)
+    (applied-effect (environmentOf (now (c .before .before .before .before .before .before .before .before .before .before .before .before .before .before .before .before .before .before .before .before .before .before .before .before .before .before .args .table))
+    (c .before .before .before .before .before .before .before .before .before .before .before .before .before .before .before .before .before .before .before .before .before .before .before .before .before .before .args .sections)) _ _
+    (measured-by _ _ (c .before .before .before .before .before .before .before .before .before .before .before .before .before .before .before .before .before .before .before .before .before .before .before .before .before .before .pre .2)
     (carried-out _ _ _ _ _ (c .before .before .before .before .ask-statement .ensures) (c .before .before .before .answer .ensures) (c .before .before .plan-statement .ensures) (c .after .ensures)))) (c .before .bounds-after2 .ensures))
     (λ c κs. search needs)
     (λ c. ⊎-elim (λ w. held-done (c .before .before .loop .inv) (w .left) (c .end-bundle .ensures)) (⊎-elim (λ w. held-unread (c .before .before .loop .inv) (w .0 .taken) (sym (w .1 .ensures) ∙ w .3 .given .1) (c .end-bundle .ensures))

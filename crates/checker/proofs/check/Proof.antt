@@ -8,7 +8,7 @@ pub check-spec : {M : Type 1} → statement M
 check-spec =
     tie.close
     (tie.spec
-    (λ c κs. search needs) (λ c. search needs) (λ c. search needs)
+    (λ c κs. search needs) (λ c. search needs) (λ c κs. search needs) (λ c. search needs)
     (λ c κs. form-formed _ (c .before .before .before .read-form .ensures) (c .before .form2 .given .1))
-    (λ c. form-refused _ (c .before .before .before .read-form .ensures) (c .before .form .given .1))
-    (λ c. form-checked _ (c .before .before .before .before .read-form .ensures) (c .before .before .form2 .given .1) (c .check-sections .ensures)))
+    (λ c. form-refused _ _ (c .before .before .before .before .read-form .ensures) (c .before .before .form .given .1) (c .refuse .ensures))
+    (λ c. form-checked _ _ (c .before .before .before .before .read-form .ensures) (c .before .before .form2 .given .1) (c .check-sections .ensures)))

@@ -9,5 +9,6 @@ mizzengrape-run-spec =
     tie.close
     (tie.spec
     (λ c. no-room-to-run (c .if1 .taken))
+    (λ c. search needs)
     (λ c κs. search needs) (λ c κs. search needs) (λ c. search needs) (λ c. search needs) (λ c. search needs)
-    (λ c. ran-words _ (c .before .before .before .before .before .before .before .before .before .before .before .if1 .left) (c .before .before .before .before .before .before .before .before .run .ensures) (c .before .before .put-outcome .ensures)))
+    (λ c. ran-words _ (c .before .before .before .before .before .before .before .before .before .before .before .before .if1 .left) (c .before .before .before .before .before .before .before .before .run .ensures) (c .before .before .put-outcome .ensures)))

@@ -11,6 +11,6 @@ run-spec =
     tie.close
     (tie.spec
     (λ c κs. search needs) (λ c. search needs) (λ c. search needs)
-    (λ c κs. accepted-clear _ (stored-verdict _ _ (c .before .before .before .before .check .ensures)) (c .before .before .enum-told .given .1))
-    (λ c. run-judged _ _ _ _ _ _ _ _ _ (check-refused _ _ _ _ _ _ _ (stored-verdict _ _ (rw (c .before .verdict .given .1) at (c .before .before .before .check .ensures)))))
+    (λ c κs. accepted-clear _ (stored-verdict _ _ _ (c .before .before .before .before .check .ensures .0)) (c .before .before .enum-told .given .1))
+    (λ c. run-judged _ _ _ _ _ _ _ _ _ _ (check-refused _ _ _ _ _ _ _ _ (stored-verdict _ _ _ (rw (c .before .verdict .given .1) at (c .before .before .before .check .ensures .0)))))
     (λ c. search needs) (λ c. search needs) (λ c. search (needs, run-judged)))

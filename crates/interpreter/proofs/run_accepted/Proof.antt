@@ -11,5 +11,5 @@ run-accepted-spec =
     (tie.spec
     (λ c κs. search needs) (λ c. search needs) (λ c. search needs)
     (λ c κs. (sym (c .before .before .before .before .before .read-form .ensures) ∙ c .before .before .before .form2 .given .1, c .before .before .before .before .before .before .before .before .before .before .pre))
-    (λ c. absurd (no-form-refused _ _ (c .before .before .before .before .before .before .before .before .pre) (sym (c .before .before .before .read-form .ensures) ∙ c .before .form .given .1)))
+    (λ c. absurd (no-form-refused _ _ _ (c .before .before .before .before .before .before .before .before .pre) (sym (c .before .before .before .read-form .ensures) ∙ c .before .form .given .1)))
     (λ c. search needs) (λ c. search needs) (λ c. search needs))

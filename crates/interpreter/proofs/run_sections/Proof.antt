@@ -20,7 +20,7 @@ run-sections-spec =
     }) (c .before .before .before .before .before .before .before .before .before .before .before .before .before .read-environment .ensures) (c .before .before .before .before .before .before .before .before .before .before .enter .ensures)
     (c .before .before .before .before .before .before .before .before .enum-told .given .1) (c .before .before .before .before .before .before .before .lay-ends .ensures) (c .before .before .before .before .before .write-successors .ensures) (search needs)) _)
     (λ c. search needs) (λ c. search needs)
-    (λ c. entry-refused _ _ _ _ _ _ _ _ (c .before .before .before .before .before .before .before .before .before .before .before .pre .0) (c .before .before .before .before .before .before .before .before .before .before .before .pre .1)
+    (λ c. entry-refused _ _ _ _ _ _ _ _ _ (c .before .before .before .before .before .before .before .before .before .before .before .pre .0) (c .before .before .before .before .before .before .before .before .before .before .before .pre .1)
     (rw (c .before .before .before .before .before .before .read-environment .ensures) at (sym (c .before .before .before .enter .ensures) ∙ c .before .entry .given .1)))
     (λ c. search needs) (λ c. search needs)
     (λ c. launched-ran (launched _ (c .before .before .before .before .before .before .before .before .before .before .before .before .before .before .before .before .before .before .before .before .before .before .before .before .pre .0)

@@ -14,7 +14,7 @@ use Rattle.effects.specs.FactRulesLaws.{carried-out, assumed, negated-asked}
 use Rattle.bundles.specs.BundleLaws.{applied-short, measured-by}
 use Rattle.checker.specs.WalkLaws.{Kept, Turn, arm, placed, falls as left-falls, negated-offset, if-counts, while-count, bundle-count, if-offset, while-offset, plain-ranged, kept-none, kept-done, kept-end, kept-unread, plain-refused}
 use Rattle.checker.specs.PlaceLaws.{then-placed, else-placed, body-placed}
-use Rattle.checker.specs.WalkLaws.{turn-plain, turn-untouched, at-node, then-refused, else-refused, turn-if, body-refused, turn-while, bundle-refused, turn-bundle, row-named-within, same-force, row-refused, turn-row, sides-differ, ends-differ}
+use Rattle.checker.specs.WalkLaws.{turn-plain, turn-untouched, at-node, then-refused, else-refused, turn-if, body-refused, turn-while, bundle-refused, turn-bundle, row-named-within, same-force, row-refused, turn-row, sides-differ, ends-differ, before-refused, again-refused}
 use Rattle.checker.proofs.walk.walk.Reads as walk
 use Rattle.checker.proofs.walk.walk.Kinds as walk-kinds
 use Rattle.checker.proofs.walk.+walk.Lts-walk as walk-lts
@@ -35,18 +35,22 @@ use Rattle.checker.proofs.walk.+walk.{statement}
 use Rattle.checker.proofs.walk.+walk.Tie.{close}
 use Rattle.declared.specs.Force.{stateOf}
 use Rattle.declared.proofs.declares_of.Reads as declares-of-reads
+use Rattle.declared.proofs.access_safe.Reads as access-safe-reads
+use Rattle.reports.proofs.mark_if.Reads as mark-if-reads
+use Rattle.effects.proofs.entries.assume_entries.Reads as assume-entries-reads
+use Rattle.effects.proofs.entries.check_entries.Reads as check-entries-reads
 use Rattle.declared.proofs.force.declare_row.Reads as declare-row-reads
 use Rattle.declared.proofs.force.force_of.Reads as force-of-reads
 use Rattle.declared.proofs.force.same_rows.Reads as same-rows-reads
 
-abbrev μ-walk : Measures 1 walk-kinds.ps ℕ
-μ-walk κs a = a .1 .1 .1 .1 .1 .1 .0
+abbrev μ-walk : Measures 2 walk-kinds.ps ℕ
+μ-walk κs a = a .1 .1 .1 .1 .1 .1 .1 .0
 
-abbrev walk-at : ℕ → In 1 walk-kinds.ps
-walk-at t = and 1 walk-kinds.ps (is 1 walk-kinds.ps μ-walk t) walk.Pre
+abbrev walk-at : ℕ → In 2 walk-kinds.ps
+walk-at t = and 2 walk-kinds.ps (is 2 walk-kinds.ps μ-walk t) walk.Pre
 
-abbrev walk-below : ℕ → In 1 walk-kinds.ps
-walk-below t = and 1 walk-kinds.ps (falls 1 walk-kinds.ps _<_ μ-walk t) walk.Pre
+abbrev walk-below : ℕ → In 2 walk-kinds.ps
+walk-below t = and 2 walk-kinds.ps (falls 2 walk-kinds.ps _<_ μ-walk t) walk.Pre
 
 abbrev callees : ℕ → walk-lts.Claims
 callees t = (
@@ -56,6 +60,10 @@ callees t = (
   declares-of-reads.Learnt,
   declare-row-reads.Asked,
   declare-row-reads.Learnt,
+  access-safe-reads.Asked,
+  access-safe-reads.Learnt,
+  mark-if-reads.Asked,
+  mark-if-reads.Learnt,
   ask-statement-reads.Asked,
   ask-statement-reads.Learnt,
   answer-reads.Asked,
@@ -82,45 +90,55 @@ callees t = (
   join-reads.Learnt,
   force-of-reads.Asked,
   force-of-reads.Learnt,
+  check-entries-reads.Asked,
+  check-entries-reads.Learnt,
   lose-reads.Asked,
   lose-reads.Learnt,
+  assume-entries-reads.Asked,
+  assume-entries-reads.Learnt,
   walk-bundle-reads.Asked,
   walk-bundle-reads.Learnt,
 )
 
 abbrev Inv : walk-lts.InvT-loop
-Inv table sections frame first end allowed sizes spans pointers at₀ left₀ force₀ now₀ side₀ at left force now side = Kept table sections (environmentOf table sections) end allowed (parse allowed table sections first end) (stateOf (now₀ .facts) (force₀ .rows .each)) at left (now .facts) force
+Inv table sections listed frame first end allowed sizes spans pointers at₀ left₀ force₀ now₀ side₀ at left force now side = Kept table sections (environmentOf table sections) listed end allowed (parse allowed table sections first end) (stateOf (now₀ .facts) (force₀ .rows .each)) (now₀ .report .words) at left (now .facts) force (now .report .words)
 
 abbrev μ : walk-lts.MeasureT-loop
-μ table sections frame first end allowed sizes spans pointers at₀ left₀ force₀ now₀ side₀ at left force now side = left
+μ table sections listed frame first end allowed sizes spans pointers at₀ left₀ force₀ now₀ side₀ at left force now side = left
 
 -- the turn, once its statement is read
 turn : (t : ℕ) (d : walk-lts.After-known-told (callees t) (walk-at t) walk.Post Inv μ)
-    → let a = d .before .before .before .before .before .before .before .before .before .before .before .before .args in let l = d .before .before .before .before .before .before .before .loop in
-    Turn (now (a .table)) (a .sections) (environmentOf (now (a .table)) (a .sections)) (a .end) (a .allowed) (parse (a .allowed) (now (a .table)) (a .sections) (a .first) (a .end)) (stateOf (a .given) (a .begun .rows .each))
-    (l .at) (l .left) (l .now .facts) (l .force) (d .before .got .given .0 .0)
+    → let a = d .before .before .before .before .before .before .before .before .before .before .before .before .before .args in let l = d .before .before .before .before .before .before .before .before .loop in
+    Turn (now (a .table)) (a .sections) (environmentOf (now (a .table)) (a .sections)) (now (a .listed)) (a .end) (a .allowed) (parse (a .allowed) (now (a .table)) (a .sections) (a .first) (a .end)) (stateOf (a .given) (a .begun .rows .each))
+    (a .reported .words) (l .at) (l .left) (l .now .facts) (l .force) (l .now .report .words) (d .before .got .given .0 .0)
 turn t d = record {
-  so-far = d .before .before .before .before .before .before .before .loop .inv;
-  some = d .before .before .before .before .before .before .loop-test .taken;
-  within = d .before .before .before .before .before .if1 .left;
+  so-far = d .before .before .before .before .before .before .before .before .loop .inv;
+  some = d .before .before .before .before .before .before .before .loop-test .taken;
+  within = d .before .before .before .before .before .before .if1 .left;
   read = sym (d .before .before .before .read-due .ensures) ∙ d .before .got .given .1;
 }
 
 pub +walk-spec : {M : Type 1} → statement M
 +walk-spec = close μ-walk λ t. walk-lts.spec (callees t) (walk-at t) walk.Post Inv μ
-    (λ c. let p = c .before .before .before .before .pre .1 in kept-none _ _ _ _ _ _ _ _ (p .2) (p .3))
-    (λ c. search needs) (λ c κs. search needs) (λ c. search needs) (λ c. search needs)
-    (λ c. kept-unread (c .before .before .before .before .before .before .before .loop .inv) (c .before .before .before .before .before .before .loop-test .taken) (c .before .before .before .before .before .if1 .left) (sym (c .before .before .before .read-due .ensures) ∙
+    (λ c. let p = c .before .before .before .before .pre .1 in kept-none _ _ _ _ _ _ _ _ _ _ (p .2) (p .3))
+    (λ c. search needs)
+    (λ c κs. search needs)
+    (λ c. search needs)
+    (λ c. search needs)
+    (λ c. kept-unread (c .before .before .before .before .before .before .before .before .loop .inv) (c .before .before .before .before .before .before .before .loop-test .taken) (c .before .before .before .before .before .before .if1 .left) (sym (c .before .before .before .read-due .ensures) ∙
     c .before .enum-told .given .1) refl)
     (λ c. omega (arith, placed (turn t c)))
-    (λ c. search needs) (λ c κs. search needs) (λ c. search needs)
+    (λ c. search needs)
+    (λ c κs. search needs)
+    (λ c. search needs)
     (λ c κs. let l = row-named-within (arm (turn t (c .before .before .before .before .before .before .before)) (c .before .before .before .before .before .statement .given .1)) (sym (c .before .before .before .declares-of .ensures) ∙ c .before .declares .given .1) in (
       (turn t
           (c .before .before .before .before .before .before .before)) .so-far .forced,
       l .0,
       omega (arith, l .0, l .1),
     ))
-    (λ c. search needs) (λ c. search needs)
+    (λ c. search needs)
+    (λ c. search needs)
     (λ c. row-refused (arm (turn t (c .before .before .before .before .before .before .before .before .before .before .before)) (c .before .before .before .before .before .before .before .before .before .statement .given .1)) (sym
     (c .before .before .before .before .before .before .before .declares-of .ensures) ∙ c .before .before .before .before .before .declares .given .1) (c .before .before .before .declare-row .ensures) refl (c .before .enum-told3 .given .1))
     (λ c. omega (arith, (turn t (c .before .before .before .before .before .before .before .before .before .before .before)) .some))
@@ -128,35 +146,39 @@ pub +walk-spec : {M : Type 1} → statement M
     (c .before .before .before .before .before .before .before .declares-of .ensures) ∙ c .before .before .before .before .before .declares .given .1) (c .before .before .before .declare-row .ensures) (c .before .enum-told2 .given .1))
     (λ c. search needs)
     (λ c κs. plain-ranged (arm (turn t (c .before .before .before .before .before .before)) (c .before .before .before .before .statement .given .1)))
-    (λ c κs. search needs)
+    (λ c κs. placed (turn t (c .before .before .before .before .before .before .before)))
     (λ c κs. plain-ranged (arm (turn t (c .before .before .before .before .before .before .before .before)) (c .before .before .before .before .before .before .statement .given .1)))
-    (λ c κs. search needs) (λ c κs. search needs)
-    (λ c κs. applied-short (environmentOf (now (c .before .before .before .before .before .before .before .before .before .before .before .before .before .before .before .before .before .before .before .before .before .before .before .before .args .table))
-    (c .before .before .before .before .before .before .before .before .before .before .before .before .before .before .before .before .before .before .before .before .before .before .before .before .args .sections)) _ _ (measured-by _ _
-    (c .before .before .before .before .before .before .before .before .before .before .before .before .before .before .before .before .before .before .before .before .before .before .before .before .pre .1 .1) (carried-out _ _ _ _ _
+    (λ c κs. search needs)
+    (λ c κs. plain-ranged (arm (turn t (c .before .before .before .before .before .before .before .before .before .before)) (c .before .before .before .before .before .before .before .before .statement .given .1)))
+    (λ c κs. search needs)
+    (λ c κs. search needs)
+    (λ c κs. applied-short (environmentOf (now (c .before .before .before .before .before .before .before .before .before .before .before .before .before .before .before .before .before .before .before .before .before .before .before .before .before .before .before .args .table))
+    (c .before .before .before .before .before .before .before .before .before .before .before .before .before .before .before .before .before .before .before .before .before .before .before .before .before .before .before .args .sections)) _ _ (measured-by _ _
+    (c .before .before .before .before .before .before .before .before .before .before .before .before .before .before .before .before .before .before .before .before .before .before .before .before .before .before .before .pre .1 .1) (carried-out _ _ _ _ _
     (c .before .before .before .before .before .ask-statement .ensures) (c .before .before .before .before .answer .ensures) (c .before .before .before .plan-statement .ensures) (c .before .before .after .ensures)))
-    (c .before .before .before .before .before .before .before .before .before .before .before .before .before .before .before .before .before .before .before .before .before .before .before .before .pre .1 .0) (plain-ranged (arm (turn t
-    (c .before .before .before .before .before .before .before .before .before .before .before .before)) (c .before .before .before .before .before .before .before .before .before .before .statement .given .1))))
-    (λ c. search needs) (λ c. search needs)
-    (λ c. plain-refused (arm (turn t (c .before .before .before .before .before .before .before .before .before .before .before .before .before .before .before .before))
-    (c .before .before .before .before .before .before .before .before .before .before .before .before .before .before .statement .given .1)) (sym (c .before .before .before .before .before .before .before .before .before .before .before .before .declares-of .ensures) ∙
-    c .before .before .before .before .before .before .before .before .before .before .enum-told4 .given .1) (measured-by _ _
-    (c .before .before .before .before .before .before .before .before .before .before .before .before .before .before .before .before .before .before .before .before .before .before .before .before .before .before .before .before .pre .1 .1) (carried-out _ _ _ _ _
+    (c .before .before .before .before .before .before .before .before .before .before .before .before .before .before .before .before .before .before .before .before .before .before .before .before .before .before .before .pre .1 .0) (plain-ranged (arm (turn t
+    (c .before .before .before .before .before .before .before .before .before .before .before .before .before .before)) (c .before .before .before .before .before .before .before .before .before .before .before .before .statement .given .1))))
+    (λ c. search needs)
+    (λ c. search needs)
+    (λ c. plain-refused (arm (turn t (c .before .before .before .before .before .before .before .before .before .before .before .before .before .before .before .before .before .before))
+    (c .before .before .before .before .before .before .before .before .before .before .before .before .before .before .before .before .statement .given .1)) (sym (c .before .before .before .before .before .before .before .before .before .before .before .before .before .before .declares-of .ensures) ∙
+    c .before .before .before .before .before .before .before .before .before .before .before .before .enum-told4 .given .1) (measured-by _ _
+    (c .before .before .before .before .before .before .before .before .before .before .before .before .before .before .before .before .before .before .before .before .before .before .before .before .before .before .before .before .before .before .before .pre .1 .1) (carried-out _ _ _ _ _
     (c .before .before .before .before .before .before .before .before .before .ask-statement .ensures) (c .before .before .before .before .before .before .before .before .answer .ensures) (c .before .before .before .before .before .before .before .plan-statement .ensures)
     (c .before .before .before .before .before .before .after .ensures))) (c .before .before .before .check-effect .ensures) refl (c .before .enum-told6 .given .1))
-    (λ c. omega (arith, (turn t (c .before .before .before .before .before .before .before .before .before .before .before .before .before .before .before)) .some))
-    (λ c. turn-plain (arm (turn t (c .before .before .before .before .before .before .before .before .before .before .before .before .before .before .before))
-    (c .before .before .before .before .before .before .before .before .before .before .before .before .before .statement .given .1)) (sym (c .before .before .before .before .before .before .before .before .before .before .before .declares-of .ensures) ∙
-    c .before .before .before .before .before .before .before .before .before .enum-told4 .given .1) (measured-by _ _
-    (c .before .before .before .before .before .before .before .before .before .before .before .before .before .before .before .before .before .before .before .before .before .before .before .before .before .before .before .pre .1 .1) (carried-out _ _ _ _ _
+    (λ c. omega (arith, (turn t (c .before .before .before .before .before .before .before .before .before .before .before .before .before .before .before .before .before)) .some))
+    (λ c. turn-plain (arm (turn t (c .before .before .before .before .before .before .before .before .before .before .before .before .before .before .before .before .before))
+    (c .before .before .before .before .before .before .before .before .before .before .before .before .before .before .before .statement .given .1)) (sym (c .before .before .before .before .before .before .before .before .before .before .before .before .before .declares-of .ensures) ∙
+    c .before .before .before .before .before .before .before .before .before .before .before .enum-told4 .given .1) (measured-by _ _
+    (c .before .before .before .before .before .before .before .before .before .before .before .before .before .before .before .before .before .before .before .before .before .before .before .before .before .before .before .before .before .before .pre .1 .1) (carried-out _ _ _ _ _
     (c .before .before .before .before .before .before .before .before .ask-statement .ensures) (c .before .before .before .before .before .before .before .answer .ensures) (c .before .before .before .before .before .before .plan-statement .ensures)
-    (c .before .before .before .before .before .after .ensures))) (c .before .before .check-effect .ensures) (c .enum-told5 .given .1))
-    (λ c. omega (arith, (turn t (c .before .before .before .before .before .before .before .before .before .before .before .before)) .some))
-    (λ c. turn-untouched (arm (turn t (c .before .before .before .before .before .before .before .before .before .before .before .before)) (c .before .before .before .before .before .before .before .before .before .before .statement .given .1)) (sym
-    (c .before .before .before .before .before .before .before .before .declares-of .ensures) ∙ c .before .before .before .before .before .before .enum-told4 .given .1) (measured-by _ _
-    (c .before .before .before .before .before .before .before .before .before .before .before .before .before .before .before .before .before .before .before .before .before .before .before .before .pre .1 .1) (carried-out _ _ _ _ _
-    (c .before .before .before .before .before .ask-statement .ensures) (c .before .before .before .before .answer .ensures) (c .before .before .before .plan-statement .ensures) (c .before .before .after .ensures)))
-    (c .before .before .before .before .before .before .before .before .before .before .before .before .before .before .before .before .before .before .before .before .before .before .before .before .pre .1 .1 .pointers) (sym (c .before .touches .ensures) ∙ c .if2 .left))
+    (c .before .before .before .before .before .after .ensures))) (c .before .before .check-effect .ensures) (c .before .before .before .before .before .before .before .before .before .before .access-safe .ensures) (c .before .before .before .before .before .before .before .before .before .mark-if .ensures) (c .enum-told5 .given .1))
+    (λ c. omega (arith, (turn t (c .before .before .before .before .before .before .before .before .before .before .before .before .before .before)) .some))
+    (λ c. turn-untouched (arm (turn t (c .before .before .before .before .before .before .before .before .before .before .before .before .before .before)) (c .before .before .before .before .before .before .before .before .before .before .before .before .statement .given .1)) (sym
+    (c .before .before .before .before .before .before .before .before .before .before .declares-of .ensures) ∙ c .before .before .before .before .before .before .before .before .enum-told4 .given .1) (measured-by _ _
+    (c .before .before .before .before .before .before .before .before .before .before .before .before .before .before .before .before .before .before .before .before .before .before .before .before .before .before .before .pre .1 .1) (carried-out _ _ _ _ _
+    (c .before .before .before .before .before .ask-statement .ensures) (c .before .before .before .before .answer .ensures) (c .before .before .before .plan-statement .ensures) (c .before .before .after .ensures))) (c .before .before .before .before .before .before .before .access-safe .ensures) (c .before .before .before .before .before .before .mark-if .ensures)
+    (c .before .before .before .before .before .before .before .before .before .before .before .before .before .before .before .before .before .before .before .before .before .before .before .before .before .before .before .pre .1 .1 .pointers) (sym (c .before .touches .ensures) ∙ c .if2 .left))
     (λ c. search needs)
     (λ c. let u = (arm (turn t (c .before .before .before)) (c .before .statement2 .given .1)) in omega (arith, placed u, if-counts u))
     (λ c. let u = (arm (turn t (c .before .before .before)) (c .before .statement2 .given .1)) in omega (arith, placed u, if-counts u))
@@ -165,15 +187,17 @@ pub +walk-spec : {M : Type 1} → statement M
     (λ c κs. if-offset (arm (turn t (c .before .before .before .before .before)) (c .before .before .before .statement2 .given .1)))
     (λ c κs. search needs)
     (λ c κs. (
-      left-falls (turn t (c .before .before .before .before .before .before .before)) (c .before .before .before .before .before .before .before .before .before .before .before .before .before .before .before .before .before .before .before .pre .0),
+      left-falls (turn t (c .before .before .before .before .before .before .before)) (c .before .before .before .before .before .before .before .before .before .before .before .before .before .before .before .before .before .before .before .before .pre .0),
       (
-        c .before .before .before .before .before .before .before .before .before .before .before .before .before .before .before .before .before .before .before .pre .1 .0,
-        c .before .before .before .before .before .before .before .before .before .before .before .before .before .before .before .before .before .before .before .pre .1 .1,
+        c .before .before .before .before .before .before .before .before .before .before .before .before .before .before .before .before .before .before .before .before .pre .1 .0,
+        c .before .before .before .before .before .before .before .before .before .before .before .before .before .before .before .before .before .before .before .before .pre .1 .1,
         (turn t (c .before .before .before .before .before .before .before)) .so-far .forced,
         let u = arm (turn t (c .before .before .before .before .before .before .before)) (c .before .before .before .before .before .statement2 .given .1) in then-placed (u .read) (at-node u),
+        c .before .before .before .before .before .before .before .before .before .before .before .before .before .before .before .before .before .before .before .before .pre .1 .4,
       ),
     ))
-    (λ c. search needs) (λ c. search needs)
+    (λ c. search needs)
+    (λ c. search needs)
     (λ c. then-refused (arm (turn t (c .before .before .before .before .before .before .before .before .before .before)) (c .before .before .before .before .before .before .before .before .statement2 .given .1)) (assumed _ _ _
     (c .before .before .before .before .before .before .ask-condition .ensures) (c .before .before .before .before .before .answer2 .ensures) (c .before .before .before .before .assume .ensures) (c .before .before .before .after2 .ensures)) (c .before .before .walk .ensures)
     (c .enum-told8 .given .1))
@@ -182,16 +206,18 @@ pub +walk-spec : {M : Type 1} → statement M
     (λ c κs. search needs)
     (λ c κs. (
       left-falls (turn t (c .before .before .before .before .before .before .before .before .before .before .before .before .before))
-          (c .before .before .before .before .before .before .before .before .before .before .before .before .before .before .before .before .before .before .before .before .before .before .before .before .before .pre .0),
+          (c .before .before .before .before .before .before .before .before .before .before .before .before .before .before .before .before .before .before .before .before .before .before .before .before .before .before .pre .0),
       (
-        c .before .before .before .before .before .before .before .before .before .before .before .before .before .before .before .before .before .before .before .before .before .before .before .before .before .pre .1 .0,
-        c .before .before .before .before .before .before .before .before .before .before .before .before .before .before .before .before .before .before .before .before .before .before .before .before .before .pre .1 .1,
+        c .before .before .before .before .before .before .before .before .before .before .before .before .before .before .before .before .before .before .before .before .before .before .before .before .before .before .pre .1 .0,
+        c .before .before .before .before .before .before .before .before .before .before .before .before .before .before .before .before .before .before .before .before .before .before .before .before .before .before .pre .1 .1,
         (turn t
             (c .before .before .before .before .before .before .before .before .before .before .before .before .before)) .so-far .forced,
         let u = arm (turn t (c .before .before .before .before .before .before .before .before .before .before .before .before .before)) (c .before .before .before .before .before .before .before .before .before .before .before .statement2 .given .1) in else-placed (u .read) (at-node u),
+        c .before .before .before .before .before .before .before .before .before .before .before .before .before .before .before .before .before .before .before .before .before .before .before .before .before .before .pre .1 .4,
       ),
     ))
-    (λ c. search needs) (λ c. search needs)
+    (λ c. search needs)
+    (λ c. search needs)
     (λ c. else-refused (arm (turn t (c .before .before .before .before .before .before .before .before .before .before .before .before .before .before .before .before))
     (c .before .before .before .before .before .before .before .before .before .before .before .before .before .before .statement2 .given .1)) (assumed _ _ _
     (c .before .before .before .before .before .before .before .before .before .before .before .before .ask-condition .ensures) (c .before .before .before .before .before .before .before .before .before .before .before .answer2 .ensures)
@@ -211,7 +237,9 @@ pub +walk-spec : {M : Type 1} → statement M
     (c .before .before .before .before .before .before .before .before .before .before .before .before .before .before .before .answer2 .ensures) (c .before .before .before .before .before .before .before .before .assume2 .ensures)
     (c .before .before .before .before .before .before .before .after3 .ensures)) (c .before .before .before .before .before .before .walk2 .ensures) (c .before .before .before .before .enum-told9 .given .1) (c .before .before .same-rows .ensures) (not-true _
     (c .before .if3 .taken)) refl)
-    (λ c κs. search needs) (λ c κs. search needs) (λ c κs. search needs)
+    (λ c κs. search needs)
+    (λ c κs. search needs)
+    (λ c κs. search needs)
     (λ c. omega (arith, (turn t (c .before .before .before .before .before .before .before .before .before .before .before .before .before .before .before .before .before .before .before .before .before .before .before)) .some))
     (λ c. turn-if (arm (turn t (c .before .before .before .before .before .before .before .before .before .before .before .before .before .before .before .before .before .before .before .before .before .before .before))
     (c .before .before .before .before .before .before .before .before .before .before .before .before .before .before .before .before .before .before .before .before .before .statement2 .given .1)) (assumed _ _ _
@@ -226,7 +254,7 @@ pub +walk-spec : {M : Type 1} → statement M
     (c .before .before .before .before .before .before .before .before .before .before .before .assume2 .ensures) (c .before .before .before .before .before .before .before .before .before .before .after3 .ensures))
     (c .before .before .before .before .before .before .before .before .before .walk2 .ensures) (c .before .before .before .before .before .before .before .enum-told9 .given .1) (c .before .before .before .before .before .same-rows .ensures) (not-false _
     (c .before .before .before .before .if3 .left))
-    (c .before .before .before .before .before .before .before .before .before .before .before .before .before .before .before .before .before .before .before .before .before .before .before .before .before .before .before .before .before .before .before .before .before .before .before .pre .1 .1
+    (c .before .before .before .before .before .before .before .before .before .before .before .before .before .before .before .before .before .before .before .before .before .before .before .before .before .before .before .before .before .before .before .before .before .before .before .before .pre .1 .1
     .pointers) (c .before .before .before .join .ensures) (c .force-of .ensures))
     (λ c. omega (arith, (turn t (c .before .before .before .before .before .before .before .before .before .before .before .before .before .before .before .before .before .before .before .before .before .before)) .some))
     (λ c. turn-if (arm (turn t (c .before .before .before .before .before .before .before .before .before .before .before .before .before .before .before .before .before .before .before .before .before .before))
@@ -241,61 +269,62 @@ pub +walk-spec : {M : Type 1} → statement M
     (c .before .before .before .before .before .before .before .before .before .before .before .before .before .before .before .before .before .answer2 .ensures) (c .before .before .before .before .before .before .before .before .before .before .assume2 .ensures)
     (c .before .before .before .before .before .before .before .before .before .after3 .ensures)) (c .before .before .before .before .before .before .before .before .walk2 .ensures) (c .before .before .before .before .before .before .enum-told9 .given .1)
     (c .before .before .before .before .same-rows .ensures) (not-false _ (c .before .before .before .if3 .left))
-    (c .before .before .before .before .before .before .before .before .before .before .before .before .before .before .before .before .before .before .before .before .before .before .before .before .before .before .before .before .before .before .before .before .before .before .pre .1 .1
+    (c .before .before .before .before .before .before .before .before .before .before .before .before .before .before .before .before .before .before .before .before .before .before .before .before .before .before .before .before .before .before .before .before .before .before .before .pre .1 .1
     .pointers) (c .before .before .join .ensures)
     (same-force ((turn t (c .before .before .before .before .before .before .before .before .before .before .before .before .before .before .before .before .before .before .before .before .before .before)) .so-far .forced) (c .before .same-rows2 .ensures) (not-false _ (c .if4 .left))))
     (λ c. search needs)
     (λ c. let u = (arm (turn t (c .before .before .before)) (c .before .statement3 .given .1)) in omega (arith, placed u, while-count u))
-    (λ c κs. let u = (arm (turn t (c .before .before .before)) (c .before .statement3 .given .1)) in omega (arith, placed u, while-count u))
-    (λ c κs. while-offset (arm (turn t (c .before .before .before .before)) (c .before .before .statement3 .given .1)))
+    (λ c κs. (c .before .before .before .before .before .before .before .before .before .before .before .before .before .before .before .before .pre .1 .4, omega (arith, placed (turn t (c .before .before .before)))))
+    (λ c. search needs)
+    (λ c. search needs)
+    (λ c. before-refused (arm (turn t (c .before .before .before .before .before .before .before)) (c .before .before .before .before .before .statement3 .given .1)) (c .before .before .before .check-entries .ensures) refl (c .before .enum-told12 .given .1))
+    (λ c κs. let u = (arm (turn t (c .before .before .before .before .before .before)) (c .before .before .before .before .statement3 .given .1)) in omega (arith, placed u, while-count u))
+    (λ c κs. (c .before .before .before .before .before .before .before .before .before .before .before .before .before .before .before .before .before .before .before .before .pre .1 .4, omega (arith, placed (turn t (c .before .before .before .before .before .before .before)))))
+    (λ c κs. while-offset (arm (turn t (c .before .before .before .before .before .before .before .before)) (c .before .before .before .before .before .before .statement3 .given .1)))
     (λ c κs. search needs)
-    (λ c κs. while-offset (arm (turn t (c .before .before .before .before .before .before)) (c .before .before .before .before .statement3 .given .1)))
+    (λ c κs. while-offset (arm (turn t (c .before .before .before .before .before .before .before .before .before .before)) (c .before .before .before .before .before .before .before .before .statement3 .given .1)))
     (λ c κs. search needs)
     (λ c κs. (
-      left-falls (turn t (c .before .before .before .before .before .before .before .before)) (c .before .before .before .before .before .before .before .before .before .before .before .before .before .before .before .before .before .before .before .before .pre .0),
+      left-falls (turn t (c .before .before .before .before .before .before .before .before .before .before .before .before)) (c .before .before .before .before .before .before .before .before .before .before .before .before .before .before .before .before .before .before .before .before .before .before .before .before .before .pre .0),
       (
-        c .before .before .before .before .before .before .before .before .before .before .before .before .before .before .before .before .before .before .before .before .pre .1 .0,
-        c .before .before .before .before .before .before .before .before .before .before .before .before .before .before .before .before .before .before .before .before .pre .1 .1,
-        (turn t (c .before .before .before .before .before .before .before .before)) .so-far .forced,
-        let u = arm (turn t (c .before .before .before .before .before .before .before .before)) (c .before .before .before .before .before .before .statement3 .given .1) in body-placed (u .read) (at-node u),
+        c .before .before .before .before .before .before .before .before .before .before .before .before .before .before .before .before .before .before .before .before .before .before .before .before .before .pre .1 .0,
+        c .before .before .before .before .before .before .before .before .before .before .before .before .before .before .before .before .before .before .before .before .before .before .before .before .before .pre .1 .1,
+        (turn t (c .before .before .before .before .before .before .before .before .before .before .before .before)) .so-far .forced,
+        let u = (arm (turn t (c .before .before .before .before .before .before .before .before .before .before .before .before)) (c .before .before .before .before .before .before .before .before .before .before .statement3 .given .1)) in body-placed (u .read) (at-node u),
+        c .before .before .before .before .before .before .before .before .before .before .before .before .before .before .before .before .before .before .before .before .before .before .before .before .before .pre .1 .4,
       ),
     ))
-    (λ c. search needs) (λ c. search needs)
-    (λ c. body-refused (arm (turn t (c .before .before .before .before .before .before .before .before .before .before .before)) (c .before .before .before .before .before .before .before .before .before .statement3 .given .1))
-    (c .before .before .before .before .before .before .before .lose .ensures) (assumed _ _ _ (c .before .before .before .before .before .before .ask-condition2 .ensures) (c .before .before .before .before .before .answer3 .ensures)
-    (c .before .before .before .before .assume3 .ensures) (c .before .before .before .after4 .ensures)) (c .before .before .walk3 .ensures) (c .enum-told12 .given .1))
+    (λ c. search needs)
+    (λ c. search needs)
+    (λ c. body-refused (arm (turn t (c .before .before .before .before .before .before .before .before .before .before .before .before .before .before .before)) (c .before .before .before .before .before .before .before .before .before .before .before .before .before .statement3 .given .1)) (c .before .before .before .before .before .before .before .before .before .before .before .check-entries .ensures) (c .before .before .before .before .before .before .before .before .before .enum-told11 .given .1) (c .before .before .before .before .before .before .before .before .lose .ensures) (c .before .before .before .before .before .before .before .assume-entries .ensures) (assumed _ _ _ (c .before .before .before .before .before .before .ask-condition2 .ensures) (c .before .before .before .before .before .answer3 .ensures) (c .before .before .before .before .assume3 .ensures) (c .before .before .before .after4 .ensures)) (c .before .before .walk3 .ensures) (c .enum-told14 .given .1))
+    (λ c κs. (c .before .before .before .before .before .before .before .before .before .before .before .before .before .before .before .before .before .before .before .before .before .before .before .before .before .before .before .before .pre .1 .4, omega (arith, placed (turn t (c .before .before .before .before .before .before .before .before .before .before .before .before .before .before .before)))))
+    (λ c. search needs)
+    (λ c. search needs)
+    (λ c. again-refused (arm (turn t (c .before .before .before .before .before .before .before .before .before .before .before .before .before .before .before .before .before .before .before)) (c .before .before .before .before .before .before .before .before .before .before .before .before .before .before .before .before .before .statement3 .given .1)) (c .before .before .before .before .before .before .before .before .before .before .before .before .before .before .before .check-entries .ensures) (c .before .before .before .before .before .before .before .before .before .before .before .before .before .enum-told11 .given .1) (c .before .before .before .before .before .before .before .before .before .before .before .before .lose .ensures) (c .before .before .before .before .before .before .before .before .before .before .before .assume-entries .ensures) (assumed _ _ _ (c .before .before .before .before .before .before .before .before .before .before .ask-condition2 .ensures) (c .before .before .before .before .before .before .before .before .before .answer3 .ensures) (c .before .before .before .before .before .before .before .before .assume3 .ensures) (c .before .before .before .before .before .before .before .after4 .ensures)) (c .before .before .before .before .before .before .walk3 .ensures) (c .before .before .before .before .enum-told13 .given .1) (c .before .before .before .check-entries2 .ensures) refl (c .before .enum-told16 .given .1))
     (λ c κs. search needs)
-    (λ c. ends-differ (arm (turn t (c .before .before .before .before .before .before .before .before .before .before .before .before .before .before)) (c .before .before .before .before .before .before .before .before .before .before .before .before .statement3 .given .1))
-    (c .before .before .before .before .before .before .before .before .before .before .lose .ensures) (assumed _ _ _ (c .before .before .before .before .before .before .before .before .before .ask-condition2 .ensures)
-    (c .before .before .before .before .before .before .before .before .answer3 .ensures) (c .before .before .before .before .before .before .before .assume3 .ensures) (c .before .before .before .before .before .before .after4 .ensures))
-    (c .before .before .before .before .before .walk3 .ensures) (c .before .before .before .enum-told11 .given .1) (c .before .before .same-rows3 .ensures) (not-true _ (c .before .if5 .taken)) refl)
+    (λ c. ends-differ (arm (turn t (c .before .before .before .before .before .before .before .before .before .before .before .before .before .before .before .before .before .before .before .before .before)) (c .before .before .before .before .before .before .before .before .before .before .before .before .before .before .before .before .before .before .before .statement3 .given .1)) (c .before .before .before .before .before .before .before .before .before .before .before .before .before .before .before .before .before .check-entries .ensures) (c .before .before .before .before .before .before .before .before .before .before .before .before .before .before .before .enum-told11 .given .1) (c .before .before .before .before .before .before .before .before .before .before .before .before .before .before .lose .ensures) (c .before .before .before .before .before .before .before .before .before .before .before .before .before .assume-entries .ensures) (assumed _ _ _ (c .before .before .before .before .before .before .before .before .before .before .before .before .ask-condition2 .ensures) (c .before .before .before .before .before .before .before .before .before .before .before .answer3 .ensures) (c .before .before .before .before .before .before .before .before .before .before .assume3 .ensures) (c .before .before .before .before .before .before .before .before .before .after4 .ensures)) (c .before .before .before .before .before .before .before .before .walk3 .ensures) (c .before .before .before .before .before .before .enum-told13 .given .1) (c .before .before .before .before .before .check-entries2 .ensures) (c .before .before .before .enum-told15 .given .1) (c .before .before .same-rows3 .ensures) (not-true _ (c .before .if5 .taken)) refl)
     (λ c κs. search needs)
-    (λ c κs. negated-offset _ _ (c .negated2 .ensures) (while-offset (arm (turn t (c .before .before .before .before .before .before .before .before .before .before .before .before .before .before))
-    (c .before .before .before .before .before .before .before .before .before .before .before .before .statement3 .given .1))))
+    (λ c κs. negated-offset _ _ (c .negated2 .ensures) (while-offset (arm (turn t (c .before .before .before .before .before .before .before .before .before .before .before .before .before .before .before .before .before .before .before .before .before)) (c .before .before .before .before .before .before .before .before .before .before .before .before .before .before .before .before .before .before .before .statement3 .given .1))))
     (λ c κs. search needs)
-    (λ c. omega (arith, (turn t (c .before .before .before .before .before .before .before .before .before .before .before .before .before .before .before .before)) .some))
-    (λ c. turn-while (arm (turn t (c .before .before .before .before .before .before .before .before .before .before .before .before .before .before .before .before))
-    (c .before .before .before .before .before .before .before .before .before .before .before .before .before .before .statement3 .given .1)) (c .before .before .before .before .before .before .before .before .before .before .before .before .lose .ensures) (assumed _ _ _
-    (c .before .before .before .before .before .before .before .before .before .before .before .ask-condition2 .ensures) (c .before .before .before .before .before .before .before .before .before .before .answer3 .ensures)
-    (c .before .before .before .before .before .before .before .before .before .assume3 .ensures) (c .before .before .before .before .before .before .before .before .after4 .ensures)) (c .before .before .before .before .before .before .before .walk3 .ensures)
-    (c .before .before .before .before .before .enum-told11 .given .1) (c .before .before .before .before .same-rows3 .ensures) (not-false _ (c .before .before .before .if5 .left)) (c .before .before .negated2 .ensures) (assumed _ _ _ (negated-asked _ _
-    (c .before .before .negated2 .ensures) (c .before .before .before .before .before .before .before .before .before .before .before .ask-condition2 .ensures)) (c .before .before .before .before .before .before .before .before .before .before .answer3 .ensures)
-    (c .before .assume4 .ensures) (c .after5 .ensures)))
+    (λ c. omega (arith, (turn t (c .before .before .before .before .before .before .before .before .before .before .before .before .before .before .before .before .before .before .before .before .before .before .before .before)) .some))
+    (λ c. turn-while (arm (turn t (c .before .before .before .before .before .before .before .before .before .before .before .before .before .before .before .before .before .before .before .before .before .before .before .before)) (c .before .before .before .before .before .before .before .before .before .before .before .before .before .before .before .before .before .before .before .before .before .before .statement3 .given .1)) (c .before .before .before .before .before .before .before .before .before .before .before .before .before .before .before .before .before .before .before .before .check-entries .ensures) (c .before .before .before .before .before .before .before .before .before .before .before .before .before .before .before .before .before .before .enum-told11 .given .1) (c .before .before .before .before .before .before .before .before .before .before .before .before .before .before .before .before .before .lose .ensures) (c .before .before .before .before .before .before .before .before .before .before .before .before .before .before .before .before .assume-entries .ensures) (assumed _ _ _ (c .before .before .before .before .before .before .before .before .before .before .before .before .before .before .before .ask-condition2 .ensures) (c .before .before .before .before .before .before .before .before .before .before .before .before .before .before .answer3 .ensures) (c .before .before .before .before .before .before .before .before .before .before .before .before .before .assume3 .ensures) (c .before .before .before .before .before .before .before .before .before .before .before .before .after4 .ensures)) (c .before .before .before .before .before .before .before .before .before .before .before .walk3 .ensures) (c .before .before .before .before .before .before .before .before .before .enum-told13 .given .1) (c .before .before .before .before .before .before .before .before .check-entries2 .ensures) (c .before .before .before .before .before .before .enum-told15 .given .1) (c .before .before .before .before .before .same-rows3 .ensures) (not-false _ (c .before .before .before .before .if5 .left)) (c .before .before .before .negated2 .ensures) (assumed _ _ _ (negated-asked _ _ (c .before .before .before .negated2 .ensures) (c .before .before .before .before .before .before .before .before .before .before .before .before .before .before .before .ask-condition2 .ensures)) (c .before .before .before .before .before .before .before .before .before .before .before .before .before .before .answer3 .ensures) (c .before .before .assume4 .ensures) (c .before .after5 .ensures)))
     (λ c. search needs)
     (λ c. let u = (arm (turn t (c .before .before .before)) (c .before .statement4 .given .1)) in omega (arith, placed u, bundle-count u))
     (λ c κs. (
-      c .before .before .before .before .before .before .before .before .before .before .before .before .before .before .before .pre .1 .0,
+      c .before .before .before .before .before .before .before .before .before .before .before .before .before .before .before .before .pre .1 .0,
       omega (arith, placed (turn t (c .before .before .before))),
-      c .before .before .before .before .before .before .before .before .before .before .before .before .before .before .before .pre .1 .1,
+      c .before .before .before .before .before .before .before .before .before .before .before .before .before .before .before .before .pre .1 .1,
       (turn t (c .before .before .before)) .so-far .forced,
     ))
-    (λ c. search needs) (λ c. search needs)
-    (λ c. bundle-refused (arm (turn t (c .before .before .before .before .before .before)) (c .before .before .before .before .statement4 .given .1)) (c .before .before .walk-bundle .ensures) (c .enum-told14 .given .1))
-    (λ c κs. search needs) (λ c κs. search needs)
+    (λ c. search needs)
+    (λ c. search needs)
+    (λ c. bundle-refused (arm (turn t (c .before .before .before .before .before .before)) (c .before .before .before .before .statement4 .given .1)) (c .before .before .walk-bundle .ensures) (c .enum-told18 .given .1))
+    (λ c κs. search needs)
+    (λ c κs. search needs)
     (λ c. omega (arith, (turn t (c .before .before .before .before .before .before .before .before .before .before)) .some))
     (λ c. turn-bundle (arm (turn t (c .before .before .before .before .before .before .before .before .before .before)) (c .before .before .before .before .before .before .before .before .statement4 .given .1))
-    (c .before .before .before .before .before .before .walk-bundle .ensures) (c .before .before .before .before .enum-told13 .given .1) (c .force-of2 .ensures))
+    (c .before .before .before .before .before .before .walk-bundle .ensures) (c .before .before .before .before .enum-told17 .given .1) (c .force-of2 .ensures))
     (λ c. omega (arith, (turn t (c .before .before .before .before .before .before .before .before .before)) .some))
     (λ c. turn-bundle (arm (turn t (c .before .before .before .before .before .before .before .before .before)) (c .before .before .before .before .before .before .before .statement4 .given .1)) (c .before .before .before .before .before .walk-bundle .ensures)
-    (c .before .before .before .enum-told13 .given .1) (same-force ((turn t (c .before .before .before .before .before .before .before .before .before)) .so-far .forced) (c .before .same-rows4 .ensures) (not-false _ (c .if6 .left))))
-    (λ c. ⊎-elim (λ w. kept-done (c .before .before .before .loop .inv) (w .left) refl refl refl) (λ w. kept-end (c .before .before .before .loop .inv) (w .1 .taken) refl refl refl) (c .before .before .loop-test .came))
+    (c .before .before .before .enum-told17 .given .1) (same-force ((turn t (c .before .before .before .before .before .before .before .before .before)) .so-far .forced) (c .before .same-rows4 .ensures) (not-false _ (c .if6 .left))))
+    (λ c. ⊎-elim (λ w. kept-done (c .before .before .before .before .loop .inv) (w .left) refl refl refl refl) (λ w. kept-end (c .before .before .before .before .loop .inv) (w .1 .taken) refl refl refl refl) (c .before .before .before .loop-test .came))
