@@ -136,27 +136,27 @@ fn put_report(numbers: &mut [u32], report: Report) -> u32
 }
 
 // Checks a routine with a list of loop facts, four words an entry. The fourth answer word is the number of accesses reported; their statements are put in
-// ascending order at the front of `numbers`. False, and nothing written, where the answer has fewer than four words or `numbers` fewer than 1,024.
+// ascending order at the front of `report`. False, and nothing written, where the answer has fewer than four words or the report fewer than 1,024.
 #[no_mangle]
 pub extern "C" fn mizzengrape_check_with_facts(
     table: &[i32],
-    listed: &[i32],
+    facts: &[i32],
+    report: &mut [u32],
     answer: &mut [u32],
-    numbers: &mut [u32],
 ) -> bool
-    ensures { λ r. ⌜ CheckReport (now (table .entry)) (now (listed .entry)) (now (answer .entry)) (now (numbers .entry)) r (now (answer .exit))
-        (now (numbers .exit)) ⌝ }
+    ensures { λ r. ⌜ CheckReport (now (table .entry)) (now (facts .entry)) (now (answer .entry)) (now (report .entry)) r (now (answer .exit))
+        (now (report .exit)) ⌝ }
 {
     if answer.len() < 4 {
         return false;
     }
-    if numbers.len() < 1024 {
+    if report.len() < 1024 {
         return false;
     }
-    let checked = checker::check(table, listed);
+    let checked = checker::check(table, facts);
     let verdict = checked.verdict;
     put_verdict(answer, verdict);
-    let count = put_report(numbers, checked.report);
+    let count = put_report(report, checked.report);
     answer[3] = count;
     true
 }
@@ -194,7 +194,7 @@ pub extern "C" fn mizzengrape_run(
 #[no_mangle]
 pub extern "C" fn mizzengrape_run_with_facts(
     table: &[i32],
-    listed: &[i32],
+    facts: &[i32],
     directory: &[u32],
     cells: &mut [u32],
     values: &mut [u32],
@@ -204,7 +204,7 @@ pub extern "C" fn mizzengrape_run_with_facts(
 ) -> bool
     ensures { λ r. ⌜ RunWords (record {
       table = now (table .entry);
-      listed = now (listed .entry);
+      listed = now (facts .entry);
       directory = now (directory .entry);
       cells = now (cells .entry);
       values = now (values .entry);
@@ -214,7 +214,7 @@ pub extern "C" fn mizzengrape_run_with_facts(
     if answer.len() < 4 {
         return false;
     }
-    let outcome = interpreter::run(table, listed, directory, cells, values, origins, limit);
+    let outcome = interpreter::run(table, facts, directory, cells, values, origins, limit);
     put_outcome(answer, outcome);
     true
 }
