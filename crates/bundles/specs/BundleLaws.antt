@@ -29,10 +29,10 @@ use Rattle.rules.specs.Rules.{accessAt, boundsAt}
 use Rattle.rules.specs.Verdict.{verdictOf}
 use Rattle.rules.specs.Ranges.{InRange, Measured, Short}
 use Rattle.effects.specs.Applied.{Applied, applied}
-use Rattle.declared.specs.Shown.{declaresOf}
+use Rattle.declared.specs.Shown.{declaresOf, isAccess}
 use Rattle.bounds.specs.Touched.{seenAs, seenOf}
 use Rattle.bounds.specs.declared.touched.Seen.{Seen}
-use Rattle.declared.specs.ShownLaws.{row-named, rows-stay, no-row-asked, seen-unshown, seen-access, seen-safe}
+use Rattle.declared.specs.ShownLaws.{row-named, rows-stay, no-row-asked, seen-unshown, seen-access, seen-safe, unneeded, unreported}
 use Rattle.declared.specs.declared.Declares.the-variants.{Row, NoRow}
 use Rattle.declared.specs.Force.{Framed, stateOf}
 use Rattle.declared.specs.ForceLaws.{none-refused, pass, refuse-part}
@@ -99,6 +99,28 @@ row-limits T h a {s} {p} {y} {r} e d n =
     let t = read-typed T h a (Plain (Declare y r)) q in
     let l = read-limits T h a _ q in
     (omega (arith, t .pointer .below, l .0 .variables), omega (arith, t .row, l .0 .rows))
+
+-- ---- what is asked of a statement of any kind but 14: an access must be shown, and is reported where it is safe (point 9)
+
+pub record AccessAsked (E : Environment) (f : FactSet) (K : List Bounds) (s : Simple) (a : ℕ) (M W : List ℕ) : Type 0 where
+  pub shown : true ≡ accessShown E f K s
+  pub marks : W ≡ markedIf (accessSafe E f s) M a
+
+pub marked-safe : (E : Environment) (f : FactSet) (s : Simple) (a : ℕ) (M : List ℕ) {b : Bool} {W : List ℕ} → b ≡ accessSafe E f s → W ≡ markedIf b M a
+    → W ≡ markedIf (accessSafe E f s) M a
+marked-safe E f s a M y e = e ∙ ap (λ (z : Bool). markedIf z M a) y
+
+pub unmarked : (E : Environment) (f : FactSet) (s : Simple) (a : ℕ) (M : List ℕ) {b : Bool} {W : List ℕ} → b ≡ isAccess s → b ≡ false → W ≡ M
+    → W ≡ markedIf (accessSafe E f s) M a
+unfolding markedIf
+unmarked E f s a M i n e = e ∙ ap (λ (z : Bool). markedIf z M a) (unreported E f s (sym i ∙ n))
+
+module _ (E : Environment) (f : FactSet) (K : List Bounds) (s : Simple) (a : ℕ) (M : List ℕ) {W : List ℕ} where
+  pub access-asked : {b y : Bool} → b ≡ accessShown E f K s → b ≡ true → y ≡ accessSafe E f s → W ≡ markedIf y M a → AccessAsked E f K s a M W
+  access-asked e t y m = record { shown = sym t ∙ e; marks = marked-safe E f s a M y m }
+
+  pub nothing-asked-of : {b : Bool} → b ≡ isAccess s → b ≡ false → W ≡ M → AccessAsked E f K s a M W
+  nothing-asked-of i n e = record { shown = unneeded E f K s (sym i ∙ n); marks = unmarked E f s a M i n e }
 
 -- ---- a bundle
 
@@ -250,17 +272,16 @@ module _ {T : List ℤ} {h : Sections} {E : Environment} {head count : ℕ} {w�
           → WalksBundle E head (simples count T h (head + 1)) w₀ K₀ M₀ w
       held-access a t v = stops _ _ line-here (v ∙ access-verdict (accessIn E (stateOf f R) K p) at (sym (access-here a) ∙ t)) v
 
-      pub held-more : {b s : Bool} {g : FactSet} {L : List Bounds} {x : Effect} {W : List ℕ} → declaresOf p ≡ NoRow → b ≡ accessShown (seenAs I) f K p → b ≡ true
-          → s ≡ accessSafe (seenAs I) f p → W ≡ markedIf s M at
+      pub held-more : {g : FactSet} {L : List Bounds} {x : Effect} {W : List ℕ} → declaresOf p ≡ NoRow → AccessAsked (seenAs I) f K p at M W
           → g ≡ factsAfter p f → x ≡ effect E f p → L ≡ boundsAfter x K
           → Held T h E head count w₀ K₀ M₀ (at + 1) (left - 1) g R I L W
-      held-more {b} {s} {g} {L} {W = W} n a t y v q x l =
+      held-more {g} {L} {W = W} n a q x l =
           let o : stateAfter p (stateOf f R) ≡ stateOf g R = ap₂ stateOf (sym q) (rows-stay p R n) in
-          let u : markedIf (safeIn E (stateOf f R) p) M at ≡ W = sym (v ∙ ap (λ (z : Bool). markedIf z M at)
-          (y ∙ (ap (λ (z : Seen). accessSafe (seenAs z) f p) (k .inside) ∙ seen-safe (inForce E R) f p))) in
+          let u : markedIf (safeIn E (stateOf f R) p) M at ≡ W = sym (a .marks ∙ ap (λ (z : Bool). markedIf z M at)
+          (ap (λ (z : Seen). accessSafe (seenAs z) f p) (k .inside) ∙ seen-safe (inForce E R) f p)) in
           let m : boundsAfter (effect E f p) K ≡ L = sym (l ∙ ap (λ (y : Effect). boundsAfter y K) x) in
           record {
-            blamed = line-here ∙ (pass _ _ (access-pass (accessIn E (stateOf f R) K p) at (sym (access-here a) ∙ t)) ∙ (pass _ _ (nothing-asked E f K p at n)
+            blamed = line-here ∙ (pass _ _ (access-pass (accessIn E (stateOf f R) K p) at (sym (access-here (a .shown)))) ∙ (pass _ _ (nothing-asked E f K p at n)
                 ∙ ap₂ (lineFaults E head (at + 1) (simples (left - 1) T h (at + 1))) o m));
             left-state = state-here ∙ ap (bundleAfter (simples (left - 1) T h (at + 1))) o;
             marks = marks-here ∙ ap₂ (lineMarks E (at + 1) (simples (left - 1) T h (at + 1))) o u;

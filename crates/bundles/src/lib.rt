@@ -14,6 +14,7 @@ use declared::force::Force;
 use declared::force::Frame;
 use declared::force::seen_in;
 use declared::force::with_row;
+use declared::is_access;
 use effects::asked::ask_statement;
 use effects::plan_statement;
 use facts::FactSet;
@@ -121,16 +122,18 @@ pub fn walk_bundle(
                 left = fewer;
             }
             Declares::NoRow => {
-                if !access_shown(seen, facts, known, simple) {
-                    return Walked {
-                        verdict: Verdict::Refused(Refusal::BundleAccess(at)),
-                        facts,
-                        rows,
-                        report,
-                    };
+                if is_access(simple) {
+                    if !access_shown(seen, facts, known, simple) {
+                        return Walked {
+                            verdict: Verdict::Refused(Refusal::BundleAccess(at)),
+                            facts,
+                            rows,
+                            report,
+                        };
+                    }
+                    let safe = access_safe(seen, facts, simple);
+                    report = mark_if(report, at, safe);
                 }
-                let safe = access_safe(seen, facts, simple);
-                report = mark_if(report, at, safe);
                 let answers = answer(facts, ask_statement(simple));
                 let plan = plan_statement(sizes, spans, simple, answers);
                 let effect = plan.effect;

@@ -6,7 +6,7 @@ use mathlib.Core.List.{List, []}
 use native.Mathlib.Omega.{arith}
 use lib.IntN.{ℤ}
 use lib.ListN.{set, getD}
-use Rattle.facts.specs.Store.{joined}
+use Rattle.facts.specs.Store.{joined, answered, changed}
 use Rattle.facts.specs.declared.FactSet.{FactSet}
 use Rattle.answers.specs.declared.refusals.Refusal.{Refusal}
 use Rattle.answers.specs.declared.refusals.Refusal.the-variants.{StatementRecord, RowsDiffer}
@@ -34,7 +34,11 @@ use Rattle.rules.specs.BoundsRules.{inForce}
 use Rattle.rules.specs.Rules.{boundsAt, sameRows, rowsAt}
 use Rattle.rules.specs.Verdict.{verdictOf}
 use Rattle.rules.specs.Ranges.{InRange}
-use Rattle.effects.specs.Applied.{Applied, applied}
+use Rattle.effects.specs.Applied.{Applied, applied, Plans}
+use Rattle.effects.specs.Asked.{statementAsked}
+use Rattle.effects.specs.declared.Plan.{Plan}
+use Rattle.changes.specs.declared.Answers.{Answers}
+use Rattle.changes.specs.declared.Questions.{Questions}
 use Rattle.effects.specs.Marks.{targetsFrom}
 use Rattle.bounds.specs.Touched.{touches, seenAs, seenOf}
 use Rattle.bounds.specs.declared.touched.Seen.{Seen}
@@ -42,7 +46,7 @@ use Rattle.declared.specs.UntouchedLaws.{unnamed}
 use Rattle.bundles.specs.Bundles.{lineMarks, WalksBundle}
 use Rattle.checker.specs.Walk.{InPlace, blockMarks, Walks}
 use Rattle.checker.specs.PlaceLaws.{after-plain, after-if, after-while, after-bundle, body-assigned}
-use Rattle.effects.specs.FactRulesLaws.{read-ranged}
+use Rattle.effects.specs.FactRulesLaws.{read-ranged, appliedOf, carried-out}
 use Rattle.rules.specs.declared.Environment.{Environment}
 use Rattle.rules.specs.declared.lookups.Rows.{Rows}
 use Rattle.rules.specs.declared.Effect.{Effect}
@@ -215,6 +219,11 @@ same-force {E} {F} {R} o e t =
 pub forced-own : {E : Environment} {F : Force} {R : List ℕ} → Forced E R F → Forced E (F .rows .each) F
 forced-own {E} {F} o = record { rows = refl; seen = o .seen ∙ ap (λ (x : List ℕ). seenOf (inForce E x)) (sym (o .rows)); named = o .named }
 
+-- A statement carried out from facts that are those before it.
+pub carried-from : {h f : FactSet} → h ≡ f → (sizes spans : List ℕ) (s : Simple) (r : Plan) {g : FactSet} {q : Questions} {a : Answers}
+    → q ≡ statementAsked s → a ≡ answered h q → Plans sizes spans s a r → g ≡ changed h (r .change) → appliedOf g (r .effect) ≡ applied sizes spans f s
+carried-from {h} same sizes spans s r b w p e = carried-out sizes spans h s r b w p e ∙ ap (λ (x : FactSet). applied sizes spans x s) same
+
 -- A negated condition has the same offset.
 pub negated-offset : (c d : Condition) → d ≡ negatedOf c → c .offset < 2 ^ 32 → d .offset < 2 ^ 32
 unfolding negatedOf
@@ -312,28 +321,28 @@ module _ {T : List ℤ} {h : Sections} {E : Environment} {L : List ℤ} {end all
     plain-refused q x = stops _ _ plain-here (q ∙ shown-here) (q ∙ x)
 
     -- The report: the access is shown safe before it.
-    marked-here : {s : Bool} {N : List ℕ} → s ≡ accessSafe (seenAs (F .seen)) f p → N ≡ markedIf s M at
+    marked-here : {N : List ℕ} → N ≡ markedIf (accessSafe (seenAs (F .seen)) f p) M at
         → blockMarks E L b w₀ M₀ ≡ blockMarks E L (rest T h left (at + 1) end) (stateAfter p (stateOf f (F .rows .each))) N
-    marked-here y t = whole-marks (Plain p) u ∙ ap (blockMarks E L (rest T h left (at + 1) end) (stateAfter p (stateOf f (F .rows .each))))
+    marked-here t = whole-marks (Plain p) u ∙ ap (blockMarks E L (rest T h left (at + 1) end) (stateAfter p (stateOf f (F .rows .each))))
         (sym (t ∙ ap (λ (z : Bool). markedIf z M at)
-        (y ∙ (ap (λ (z : Seen). accessSafe (seenAs z) f p) (u .so-far .forced .seen) ∙ seen-safe (inForce E (F .rows .each)) f p))))
+        (ap (λ (z : Seen). accessSafe (seenAs z) f p) (u .so-far .forced .seen) ∙ seen-safe (inForce E (F .rows .each)) f p)))
 
-    pub turn-plain : {s : Bool} {N : List ℕ} → s ≡ accessSafe (seenAs (F .seen)) f p → N ≡ markedIf s M at → v ≡ Accepted
+    pub turn-plain : {N : List ℕ} → N ≡ markedIf (accessSafe (seenAs (F .seen)) f p) M at → v ≡ Accepted
         → Kept T h E L end allowed b w₀ M₀ (at + 1) (left - 1) (d .facts) F N
-    turn-plain y t x =
-        next u (plain-here ∙ pass _ _ (none-refused _ shown-here x)) (whole-after (Plain p) u) (marked-here y t)
+    turn-plain t x =
+        next u (plain-here ∙ pass _ _ (none-refused _ shown-here x)) (whole-after (Plain p) u) (marked-here t)
         (ap (λ (g : FactSet). stateOf g (F .rows .each)) (applied-facts E f p e) ∙ sym still) (after-plain (at-node u)) (u .so-far .forced)
 
   -- Nothing has to be shown again.
   pub turn-untouched : {p : Simple} → Turn T h E L end allowed b w₀ M₀ at left f F M (Plain p) → declaresOf p ≡ NoRow → {d : Applied}
       → d ≡ applied (E .sizes) (E .spans) f p
-      → {s : Bool} {N : List ℕ} → s ≡ accessSafe (seenAs (F .seen)) f p → N ≡ markedIf s M at
+      → {N : List ℕ} → N ≡ markedIf (accessSafe (seenAs (F .seen)) f p) M at
       → {P : List Bool} → P ≡ E .pointers → touches (F .named .each) P (d .effect) ≡ false → Kept T h E L end allowed b w₀ M₀ (at + 1) (left - 1) (d .facts) F N
   unfolding boundsAt verdictOf
-  turn-untouched u n {d} e o t y x =
+  turn-untouched u n {d} e t y x =
       turn-plain u n e {v = Accepted}
       (sym (ap (λ (ps : List ℕ). verdictOf (boundsAt at ps)) (unnamed (seenAs (F .seen)) (d .effect) (u .so-far .forced .named) (ap
-      (λ (z : List Bool). touches (F .named .each) z (d .effect)) (ap (λ (s : Seen). s .pointers) (u .so-far .forced .seen) ∙ sym y) ∙ x) (d .facts)))) o t refl
+      (λ (z : List Bool). touches (F .named .each) z (d .effect)) (ap (λ (s : Seen). s .pointers) (u .so-far .forced .seen) ∙ sym y) ∙ x) (d .facts)))) t refl
 
   -- Kind 14.
   module _ {p : Simple} (u : Turn T h E L end allowed b w₀ M₀ at left f F M (Plain p)) {y r : ℕ} (n : declaresOf p ≡ Row y r)

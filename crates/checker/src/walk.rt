@@ -14,6 +14,7 @@ use declared::force::Frame;
 use declared::force::declare_row;
 use declared::force::force_of;
 use declared::force::same_rows;
+use declared::is_access;
 use effects::asked::ask_condition;
 use effects::asked::ask_statement;
 use effects::assume;
@@ -120,8 +121,10 @@ pub(crate) fn walk(
                         at = inner;
                     }
                     Declares::NoRow => {
-                        let safe = access_safe(force.seen, now.facts, simple);
-                        now.report = mark_if(now.report, at, safe);
+                        if is_access(simple) {
+                            let safe = access_safe(force.seen, now.facts, simple);
+                            now.report = mark_if(now.report, at, safe);
+                        }
                         let answers = answer(now.facts, ask_statement(simple));
                         let plan = plan_statement(sizes, spans, simple, answers);
                         let effect = plan.effect;
@@ -212,8 +215,8 @@ pub(crate) fn walk(
                         report,
                     };
                 };
-                let lost = lose(table, sections, inner, count, now.facts);
-                now.facts = assume_entries(listed, at, lost);
+                now.facts = lose(table, sections, inner, count, now.facts);
+                now.facts = assume_entries(listed, at, now.facts);
                 let head = answer(now.facts, ask_condition(condition));
                 side.facts = now.facts.after(assume(condition, head));
                 side = walk(

@@ -1,5 +1,5 @@
 -- What the functions of the root give back, in terms of the rules: bounds that are the same, and the access that a statement makes.
-use mathlib.Core.Bool.{Bool, false, _&&_}
+use mathlib.Core.Bool.{Bool, true, false, _&&_}
 use lib.Dec.{eqb}
 use Rattle.statements.specs.declared.Simple.{Simple}
 use Rattle.statements.specs.declared.Simple.the-variants.{Literal, AddConstant, Arithmetic, Null, Address}
@@ -36,6 +36,13 @@ accessOf (Load x p i k) = Through p i k
 accessOf (Store p i k x) = Through p i k
 accessOf (Check c) = Nothing
 accessOf (Declare p r) = Nothing
+
+unfoldable pub isThrough : Access → Bool
+isThrough (Through p i k) = true
+isThrough Nothing = false
+
+unfoldable pub isAccess : Simple → Bool
+isAccess s = isThrough (accessOf s)
 
 -- Kind 14 names a row.
 abbrev pub declaresOf : Simple → Declares

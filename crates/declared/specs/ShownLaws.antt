@@ -29,7 +29,7 @@ use Rattle.rules.specs.declared.Environment.{Environment}
 use Rattle.rules.specs.declared.Verdict.the-variants.{Accepted, Refused}
 use Rattle.bounds.specs.StaysLaws.{stored, stored-known}
 use Rattle.bounds.specs.Touched.{seenAs, seenOf}
-use Rattle.declared.specs.Shown.{sameKnown, sameBounds, accessOf, declaresOf}
+use Rattle.declared.specs.Shown.{sameKnown, sameBounds, accessOf, isThrough, isAccess, declaresOf}
 use Rattle.declared.specs.declared.Access.{Access}
 use Rattle.declared.specs.declared.Access.the-variants.{Through, Nothing}
 use Rattle.declared.specs.declared.Declares.the-variants.{Row, NoRow}
@@ -278,6 +278,29 @@ access-safe E f (Load x p i k) = refl
 access-safe E f (Store p i k x) = refl
 access-safe E f (Check c) = refl
 access-safe E f (Declare p r) = refl
+
+module _ (s : Simple) {a : Access} (e : a ≡ accessOf s) where
+  pub through-told : {p i k : ℕ} → a ≡ Through p i k → true ≡ isAccess s
+  unfolding isThrough isAccess
+  through-told t = sym (ap isThrough (sym e ∙ t))
+
+  pub nothing-told : a ≡ Nothing → false ≡ isAccess s
+  unfolding isThrough isAccess
+  nothing-told t = sym (ap isThrough (sym e ∙ t))
+
+-- What is no access needs no bounds shown, and is not reported.
+pub no-access : (a : Access) → isThrough a ≡ false → a ≡ Nothing
+unfolding isThrough
+no-access Nothing e = refl
+no-access (Through p i k) e = absurd (false≢true (sym e))
+
+pub unneeded : (E : Environment) (f : FactSet) (K : List Bounds) (s : Simple) → isAccess s ≡ false → true ≡ accessShown E f K s
+unfolding isAccess
+unneeded E f K s e = sym (ap (needed E f K) (no-access (accessOf s) e)) ∙ access-needs E f K s
+
+pub unreported : (E : Environment) (f : FactSet) (s : Simple) → isAccess s ≡ false → false ≡ accessSafe E f s
+unfolding isAccess
+unreported E f s e = sym (ap (safeBy E f) (no-access (accessOf s) e)) ∙ access-safe E f s
 
 -- An access in range has a constant in range.
 pub access-short : (s : Simple) {p i k : ℕ} → InRange s → accessOf s ≡ Through p i k → k < 2 ^ 34

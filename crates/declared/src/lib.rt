@@ -27,7 +27,7 @@ ghost use Rattle.rules.specs.Rules.{boundsAt};
 ghost use Rattle.rules.specs.Verdict.{environmentOf, verdictOf};
 ghost use Rattle.rules.specs.Ranges.{InRange, Short};
 ghost use Rattle.bounds.specs.Touched.{seenAs};
-ghost use Rattle.declared.specs.Shown.{accessOf, declaresOf};
+ghost use Rattle.declared.specs.Shown.{accessOf, isAccess, declaresOf};
 
 // Refusal 8.
 fn not_shown(statement: usize, pointer: usize) -> Verdict
@@ -110,6 +110,21 @@ fn access_of(simple: Simple) -> Access
             constant,
         },
         _ => Access::Nothing,
+    }
+}
+
+// The statement reads or writes a cell.
+pub fn is_access(simple: Simple) -> bool
+    ensures { λ r. ⌜ r ≡ isAccess simple ⌝ }
+{
+    let access = access_of(simple);
+    match access {
+        Access::Through {
+            pointer: _,
+            index: _,
+            constant: _,
+        } => true,
+        Access::Nothing => false,
     }
 }
 

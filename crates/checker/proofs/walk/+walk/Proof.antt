@@ -1,6 +1,6 @@
 -- `walk`, which calls itself on nested blocks. The invariant: a walk of what is left, from the facts now and what is in force now, is a walk of the whole.
 use Prim.Native.Nat.{ℕ, _<_}
-use mathlib.Core.Path.{refl, sym, _∙_}
+use mathlib.Core.Path.{_≡_, refl, sym, ap, _∙_}
 use mathlib.Core.Logic.{⊎-elim}
 use native.Mathlib.Omega.{arith}
 use borrow.Author.Needs.{needs}
@@ -10,9 +10,10 @@ use borrow.Fn.Kinds.{In}
 use borrow.Fn.PlainCycle.{Measures, is, falls, and}
 use Rattle.blocks.specs.Tree.{parse}
 use Rattle.rules.specs.Verdict.{environmentOf}
-use Rattle.effects.specs.FactRulesLaws.{carried-out, assumed, negated-asked}
-use Rattle.bundles.specs.BundleLaws.{applied-short, measured-by}
-use Rattle.checker.specs.WalkLaws.{Kept, Turn, arm, placed, falls as left-falls, negated-offset, if-counts, while-count, bundle-count, if-offset, while-offset, plain-ranged, kept-none, kept-done, kept-end, kept-unread, plain-refused}
+use Rattle.effects.specs.FactRulesLaws.{assumed, negated-asked}
+use Rattle.bundles.specs.BundleLaws.{applied-short, measured-by, marked-safe, unmarked}
+use Rattle.bundles.specs.declared.Walked.{Walked}
+use Rattle.checker.specs.WalkLaws.{Kept, Turn, carried-from, arm, placed, falls as left-falls, negated-offset, if-counts, while-count, bundle-count, if-offset, while-offset, plain-ranged, kept-none, kept-done, kept-end, kept-unread, plain-refused}
 use Rattle.checker.specs.PlaceLaws.{then-placed, else-placed, body-placed}
 use Rattle.checker.specs.WalkLaws.{turn-plain, turn-untouched, at-node, then-refused, else-refused, turn-if, body-refused, turn-while, bundle-refused, turn-bundle, row-named-within, same-force, row-refused, turn-row, sides-differ, ends-differ, before-refused, again-refused}
 use Rattle.checker.proofs.walk.walk.Reads as walk
@@ -35,6 +36,7 @@ use Rattle.checker.proofs.walk.+walk.{statement}
 use Rattle.checker.proofs.walk.+walk.Tie.{close}
 use Rattle.declared.specs.Force.{stateOf}
 use Rattle.declared.proofs.declares_of.Reads as declares-of-reads
+use Rattle.declared.proofs.is_access.Reads as is-access-reads
 use Rattle.declared.proofs.access_safe.Reads as access-safe-reads
 use Rattle.reports.proofs.mark_if.Reads as mark-if-reads
 use Rattle.effects.proofs.entries.assume_entries.Reads as assume-entries-reads
@@ -60,6 +62,8 @@ callees t = (
   declares-of-reads.Learnt,
   declare-row-reads.Asked,
   declare-row-reads.Learnt,
+  is-access-reads.Asked,
+  is-access-reads.Learnt,
   access-safe-reads.Asked,
   access-safe-reads.Learnt,
   mark-if-reads.Asked,
@@ -118,6 +122,10 @@ turn t d = record {
   read = sym (d .before .before .before .read-due .ensures) ∙ d .before .got .given .1;
 }
 
+-- Where an access and any other statement meet again, the facts are those before the statement, and an access is marked where it is safe.
+met : (t : ℕ) (d : walk-lts.Joined2 (callees t) (walk-at t) walk.Post Inv μ) → d .if2 .now .facts ≡ d .before .before .before .before .before .before .before .before .before .before .before .before .before .before .before .before .loop .now .facts
+met t d = ⊎-elim (λ w. ap (λ (r : Walked). r .facts) (w .3)) (λ w. ap (λ (r : Walked). r .facts) (w .1)) (d .if2 .came)
+
 pub +walk-spec : {M : Type 1} → statement M
 +walk-spec = close μ-walk λ t. walk-lts.spec (callees t) (walk-at t) walk.Post Inv μ
     (λ c. let p = c .before .before .before .before .pre .1 in kept-none _ _ _ _ _ _ _ _ _ _ (p .2) (p .3))
@@ -145,8 +153,9 @@ pub +walk-spec : {M : Type 1} → statement M
     (λ c. turn-row (arm (turn t (c .before .before .before .before .before .before .before .before .before .before .before)) (c .before .before .before .before .before .before .before .before .before .statement .given .1)) (sym
     (c .before .before .before .before .before .before .before .declares-of .ensures) ∙ c .before .before .before .before .before .declares .given .1) (c .before .before .before .declare-row .ensures) (c .before .enum-told2 .given .1))
     (λ c. search needs)
-    (λ c κs. plain-ranged (arm (turn t (c .before .before .before .before .before .before)) (c .before .before .before .before .statement .given .1)))
-    (λ c κs. placed (turn t (c .before .before .before .before .before .before .before)))
+    (λ c κs. search needs)
+    (λ c κs. plain-ranged (arm (turn t (c .before .before .before .before .before .before .before .before)) (c .before .before .before .before .before .before .statement .given .1)))
+    (λ c κs. placed (turn t (c .before .before .before .before .before .before .before .before .before)))
     (λ c κs. plain-ranged (arm (turn t (c .before .before .before .before .before .before .before .before)) (c .before .before .before .before .before .before .statement .given .1)))
     (λ c κs. search needs)
     (λ c κs. plain-ranged (arm (turn t (c .before .before .before .before .before .before .before .before .before .before)) (c .before .before .before .before .before .before .before .before .statement .given .1)))
@@ -154,8 +163,7 @@ pub +walk-spec : {M : Type 1} → statement M
     (λ c κs. search needs)
     (λ c κs. applied-short (environmentOf (now (c .before .before .before .before .before .before .before .before .before .before .before .before .before .before .before .before .before .before .before .before .before .before .before .before .before .before .before .args .table))
     (c .before .before .before .before .before .before .before .before .before .before .before .before .before .before .before .before .before .before .before .before .before .before .before .before .before .before .before .args .sections)) _ _ (measured-by _ _
-    (c .before .before .before .before .before .before .before .before .before .before .before .before .before .before .before .before .before .before .before .before .before .before .before .before .before .before .before .pre .1 .1) (carried-out _ _ _ _ _
-    (c .before .before .before .before .before .ask-statement .ensures) (c .before .before .before .before .answer .ensures) (c .before .before .before .plan-statement .ensures) (c .before .before .after .ensures)))
+    (c .before .before .before .before .before .before .before .before .before .before .before .before .before .before .before .before .before .before .before .before .before .before .before .before .before .before .before .pre .1 .1) (carried-from (met t (c .before .before .before .before .before .before)) _ _ _ _ (c .before .before .before .before .before .ask-statement .ensures) (c .before .before .before .before .answer .ensures) (c .before .before .before .plan-statement .ensures) (c .before .before .after .ensures)))
     (c .before .before .before .before .before .before .before .before .before .before .before .before .before .before .before .before .before .before .before .before .before .before .before .before .before .before .before .pre .1 .0) (plain-ranged (arm (turn t
     (c .before .before .before .before .before .before .before .before .before .before .before .before .before .before)) (c .before .before .before .before .before .before .before .before .before .before .before .before .statement .given .1))))
     (λ c. search needs)
@@ -163,22 +171,25 @@ pub +walk-spec : {M : Type 1} → statement M
     (λ c. plain-refused (arm (turn t (c .before .before .before .before .before .before .before .before .before .before .before .before .before .before .before .before .before .before))
     (c .before .before .before .before .before .before .before .before .before .before .before .before .before .before .before .before .statement .given .1)) (sym (c .before .before .before .before .before .before .before .before .before .before .before .before .before .before .declares-of .ensures) ∙
     c .before .before .before .before .before .before .before .before .before .before .before .before .enum-told4 .given .1) (measured-by _ _
-    (c .before .before .before .before .before .before .before .before .before .before .before .before .before .before .before .before .before .before .before .before .before .before .before .before .before .before .before .before .before .before .before .pre .1 .1) (carried-out _ _ _ _ _
-    (c .before .before .before .before .before .before .before .before .before .ask-statement .ensures) (c .before .before .before .before .before .before .before .before .answer .ensures) (c .before .before .before .before .before .before .before .plan-statement .ensures)
+    (c .before .before .before .before .before .before .before .before .before .before .before .before .before .before .before .before .before .before .before .before .before .before .before .before .before .before .before .before .before .before .before .pre .1 .1) (carried-from (met t (c .before .before .before .before .before .before .before .before .before .before)) _ _ _ _ (c .before .before .before .before .before .before .before .before .before .ask-statement .ensures) (c .before .before .before .before .before .before .before .before .answer .ensures) (c .before .before .before .before .before .before .before .plan-statement .ensures)
     (c .before .before .before .before .before .before .after .ensures))) (c .before .before .before .check-effect .ensures) refl (c .before .enum-told6 .given .1))
     (λ c. omega (arith, (turn t (c .before .before .before .before .before .before .before .before .before .before .before .before .before .before .before .before .before)) .some))
     (λ c. turn-plain (arm (turn t (c .before .before .before .before .before .before .before .before .before .before .before .before .before .before .before .before .before))
     (c .before .before .before .before .before .before .before .before .before .before .before .before .before .before .before .statement .given .1)) (sym (c .before .before .before .before .before .before .before .before .before .before .before .before .before .declares-of .ensures) ∙
     c .before .before .before .before .before .before .before .before .before .before .before .enum-told4 .given .1) (measured-by _ _
-    (c .before .before .before .before .before .before .before .before .before .before .before .before .before .before .before .before .before .before .before .before .before .before .before .before .before .before .before .before .before .before .pre .1 .1) (carried-out _ _ _ _ _
-    (c .before .before .before .before .before .before .before .before .ask-statement .ensures) (c .before .before .before .before .before .before .before .answer .ensures) (c .before .before .before .before .before .before .plan-statement .ensures)
-    (c .before .before .before .before .before .after .ensures))) (c .before .before .check-effect .ensures) (c .before .before .before .before .before .before .before .before .before .before .access-safe .ensures) (c .before .before .before .before .before .before .before .before .before .mark-if .ensures) (c .enum-told5 .given .1))
+    (c .before .before .before .before .before .before .before .before .before .before .before .before .before .before .before .before .before .before .before .before .before .before .before .before .before .before .before .before .before .before .pre .1 .1) (carried-from (met t (c .before .before .before .before .before .before .before .before .before)) _ _ _ _ (c .before .before .before .before .before .before .before .before .ask-statement .ensures) (c .before .before .before .before .before .before .before .answer .ensures) (c .before .before .before .before .before .before .plan-statement .ensures)
+    (c .before .before .before .before .before .after .ensures))) (c .before .before .check-effect .ensures)
+    (⊎-elim (λ w. marked-safe _ _ _ _ _ (w .1 .ensures) (ap (λ (r : Walked). r .report .words) (w .3) ∙ w .2 .ensures))
+    (λ w. unmarked _ _ _ _ _ (c .before .before .before .before .before .before .before .before .before .before .is-access .ensures) (w .0 .left) (ap (λ (r : Walked). r .report .words) (w .1)))
+    (c .before .before .before .before .before .before .before .before .before .if2 .came)) (c .enum-told5 .given .1))
     (λ c. omega (arith, (turn t (c .before .before .before .before .before .before .before .before .before .before .before .before .before .before)) .some))
     (λ c. turn-untouched (arm (turn t (c .before .before .before .before .before .before .before .before .before .before .before .before .before .before)) (c .before .before .before .before .before .before .before .before .before .before .before .before .statement .given .1)) (sym
     (c .before .before .before .before .before .before .before .before .before .before .declares-of .ensures) ∙ c .before .before .before .before .before .before .before .before .enum-told4 .given .1) (measured-by _ _
-    (c .before .before .before .before .before .before .before .before .before .before .before .before .before .before .before .before .before .before .before .before .before .before .before .before .before .before .before .pre .1 .1) (carried-out _ _ _ _ _
-    (c .before .before .before .before .before .ask-statement .ensures) (c .before .before .before .before .answer .ensures) (c .before .before .before .plan-statement .ensures) (c .before .before .after .ensures))) (c .before .before .before .before .before .before .before .access-safe .ensures) (c .before .before .before .before .before .before .mark-if .ensures)
-    (c .before .before .before .before .before .before .before .before .before .before .before .before .before .before .before .before .before .before .before .before .before .before .before .before .before .before .before .pre .1 .1 .pointers) (sym (c .before .touches .ensures) ∙ c .if2 .left))
+    (c .before .before .before .before .before .before .before .before .before .before .before .before .before .before .before .before .before .before .before .before .before .before .before .before .before .before .before .pre .1 .1) (carried-from (met t (c .before .before .before .before .before .before)) _ _ _ _ (c .before .before .before .before .before .ask-statement .ensures) (c .before .before .before .before .answer .ensures) (c .before .before .before .plan-statement .ensures) (c .before .before .after .ensures)))
+    (⊎-elim (λ w. marked-safe _ _ _ _ _ (w .1 .ensures) (ap (λ (r : Walked). r .report .words) (w .3) ∙ w .2 .ensures))
+    (λ w. unmarked _ _ _ _ _ (c .before .before .before .before .before .before .before .is-access .ensures) (w .0 .left) (ap (λ (r : Walked). r .report .words) (w .1)))
+    (c .before .before .before .before .before .before .if2 .came))
+    (c .before .before .before .before .before .before .before .before .before .before .before .before .before .before .before .before .before .before .before .before .before .before .before .before .before .before .before .pre .1 .1 .pointers) (sym (c .before .touches .ensures) ∙ c .if3 .left))
     (λ c. search needs)
     (λ c. let u = (arm (turn t (c .before .before .before)) (c .before .statement2 .given .1)) in omega (arith, placed u, if-counts u))
     (λ c. let u = (arm (turn t (c .before .before .before)) (c .before .statement2 .given .1)) in omega (arith, placed u, if-counts u))
@@ -236,7 +247,7 @@ pub +walk-spec : {M : Type 1} → statement M
     (c .before .before .before .before .before .before .before .before .before .before .before .before .before .before .before .before .ask-condition .ensures))
     (c .before .before .before .before .before .before .before .before .before .before .before .before .before .before .before .answer2 .ensures) (c .before .before .before .before .before .before .before .before .assume2 .ensures)
     (c .before .before .before .before .before .before .before .after3 .ensures)) (c .before .before .before .before .before .before .walk2 .ensures) (c .before .before .before .before .enum-told9 .given .1) (c .before .before .same-rows .ensures) (not-true _
-    (c .before .if3 .taken)) refl)
+    (c .before .if4 .taken)) refl)
     (λ c κs. search needs)
     (λ c κs. search needs)
     (λ c κs. search needs)
@@ -253,7 +264,7 @@ pub +walk-spec : {M : Type 1} → statement M
     (c .before .before .before .before .before .before .before .before .before .before .before .before .before .before .before .before .before .before .answer2 .ensures)
     (c .before .before .before .before .before .before .before .before .before .before .before .assume2 .ensures) (c .before .before .before .before .before .before .before .before .before .before .after3 .ensures))
     (c .before .before .before .before .before .before .before .before .before .walk2 .ensures) (c .before .before .before .before .before .before .before .enum-told9 .given .1) (c .before .before .before .before .before .same-rows .ensures) (not-false _
-    (c .before .before .before .before .if3 .left))
+    (c .before .before .before .before .if4 .left))
     (c .before .before .before .before .before .before .before .before .before .before .before .before .before .before .before .before .before .before .before .before .before .before .before .before .before .before .before .before .before .before .before .before .before .before .before .before .pre .1 .1
     .pointers) (c .before .before .before .join .ensures) (c .force-of .ensures))
     (λ c. omega (arith, (turn t (c .before .before .before .before .before .before .before .before .before .before .before .before .before .before .before .before .before .before .before .before .before .before)) .some))
@@ -268,10 +279,10 @@ pub +walk-spec : {M : Type 1} → statement M
     (c .before .before .before .before .before .before .before .before .before .before .before .before .before .before .before .before .before .before .ask-condition .ensures))
     (c .before .before .before .before .before .before .before .before .before .before .before .before .before .before .before .before .before .answer2 .ensures) (c .before .before .before .before .before .before .before .before .before .before .assume2 .ensures)
     (c .before .before .before .before .before .before .before .before .before .after3 .ensures)) (c .before .before .before .before .before .before .before .before .walk2 .ensures) (c .before .before .before .before .before .before .enum-told9 .given .1)
-    (c .before .before .before .before .same-rows .ensures) (not-false _ (c .before .before .before .if3 .left))
+    (c .before .before .before .before .same-rows .ensures) (not-false _ (c .before .before .before .if4 .left))
     (c .before .before .before .before .before .before .before .before .before .before .before .before .before .before .before .before .before .before .before .before .before .before .before .before .before .before .before .before .before .before .before .before .before .before .before .pre .1 .1
     .pointers) (c .before .before .join .ensures)
-    (same-force ((turn t (c .before .before .before .before .before .before .before .before .before .before .before .before .before .before .before .before .before .before .before .before .before .before)) .so-far .forced) (c .before .same-rows2 .ensures) (not-false _ (c .if4 .left))))
+    (same-force ((turn t (c .before .before .before .before .before .before .before .before .before .before .before .before .before .before .before .before .before .before .before .before .before .before)) .so-far .forced) (c .before .same-rows2 .ensures) (not-false _ (c .if5 .left))))
     (λ c. search needs)
     (λ c. let u = (arm (turn t (c .before .before .before)) (c .before .statement3 .given .1)) in omega (arith, placed u, while-count u))
     (λ c κs. (c .before .before .before .before .before .before .before .before .before .before .before .before .before .before .before .before .pre .1 .4, omega (arith, placed (turn t (c .before .before .before)))))
@@ -302,12 +313,12 @@ pub +walk-spec : {M : Type 1} → statement M
     (λ c. search needs)
     (λ c. again-refused (arm (turn t (c .before .before .before .before .before .before .before .before .before .before .before .before .before .before .before .before .before .before .before)) (c .before .before .before .before .before .before .before .before .before .before .before .before .before .before .before .before .before .statement3 .given .1)) (c .before .before .before .before .before .before .before .before .before .before .before .before .before .before .before .check-entries .ensures) (c .before .before .before .before .before .before .before .before .before .before .before .before .before .enum-told11 .given .1) (c .before .before .before .before .before .before .before .before .before .before .before .before .lose .ensures) (c .before .before .before .before .before .before .before .before .before .before .before .assume-entries .ensures) (assumed _ _ _ (c .before .before .before .before .before .before .before .before .before .before .ask-condition2 .ensures) (c .before .before .before .before .before .before .before .before .before .answer3 .ensures) (c .before .before .before .before .before .before .before .before .assume3 .ensures) (c .before .before .before .before .before .before .before .after4 .ensures)) (c .before .before .before .before .before .before .walk3 .ensures) (c .before .before .before .before .enum-told13 .given .1) (c .before .before .before .check-entries2 .ensures) refl (c .before .enum-told16 .given .1))
     (λ c κs. search needs)
-    (λ c. ends-differ (arm (turn t (c .before .before .before .before .before .before .before .before .before .before .before .before .before .before .before .before .before .before .before .before .before)) (c .before .before .before .before .before .before .before .before .before .before .before .before .before .before .before .before .before .before .before .statement3 .given .1)) (c .before .before .before .before .before .before .before .before .before .before .before .before .before .before .before .before .before .check-entries .ensures) (c .before .before .before .before .before .before .before .before .before .before .before .before .before .before .before .enum-told11 .given .1) (c .before .before .before .before .before .before .before .before .before .before .before .before .before .before .lose .ensures) (c .before .before .before .before .before .before .before .before .before .before .before .before .before .assume-entries .ensures) (assumed _ _ _ (c .before .before .before .before .before .before .before .before .before .before .before .before .ask-condition2 .ensures) (c .before .before .before .before .before .before .before .before .before .before .before .answer3 .ensures) (c .before .before .before .before .before .before .before .before .before .before .assume3 .ensures) (c .before .before .before .before .before .before .before .before .before .after4 .ensures)) (c .before .before .before .before .before .before .before .before .walk3 .ensures) (c .before .before .before .before .before .before .enum-told13 .given .1) (c .before .before .before .before .before .check-entries2 .ensures) (c .before .before .before .enum-told15 .given .1) (c .before .before .same-rows3 .ensures) (not-true _ (c .before .if5 .taken)) refl)
+    (λ c. ends-differ (arm (turn t (c .before .before .before .before .before .before .before .before .before .before .before .before .before .before .before .before .before .before .before .before .before)) (c .before .before .before .before .before .before .before .before .before .before .before .before .before .before .before .before .before .before .before .statement3 .given .1)) (c .before .before .before .before .before .before .before .before .before .before .before .before .before .before .before .before .before .check-entries .ensures) (c .before .before .before .before .before .before .before .before .before .before .before .before .before .before .before .enum-told11 .given .1) (c .before .before .before .before .before .before .before .before .before .before .before .before .before .before .lose .ensures) (c .before .before .before .before .before .before .before .before .before .before .before .before .before .assume-entries .ensures) (assumed _ _ _ (c .before .before .before .before .before .before .before .before .before .before .before .before .ask-condition2 .ensures) (c .before .before .before .before .before .before .before .before .before .before .before .answer3 .ensures) (c .before .before .before .before .before .before .before .before .before .before .assume3 .ensures) (c .before .before .before .before .before .before .before .before .before .after4 .ensures)) (c .before .before .before .before .before .before .before .before .walk3 .ensures) (c .before .before .before .before .before .before .enum-told13 .given .1) (c .before .before .before .before .before .check-entries2 .ensures) (c .before .before .before .enum-told15 .given .1) (c .before .before .same-rows3 .ensures) (not-true _ (c .before .if6 .taken)) refl)
     (λ c κs. search needs)
     (λ c κs. negated-offset _ _ (c .negated2 .ensures) (while-offset (arm (turn t (c .before .before .before .before .before .before .before .before .before .before .before .before .before .before .before .before .before .before .before .before .before)) (c .before .before .before .before .before .before .before .before .before .before .before .before .before .before .before .before .before .before .before .statement3 .given .1))))
     (λ c κs. search needs)
     (λ c. omega (arith, (turn t (c .before .before .before .before .before .before .before .before .before .before .before .before .before .before .before .before .before .before .before .before .before .before .before .before)) .some))
-    (λ c. turn-while (arm (turn t (c .before .before .before .before .before .before .before .before .before .before .before .before .before .before .before .before .before .before .before .before .before .before .before .before)) (c .before .before .before .before .before .before .before .before .before .before .before .before .before .before .before .before .before .before .before .before .before .before .statement3 .given .1)) (c .before .before .before .before .before .before .before .before .before .before .before .before .before .before .before .before .before .before .before .before .check-entries .ensures) (c .before .before .before .before .before .before .before .before .before .before .before .before .before .before .before .before .before .before .enum-told11 .given .1) (c .before .before .before .before .before .before .before .before .before .before .before .before .before .before .before .before .before .lose .ensures) (c .before .before .before .before .before .before .before .before .before .before .before .before .before .before .before .before .assume-entries .ensures) (assumed _ _ _ (c .before .before .before .before .before .before .before .before .before .before .before .before .before .before .before .ask-condition2 .ensures) (c .before .before .before .before .before .before .before .before .before .before .before .before .before .before .answer3 .ensures) (c .before .before .before .before .before .before .before .before .before .before .before .before .before .assume3 .ensures) (c .before .before .before .before .before .before .before .before .before .before .before .before .after4 .ensures)) (c .before .before .before .before .before .before .before .before .before .before .before .walk3 .ensures) (c .before .before .before .before .before .before .before .before .before .enum-told13 .given .1) (c .before .before .before .before .before .before .before .before .check-entries2 .ensures) (c .before .before .before .before .before .before .enum-told15 .given .1) (c .before .before .before .before .before .same-rows3 .ensures) (not-false _ (c .before .before .before .before .if5 .left)) (c .before .before .before .negated2 .ensures) (assumed _ _ _ (negated-asked _ _ (c .before .before .before .negated2 .ensures) (c .before .before .before .before .before .before .before .before .before .before .before .before .before .before .before .ask-condition2 .ensures)) (c .before .before .before .before .before .before .before .before .before .before .before .before .before .before .answer3 .ensures) (c .before .before .assume4 .ensures) (c .before .after5 .ensures)))
+    (λ c. turn-while (arm (turn t (c .before .before .before .before .before .before .before .before .before .before .before .before .before .before .before .before .before .before .before .before .before .before .before .before)) (c .before .before .before .before .before .before .before .before .before .before .before .before .before .before .before .before .before .before .before .before .before .before .statement3 .given .1)) (c .before .before .before .before .before .before .before .before .before .before .before .before .before .before .before .before .before .before .before .before .check-entries .ensures) (c .before .before .before .before .before .before .before .before .before .before .before .before .before .before .before .before .before .before .enum-told11 .given .1) (c .before .before .before .before .before .before .before .before .before .before .before .before .before .before .before .before .before .lose .ensures) (c .before .before .before .before .before .before .before .before .before .before .before .before .before .before .before .before .assume-entries .ensures) (assumed _ _ _ (c .before .before .before .before .before .before .before .before .before .before .before .before .before .before .before .ask-condition2 .ensures) (c .before .before .before .before .before .before .before .before .before .before .before .before .before .before .answer3 .ensures) (c .before .before .before .before .before .before .before .before .before .before .before .before .before .assume3 .ensures) (c .before .before .before .before .before .before .before .before .before .before .before .before .after4 .ensures)) (c .before .before .before .before .before .before .before .before .before .before .before .walk3 .ensures) (c .before .before .before .before .before .before .before .before .before .enum-told13 .given .1) (c .before .before .before .before .before .before .before .before .check-entries2 .ensures) (c .before .before .before .before .before .before .enum-told15 .given .1) (c .before .before .before .before .before .same-rows3 .ensures) (not-false _ (c .before .before .before .before .if6 .left)) (c .before .before .before .negated2 .ensures) (assumed _ _ _ (negated-asked _ _ (c .before .before .before .negated2 .ensures) (c .before .before .before .before .before .before .before .before .before .before .before .before .before .before .before .ask-condition2 .ensures)) (c .before .before .before .before .before .before .before .before .before .before .before .before .before .before .answer3 .ensures) (c .before .before .assume4 .ensures) (c .before .after5 .ensures)))
     (λ c. search needs)
     (λ c. let u = (arm (turn t (c .before .before .before)) (c .before .statement4 .given .1)) in omega (arith, placed u, bundle-count u))
     (λ c κs. (
@@ -326,5 +337,5 @@ pub +walk-spec : {M : Type 1} → statement M
     (c .before .before .before .before .before .before .walk-bundle .ensures) (c .before .before .before .before .enum-told17 .given .1) (c .force-of2 .ensures))
     (λ c. omega (arith, (turn t (c .before .before .before .before .before .before .before .before .before)) .some))
     (λ c. turn-bundle (arm (turn t (c .before .before .before .before .before .before .before .before .before)) (c .before .before .before .before .before .before .before .statement4 .given .1)) (c .before .before .before .before .before .walk-bundle .ensures)
-    (c .before .before .before .enum-told17 .given .1) (same-force ((turn t (c .before .before .before .before .before .before .before .before .before)) .so-far .forced) (c .before .same-rows4 .ensures) (not-false _ (c .if6 .left))))
+    (c .before .before .before .enum-told17 .given .1) (same-force ((turn t (c .before .before .before .before .before .before .before .before .before)) .so-far .forced) (c .before .same-rows4 .ensures) (not-false _ (c .if7 .left))))
     (λ c. ⊎-elim (λ w. kept-done (c .before .before .before .before .loop .inv) (w .left) refl refl refl refl) (λ w. kept-end (c .before .before .before .before .loop .inv) (w .1 .taken) refl refl refl refl) (c .before .before .before .loop-test .came))
