@@ -205,6 +205,7 @@ pub(crate) fn walk(
             }
             Statement::While { condition, count } => {
                 let rest = inner + count;
+                side.facts = lose(table, sections, inner, count, now.facts);
                 let before = check_entries(listed, at, now.facts);
                 let Verdict::Accepted = before else {
                     let facts = now.facts;
@@ -215,8 +216,7 @@ pub(crate) fn walk(
                         report,
                     };
                 };
-                now.facts = lose(table, sections, inner, count, now.facts);
-                now.facts = assume_entries(listed, at, now.facts);
+                now.facts = assume_entries(listed, at, side.facts);
                 let head = answer(now.facts, ask_condition(condition));
                 side.facts = now.facts.after(assume(condition, head));
                 side = walk(

@@ -22,12 +22,14 @@ pub struct Condition {
     pub offset: u64,
 }
 
-// Form 0: two variables of one kind.
+// Form 0: two variables of one kind. Integers come first, as most are, so that two words are read of them and not six.
 pub fn same_kind(table: &[i32], sections: Sections, v: u64, w: u64) -> bool
     ensures { λ r. ⌜ r ≡ sameKind (now (table .entry)) sections v w ⌝ }
 {
-    (names_integer(table, sections, v) & names_integer(table, sections, w))
-        | (names_array(table, sections, v) & names_array(table, sections, w))
+    if names_integer(table, sections, v) & names_integer(table, sections, w) {
+        return true;
+    }
+    (names_array(table, sections, v) & names_array(table, sections, w))
         | (names_string(table, sections, v) & names_string(table, sections, w))
 }
 

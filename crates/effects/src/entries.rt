@@ -70,12 +70,11 @@ fn assume_entry(listed: &[i32], at: usize, e: usize, facts: FactSet) -> FactSet
 }
 
 // The facts with all entries of the loop at `at`.
-pub fn assume_entries(listed: &[i32], at: usize, given: FactSet) -> FactSet
+pub fn assume_entries(listed: &[i32], at: usize, mut facts: FactSet) -> FactSet
     requires { ⌜ (length (now listed) ≤ 1024) × (at < 2 ^ 40) ⌝ }
-    ensures { λ r. ⌜ r ≡ entryFacts (entriesOf (now (listed .entry)) at) given ⌝ }
+    ensures { λ r. ⌜ r ≡ entryFacts (entriesOf (now (listed .entry)) at) facts ⌝ }
 {
     let n = entry_count(listed);
-    let mut facts = given;
     let mut e = 0;
     while e < n {
         facts = assume_entry(listed, at, e, facts);

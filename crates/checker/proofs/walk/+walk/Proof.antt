@@ -94,10 +94,10 @@ callees t = (
   join-reads.Learnt,
   force-of-reads.Asked,
   force-of-reads.Learnt,
-  check-entries-reads.Asked,
-  check-entries-reads.Learnt,
   lose-reads.Asked,
   lose-reads.Learnt,
+  check-entries-reads.Asked,
+  check-entries-reads.Learnt,
   assume-entries-reads.Asked,
   assume-entries-reads.Learnt,
   walk-bundle-reads.Asked,
@@ -285,11 +285,11 @@ pub +walk-spec : {M : Type 1} → statement M
     (same-force ((turn t (c .before .before .before .before .before .before .before .before .before .before .before .before .before .before .before .before .before .before .before .before .before .before)) .so-far .forced) (c .before .same-rows2 .ensures) (not-false _ (c .if5 .left))))
     (λ c. search needs)
     (λ c. let u = (arm (turn t (c .before .before .before)) (c .before .statement3 .given .1)) in omega (arith, placed u, while-count u))
-    (λ c κs. (c .before .before .before .before .before .before .before .before .before .before .before .before .before .before .before .before .pre .1 .4, omega (arith, placed (turn t (c .before .before .before)))))
+    (λ c κs. let u = (arm (turn t (c .before .before .before)) (c .before .statement3 .given .1)) in omega (arith, placed u, while-count u))
+    (λ c κs. (c .before .before .before .before .before .before .before .before .before .before .before .before .before .before .before .before .before .pre .1 .4, omega (arith, placed (turn t (c .before .before .before .before)))))
     (λ c. search needs)
     (λ c. search needs)
-    (λ c. before-refused (arm (turn t (c .before .before .before .before .before .before .before)) (c .before .before .before .before .before .statement3 .given .1)) (c .before .before .before .check-entries .ensures) refl (c .before .enum-told12 .given .1))
-    (λ c κs. let u = (arm (turn t (c .before .before .before .before .before .before)) (c .before .before .before .before .statement3 .given .1)) in omega (arith, placed u, while-count u))
+    (λ c. before-refused (arm (turn t (c .before .before .before .before .before .before .before .before)) (c .before .before .before .before .before .before .statement3 .given .1)) (c .before .before .before .check-entries .ensures) refl (c .before .enum-told12 .given .1))
     (λ c κs. (c .before .before .before .before .before .before .before .before .before .before .before .before .before .before .before .before .before .before .before .before .pre .1 .4, omega (arith, placed (turn t (c .before .before .before .before .before .before .before)))))
     (λ c κs. while-offset (arm (turn t (c .before .before .before .before .before .before .before .before)) (c .before .before .before .before .before .before .statement3 .given .1)))
     (λ c κs. search needs)
@@ -307,18 +307,18 @@ pub +walk-spec : {M : Type 1} → statement M
     ))
     (λ c. search needs)
     (λ c. search needs)
-    (λ c. body-refused (arm (turn t (c .before .before .before .before .before .before .before .before .before .before .before .before .before .before .before)) (c .before .before .before .before .before .before .before .before .before .before .before .before .before .statement3 .given .1)) (c .before .before .before .before .before .before .before .before .before .before .before .check-entries .ensures) (c .before .before .before .before .before .before .before .before .before .enum-told11 .given .1) (c .before .before .before .before .before .before .before .before .lose .ensures) (c .before .before .before .before .before .before .before .assume-entries .ensures) (assumed _ _ _ (c .before .before .before .before .before .before .ask-condition2 .ensures) (c .before .before .before .before .before .answer3 .ensures) (c .before .before .before .before .assume3 .ensures) (c .before .before .before .after4 .ensures)) (c .before .before .walk3 .ensures) (c .enum-told14 .given .1))
+    (λ c. body-refused (arm (turn t (c .before .before .before .before .before .before .before .before .before .before .before .before .before .before .before)) (c .before .before .before .before .before .before .before .before .before .before .before .before .before .statement3 .given .1)) (c .before .before .before .before .before .before .before .before .before .before .check-entries .ensures) (c .before .before .before .before .before .before .before .before .enum-told11 .given .1) (c .before .before .before .before .before .before .before .before .before .before .before .lose .ensures) (c .before .before .before .before .before .before .before .assume-entries .ensures) (assumed _ _ _ (c .before .before .before .before .before .before .ask-condition2 .ensures) (c .before .before .before .before .before .answer3 .ensures) (c .before .before .before .before .assume3 .ensures) (c .before .before .before .after4 .ensures)) (c .before .before .walk3 .ensures) (c .enum-told14 .given .1))
     (λ c κs. (c .before .before .before .before .before .before .before .before .before .before .before .before .before .before .before .before .before .before .before .before .before .before .before .before .before .before .before .before .pre .1 .4, omega (arith, placed (turn t (c .before .before .before .before .before .before .before .before .before .before .before .before .before .before .before)))))
     (λ c. search needs)
     (λ c. search needs)
-    (λ c. again-refused (arm (turn t (c .before .before .before .before .before .before .before .before .before .before .before .before .before .before .before .before .before .before .before)) (c .before .before .before .before .before .before .before .before .before .before .before .before .before .before .before .before .before .statement3 .given .1)) (c .before .before .before .before .before .before .before .before .before .before .before .before .before .before .before .check-entries .ensures) (c .before .before .before .before .before .before .before .before .before .before .before .before .before .enum-told11 .given .1) (c .before .before .before .before .before .before .before .before .before .before .before .before .lose .ensures) (c .before .before .before .before .before .before .before .before .before .before .before .assume-entries .ensures) (assumed _ _ _ (c .before .before .before .before .before .before .before .before .before .before .ask-condition2 .ensures) (c .before .before .before .before .before .before .before .before .before .answer3 .ensures) (c .before .before .before .before .before .before .before .before .assume3 .ensures) (c .before .before .before .before .before .before .before .after4 .ensures)) (c .before .before .before .before .before .before .walk3 .ensures) (c .before .before .before .before .enum-told13 .given .1) (c .before .before .before .check-entries2 .ensures) refl (c .before .enum-told16 .given .1))
+    (λ c. again-refused (arm (turn t (c .before .before .before .before .before .before .before .before .before .before .before .before .before .before .before .before .before .before .before)) (c .before .before .before .before .before .before .before .before .before .before .before .before .before .before .before .before .before .statement3 .given .1)) (c .before .before .before .before .before .before .before .before .before .before .before .before .before .before .check-entries .ensures) (c .before .before .before .before .before .before .before .before .before .before .before .before .enum-told11 .given .1) (c .before .before .before .before .before .before .before .before .before .before .before .before .before .before .before .lose .ensures) (c .before .before .before .before .before .before .before .before .before .before .before .assume-entries .ensures) (assumed _ _ _ (c .before .before .before .before .before .before .before .before .before .before .ask-condition2 .ensures) (c .before .before .before .before .before .before .before .before .before .answer3 .ensures) (c .before .before .before .before .before .before .before .before .assume3 .ensures) (c .before .before .before .before .before .before .before .after4 .ensures)) (c .before .before .before .before .before .before .walk3 .ensures) (c .before .before .before .before .enum-told13 .given .1) (c .before .before .before .check-entries2 .ensures) refl (c .before .enum-told16 .given .1))
     (λ c κs. search needs)
-    (λ c. ends-differ (arm (turn t (c .before .before .before .before .before .before .before .before .before .before .before .before .before .before .before .before .before .before .before .before .before)) (c .before .before .before .before .before .before .before .before .before .before .before .before .before .before .before .before .before .before .before .statement3 .given .1)) (c .before .before .before .before .before .before .before .before .before .before .before .before .before .before .before .before .before .check-entries .ensures) (c .before .before .before .before .before .before .before .before .before .before .before .before .before .before .before .enum-told11 .given .1) (c .before .before .before .before .before .before .before .before .before .before .before .before .before .before .lose .ensures) (c .before .before .before .before .before .before .before .before .before .before .before .before .before .assume-entries .ensures) (assumed _ _ _ (c .before .before .before .before .before .before .before .before .before .before .before .before .ask-condition2 .ensures) (c .before .before .before .before .before .before .before .before .before .before .before .answer3 .ensures) (c .before .before .before .before .before .before .before .before .before .before .assume3 .ensures) (c .before .before .before .before .before .before .before .before .before .after4 .ensures)) (c .before .before .before .before .before .before .before .before .walk3 .ensures) (c .before .before .before .before .before .before .enum-told13 .given .1) (c .before .before .before .before .before .check-entries2 .ensures) (c .before .before .before .enum-told15 .given .1) (c .before .before .same-rows3 .ensures) (not-true _ (c .before .if6 .taken)) refl)
+    (λ c. ends-differ (arm (turn t (c .before .before .before .before .before .before .before .before .before .before .before .before .before .before .before .before .before .before .before .before .before)) (c .before .before .before .before .before .before .before .before .before .before .before .before .before .before .before .before .before .before .before .statement3 .given .1)) (c .before .before .before .before .before .before .before .before .before .before .before .before .before .before .before .before .check-entries .ensures) (c .before .before .before .before .before .before .before .before .before .before .before .before .before .before .enum-told11 .given .1) (c .before .before .before .before .before .before .before .before .before .before .before .before .before .before .before .before .before .lose .ensures) (c .before .before .before .before .before .before .before .before .before .before .before .before .before .assume-entries .ensures) (assumed _ _ _ (c .before .before .before .before .before .before .before .before .before .before .before .before .ask-condition2 .ensures) (c .before .before .before .before .before .before .before .before .before .before .before .answer3 .ensures) (c .before .before .before .before .before .before .before .before .before .before .assume3 .ensures) (c .before .before .before .before .before .before .before .before .before .after4 .ensures)) (c .before .before .before .before .before .before .before .before .walk3 .ensures) (c .before .before .before .before .before .before .enum-told13 .given .1) (c .before .before .before .before .before .check-entries2 .ensures) (c .before .before .before .enum-told15 .given .1) (c .before .before .same-rows3 .ensures) (not-true _ (c .before .if6 .taken)) refl)
     (λ c κs. search needs)
     (λ c κs. negated-offset _ _ (c .negated2 .ensures) (while-offset (arm (turn t (c .before .before .before .before .before .before .before .before .before .before .before .before .before .before .before .before .before .before .before .before .before)) (c .before .before .before .before .before .before .before .before .before .before .before .before .before .before .before .before .before .before .before .statement3 .given .1))))
     (λ c κs. search needs)
     (λ c. omega (arith, (turn t (c .before .before .before .before .before .before .before .before .before .before .before .before .before .before .before .before .before .before .before .before .before .before .before .before)) .some))
-    (λ c. turn-while (arm (turn t (c .before .before .before .before .before .before .before .before .before .before .before .before .before .before .before .before .before .before .before .before .before .before .before .before)) (c .before .before .before .before .before .before .before .before .before .before .before .before .before .before .before .before .before .before .before .before .before .before .statement3 .given .1)) (c .before .before .before .before .before .before .before .before .before .before .before .before .before .before .before .before .before .before .before .before .check-entries .ensures) (c .before .before .before .before .before .before .before .before .before .before .before .before .before .before .before .before .before .before .enum-told11 .given .1) (c .before .before .before .before .before .before .before .before .before .before .before .before .before .before .before .before .before .lose .ensures) (c .before .before .before .before .before .before .before .before .before .before .before .before .before .before .before .before .assume-entries .ensures) (assumed _ _ _ (c .before .before .before .before .before .before .before .before .before .before .before .before .before .before .before .ask-condition2 .ensures) (c .before .before .before .before .before .before .before .before .before .before .before .before .before .before .answer3 .ensures) (c .before .before .before .before .before .before .before .before .before .before .before .before .before .assume3 .ensures) (c .before .before .before .before .before .before .before .before .before .before .before .before .after4 .ensures)) (c .before .before .before .before .before .before .before .before .before .before .before .walk3 .ensures) (c .before .before .before .before .before .before .before .before .before .enum-told13 .given .1) (c .before .before .before .before .before .before .before .before .check-entries2 .ensures) (c .before .before .before .before .before .before .enum-told15 .given .1) (c .before .before .before .before .before .same-rows3 .ensures) (not-false _ (c .before .before .before .before .if6 .left)) (c .before .before .before .negated2 .ensures) (assumed _ _ _ (negated-asked _ _ (c .before .before .before .negated2 .ensures) (c .before .before .before .before .before .before .before .before .before .before .before .before .before .before .before .ask-condition2 .ensures)) (c .before .before .before .before .before .before .before .before .before .before .before .before .before .before .answer3 .ensures) (c .before .before .assume4 .ensures) (c .before .after5 .ensures)))
+    (λ c. turn-while (arm (turn t (c .before .before .before .before .before .before .before .before .before .before .before .before .before .before .before .before .before .before .before .before .before .before .before .before)) (c .before .before .before .before .before .before .before .before .before .before .before .before .before .before .before .before .before .before .before .before .before .before .statement3 .given .1)) (c .before .before .before .before .before .before .before .before .before .before .before .before .before .before .before .before .before .before .before .check-entries .ensures) (c .before .before .before .before .before .before .before .before .before .before .before .before .before .before .before .before .before .enum-told11 .given .1) (c .before .before .before .before .before .before .before .before .before .before .before .before .before .before .before .before .before .before .before .before .lose .ensures) (c .before .before .before .before .before .before .before .before .before .before .before .before .before .before .before .before .assume-entries .ensures) (assumed _ _ _ (c .before .before .before .before .before .before .before .before .before .before .before .before .before .before .before .ask-condition2 .ensures) (c .before .before .before .before .before .before .before .before .before .before .before .before .before .before .answer3 .ensures) (c .before .before .before .before .before .before .before .before .before .before .before .before .before .assume3 .ensures) (c .before .before .before .before .before .before .before .before .before .before .before .before .after4 .ensures)) (c .before .before .before .before .before .before .before .before .before .before .before .walk3 .ensures) (c .before .before .before .before .before .before .before .before .before .enum-told13 .given .1) (c .before .before .before .before .before .before .before .before .check-entries2 .ensures) (c .before .before .before .before .before .before .enum-told15 .given .1) (c .before .before .before .before .before .same-rows3 .ensures) (not-false _ (c .before .before .before .before .if6 .left)) (c .before .before .before .negated2 .ensures) (assumed _ _ _ (negated-asked _ _ (c .before .before .before .negated2 .ensures) (c .before .before .before .before .before .before .before .before .before .before .before .before .before .before .before .ask-condition2 .ensures)) (c .before .before .before .before .before .before .before .before .before .before .before .before .before .before .answer3 .ensures) (c .before .before .assume4 .ensures) (c .before .after5 .ensures)))
     (λ c. search needs)
     (λ c. let u = (arm (turn t (c .before .before .before)) (c .before .statement4 .given .1)) in omega (arith, placed u, bundle-count u))
     (λ c κs. (

@@ -10,8 +10,8 @@ pub assume-entries-spec : {M : Type 1} → statement M
 assume-entries-spec =
     tie.close
     (tie.spec
-    (λ listed at n facts₀ e₀ facts e. Assumed listed at n facts₀ e facts)
-    (λ listed at n facts₀ e₀ facts e. n - e)
+    (λ listed at facts₀ n e₀ facts e. Assumed listed at n facts₀ e facts)
+    (λ listed at facts₀ n e₀ facts e. n - e)
     (λ c κs. search needs)
     (λ c. assumed-none _ _ _ _)
     (λ c κs. (omega (arith, c .loop-test .taken, c .before .before .entry-count .ensures, c .before .before .before .pre .0), c .before .before .before .pre .1))
