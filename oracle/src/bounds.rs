@@ -90,6 +90,17 @@ impl Known {
     }
 }
 
+/// Point 9: whether the facts show "the lower end at most the address, and the address plus 1 at most the upper end", by
+/// the declared ends in force; the address p + s times i + k is an end of the size of p.
+pub fn access_within(routine: &Routine, rows: &Rows, facts: &Facts, p: Var, i: Option<Var>, k: i32) -> bool {
+    let Some(KnownBounds { size, lower, upper }) = declared(routine, rows, p) else {
+        return false;
+    };
+    let address = |more: i64| Some(Value { pointer: p, integer: i, constant: i64::from(k) + more });
+    facts.contradictory()
+        || end_below(facts, lower, address(0), Some(size)) && end_below(facts, address(1), upper, Some(size))
+}
+
 /// End a <= end b, with the size where both have the same one. An unknown end is below or above no end. Point 10: "With
 /// equal sizes the integer chain's sum is multiplied by s; with different sizes an end is comparable only when neither
 /// names an integer."

@@ -1,12 +1,13 @@
-//! The checker in its plain form: the walk, refusals 8, 9 and 13.
+//! The checker in its plain form: the walk, refusals 8, 9, 13 and what 17 finds on the way.
 
 use crate::answer::{CheckAnswer, Refusal};
 pub use crate::bounds::{Known, KnownBounds, KnownEnd, Value};
 use crate::facts::{Facts, Node, GREATEST, ZERO};
+use crate::loop_facts::{Entry, LoopFacts};
 pub use crate::rows::Rows;
 use crate::table::{decode, Condition, Routine, Statement, Var};
 
-/// Causes 1 to 9 and 13 of a table.
+/// Causes 1 to 9 and 13 of a table without a list of loop facts.
 pub fn check(words: &[i32]) -> CheckAnswer {
     check_routine(&decode(words)?)
 }
@@ -18,9 +19,25 @@ pub fn check_routine(routine: &Routine) -> CheckAnswer {
 
 /// The walk over a decoded routine with somebody who looks on; gives the facts after it.
 pub fn watch(routine: &Routine, observer: &mut dyn Observer) -> Result<Facts, Refusal> {
+    watch_with_facts(routine, &LoopFacts::default(), observer)
+}
+
+/// The same with a list of loop facts.
+pub fn watch_with_facts(
+    routine: &Routine,
+    loop_facts: &LoopFacts,
+    observer: &mut dyn Observer,
+) -> Result<Facts, Refusal> {
     let state = State { facts: Facts::new(&routine.kinds), rows: Rows::at_entry(routine) };
-    let end = Walker { routine, observer }.block(0, routine.statements.len(), state)?;
+    let end = Walker { routine, loop_facts, observer }.block(0, routine.statements.len(), state)?;
     Ok(end.facts)
+}
+
+/// Where the entries of a loop are asked for.
+#[derive(Clone, Copy, Debug, PartialEq, Eq)]
+pub enum Asked {
+    BeforeLoop,
+    AtBodyEnd,
 }
 
 /// Looks on while the walk goes, and changes nothing.
@@ -30,6 +47,9 @@ pub trait Observer {
 
     /// What is known after a statement with its blocks, when its declared bounds are asked for.
     fn after(&mut self, _statement: usize, _facts: &Facts, _rows: &Rows, _known: &Known) {}
+
+    /// An entry of the list, by its number, that these facts do not show at its loop: refusal 17.
+    fn unshown(&mut self, _number: usize, _entry: Entry, _asked: Asked, _facts: &Facts) {}
 }
 
 /// Nobody looks on.
@@ -66,6 +86,7 @@ impl State {
 
 struct Walker<'a> {
     routine: &'a Routine,
+    loop_facts: &'a LoopFacts,
     observer: &'a mut dyn Observer,
 }
 
@@ -129,15 +150,29 @@ impl Walker<'_> {
                 Ok(State { facts: then.facts.join(&other.facts), ..then })
             }
             Statement::While { condition, .. } => {
+                self.entries_shown(s, Asked::BeforeLoop, &state)?;
                 let mut head = state;
                 for v in self.routine.statements[s + 1..next].iter().filter_map(Statement::target) {
                     head.facts = head.facts.drop(Node::from(v));
                 }
+                head.facts = self.loop_facts.assume(s, head.facts);
                 let end = self.block(s + 1, next, head.clone().assume(condition))?;
+                self.entries_shown(s, Asked::AtBodyEnd, &end)?;
                 same_rows(s, &head, &end)?;
                 Ok(head.assume(condition.negated()))
             }
             _ => Ok(state),
+        }
+    }
+
+    /// 17: a listed fact must be "shown before the loop and again at the end of the body".
+    fn entries_shown(&mut self, s: usize, asked: Asked, state: &State) -> Result<(), Refusal> {
+        match self.loop_facts.first_unshown(s, &state.facts) {
+            Some((number, entry)) => {
+                self.observer.unshown(number, entry, asked, &state.facts);
+                Err(Refusal::at(17, number))
+            }
+            None => Ok(()),
         }
     }
 

@@ -1,12 +1,12 @@
-//! The plain machine with origins: entry causes 10 to 12 and 16 and the run by
-//! the paper's words, one statement due at a time.
+//! The plain machine with origins: the run by the paper's words, one statement due at a time.
 
-use crate::answer::{Check, Refusal, RunAnswer, RunInput};
+use crate::answer::{Check, RunAnswer, RunInput};
 use crate::checker::check_routine;
+use crate::entry::{check_entry, end_value, object_range};
+use crate::report::accept;
 use crate::rows::Rows;
-use crate::table::{decode, Condition, End, Kind, Operator, Right, Routine, Statement, Var};
+use crate::table::{decode, Condition, Kind, Operator, Right, Routine, Statement, Var};
 
-pub const MAX_CELLS: usize = 16_777_216;
 pub const MODULUS: i64 = 1 << 32;
 
 /// Checks the routine and the entry, then runs it in the lent buffers.
@@ -17,76 +17,21 @@ pub fn run(words: &[i32], input: &mut RunInput) -> RunAnswer {
     }
 }
 
+/// The same with a list of loop facts: it decides what is refused, and changes no step.
+pub fn run_with_facts(words: &[i32], facts: &[i32], input: &mut RunInput) -> RunAnswer {
+    match accept(words, facts) {
+        Err(refusal) => RunAnswer::Refused(refusal),
+        Ok(accepted) => run_routine(&accepted.routine, input),
+    }
+}
+
 /// The run of an accepted routine.
 pub fn run_routine(routine: &Routine, input: &mut RunInput) -> RunAnswer {
-    match check_entry(routine, input) {
-        Err(refusal) => RunAnswer::Refused(refusal),
-        Ok(()) => Machine::new(routine, input).go(),
+    if let Err(refusal) = check_entry(routine, input) {
+        return RunAnswer::Refused(refusal);
     }
-}
-
-/// The object as the half-open range of its cells.
-fn object_range(directory: &[u32], origin: u32) -> (i64, i64) {
-    let pair = 2 * (origin as usize - 1);
-    let low = i64::from(directory[pair]);
-    (low, low + i64::from(directory[pair + 1]))
-}
-
-/// The value of an end of a pointer with this element size: a whole number, never wrapped.
-fn end_value(end: End, size: i64, values: &[u32]) -> i64 {
-    let integer = end.integer.map_or(0, |i| i64::from(values[usize::from(i)]));
-    i64::from(values[usize::from(end.pointer)]) + size * integer + i64::from(end.constant)
-}
-
-/// Causes 10 to 12, in the paper's row order, then 16.
-pub fn check_entry(routine: &Routine, input: &RunInput) -> Result<(), Refusal> {
-    if input.cells.len() > MAX_CELLS || input.directory.len() != 2 * routine.objects.len() {
-        return Err(Refusal::at(10, 0));
-    }
-    // The first free cell after the pair before; cell 0 is in no object.
-    let mut free = 1i64;
-    for (o, pair) in input.directory.chunks_exact(2).enumerate() {
-        let (offset, length) = (i64::from(pair[0]), i64::from(pair[1]));
-        let outside = offset + length > input.cells.len() as i64;
-        if offset < free || outside || pair[1] != routine.objects[o].length {
-            return Err(Refusal::at(10, o));
-        }
-        free = offset + length;
-    }
-    let variables = routine.kinds.len();
-    if input.values.len() != variables || input.origins.len() != variables {
-        return Err(Refusal::at(11, 0));
-    }
-    if let Some(v) = (0..variables).find(|&v| !entry_true(routine, input, v)) {
-        return Err(Refusal::at(12, v));
-    }
-    // Point 7: "when such a last cell is not 0 at entry, giving the lowest such object".
-    let last = |o: usize| (input.directory[2 * o] + input.directory[2 * o + 1]) as usize - 1;
-    let unfit = |&o: &usize| routine.objects[o].terminated && input.cells[last(o)] != 0;
-    match (0..routine.objects.len()).find(unfit) {
-        Some(o) => Err(Refusal::at(16, o)),
-        None => Ok(()),
-    }
-}
-
-/// Cause 12 of one variable: a right origin, and true bounds.
-fn entry_true(routine: &Routine, input: &RunInput, v: usize) -> bool {
-    let origin = input.origins[v];
-    if routine.kinds[v] == Kind::Integer || input.values[v] == 0 {
-        return origin == 0;
-    }
-    if origin == 0 || origin as usize > routine.objects.len() {
-        return false;
-    }
-    let object = routine.objects[origin as usize - 1];
-    // Point 7: true "only when it is null or its origin is a terminated object".
-    if routine.kinds[v] == Kind::Terminated && !object.terminated {
-        return false;
-    }
-    let low = object_range(&input.directory, origin).0;
-    let bounds = routine.bounds[v].expect("a pointer has bounds");
-    let value = |end: End| end_value(end, routine.size(v as Var), &input.values);
-    low <= value(bounds.lower) && value(bounds.upper) <= low + i64::from(object.room())
+    let RunInput { directory, cells, values, origins, allowance } = input;
+    Machine::new(routine, directory, values, origins).go(cells, u64::from(*allowance))
 }
 
 /// The block a statement stands in: where it ends, and its head.
@@ -96,16 +41,15 @@ struct Block {
     head: Option<usize>,
 }
 
-struct Machine<'a> {
+/// A run that is begun, on cells that it is lent again for each part of it.
+pub struct Machine<'a> {
     routine: &'a Routine,
     blocks: Vec<Block>,
     directory: &'a [u32],
-    cells: &'a mut [u32],
     values: &'a mut [u32],
     origins: Vec<u32>,
     /// Point 2: whose bounds are the declared ones, "for the access check too".
     rows: Rows,
-    allowance: u64,
     due: Option<usize>,
     steps: u64,
 }
@@ -116,7 +60,13 @@ enum Halt {
 }
 
 impl<'a> Machine<'a> {
-    fn new(routine: &'a Routine, input: &'a mut RunInput) -> Machine<'a> {
+    /// The start of a run of an accepted routine whose entry is accepted.
+    pub fn new(
+        routine: &'a Routine,
+        directory: &'a [u32],
+        values: &'a mut [u32],
+        origins: &[u32],
+    ) -> Machine<'a> {
         let count = routine.statements.len();
         let mut blocks = vec![Block { end: count, head: None }; count];
         for (s, statement) in routine.statements.iter().enumerate() {
@@ -132,26 +82,34 @@ impl<'a> Machine<'a> {
         Machine {
             routine,
             blocks,
-            directory: &input.directory,
-            cells: &mut input.cells,
-            values: &mut input.values,
-            origins: input.origins.clone(),
+            directory,
+            values,
+            origins: origins.to_vec(),
             rows: Rows::at_entry(routine),
-            allowance: u64::from(input.allowance),
             due: (count > 0).then_some(0),
             steps: 0,
         }
     }
 
-    /// Done before spent, spent before stopped.
-    fn go(mut self) -> RunAnswer {
+    /// The statement due.
+    pub fn due(&self) -> Option<usize> {
+        self.due
+    }
+
+    pub fn values(&self) -> &[u32] {
+        self.values
+    }
+
+    /// Goes on to its end, or until it has made so many steps in all: done before spent, spent before stopped. A run
+    /// that is spent can go on with a greater limit.
+    pub fn go(&mut self, cells: &mut [u32], limit: u64) -> RunAnswer {
         while let Some(s) = self.due {
             let statement = s as u32;
-            if self.steps == self.allowance {
+            if self.steps == limit {
                 return RunAnswer::Spent { steps: self.steps, statement };
             }
             self.steps += 1;
-            match self.step(s) {
+            match self.step(s, cells) {
                 Ok(due) => self.due = due,
                 Err(Halt::Stopped(check)) => {
                     return RunAnswer::Stopped { steps: self.steps, statement, check }
@@ -258,7 +216,7 @@ impl<'a> Machine<'a> {
     }
 
     /// One step; gives the statement due after it.
-    fn step(&mut self, s: usize) -> Result<Option<usize>, Halt> {
+    fn step(&mut self, s: usize, cells: &mut [u32]) -> Result<Option<usize>, Halt> {
         let statement = self.routine.statements[s];
         let next = s + statement.size();
         match statement {
@@ -287,13 +245,13 @@ impl<'a> Machine<'a> {
                 self.advance(p, q, self.routine.size(q) * self.value(i))?
             }
             Statement::Load { x, p, i, k } => {
-                let cell = self.cells[self.access(p, i, k, None)?];
+                let cell = cells[self.access(p, i, k, None)?];
                 self.set(x, i64::from(cell));
             }
             Statement::Store { p, i, k, x } => {
                 let number = self.values[usize::from(x)];
                 let address = self.access(p, i, k, Some(number))?;
-                self.cells[address] = number;
+                cells[address] = number;
             }
             Statement::Check { condition } => {
                 if !self.holds(condition) {

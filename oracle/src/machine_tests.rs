@@ -55,7 +55,7 @@ fn directory_and_memory() {
     assert_eq!(entry(|i| i.directory[2] = u32::MAX), "refused 10 1");
     assert_eq!(entry(|i| i.cells.truncate(9)), "done 0");
     assert_eq!(entry(|i| i.cells.truncate(8)), "refused 10 1");
-    assert_eq!(entry(|i| i.cells = vec![0; machine::MAX_CELLS + 1]), "refused 10 0");
+    assert_eq!(entry(|i| i.cells = vec![0; crate::entry::MAX_CELLS + 1]), "refused 10 0");
 }
 
 #[test]

@@ -140,7 +140,7 @@ fn read_statements(words: &[i32], names: &mut Names) -> Result<Vec<Statement>, R
 }
 
 /// Every k of the table is -65,536 to 65,536.
-fn constant(word: i32) -> Option<i32> {
+pub(crate) fn constant(word: i32) -> Option<i32> {
     (-MAX_CONSTANT..=MAX_CONSTANT).contains(&word).then_some(word)
 }
 
