@@ -10,9 +10,10 @@ pub const STACK_BYTES: usize = 131_072;
 /// Why a routine, or a run of it, is refused.
 #[derive(Clone, Copy, Debug, PartialEq, Eq)]
 pub struct Refusal {
-    /// The paper's number, 1 to 13 or 16.
+    /// The paper's number, 1 to 13, 16 or 17.
     pub number: u32,
-    /// Object, variable (a bounds row counts on behind the variables), statement or pair, by the number; 0 where there is none.
+    /// Object, variable (a bounds row counts on behind the variables), statement, pair or entry of a list, by the number; 0 where there is
+    /// none.
     pub place: u32,
     /// For refusal 8 the lowest pointer variable whose declared bounds are not shown there; at a kind 14 its own pointer.
     pub pointer: Option<u32>,
@@ -77,12 +78,33 @@ pub fn version() -> [u32; 3] {
     [number / 10_000, number / 100 % 100, number % 100]
 }
 
-/// Checks a routine table.
-pub fn check(table: &[i32]) -> Verdict {
-    match extern_c::check_words(table) {
+fn verdict(words: [u32; 3]) -> Verdict {
+    match words {
         [0, ..] => Verdict::Accepted,
         words => Verdict::Refused(refusal(words)),
     }
+}
+
+fn outcome(words: [u32; 4]) -> Outcome {
+    match words {
+        [0, steps, ..] => Outcome::Done { steps },
+        [1, steps, statement, _] => Outcome::Spent { steps, statement },
+        [2, steps, statement, check] => Outcome::Stopped { steps, statement, check: check_of(check) },
+        [3, number, place, pointer] => Outcome::Refused(refusal([number, place, pointer])),
+        _ => unreachable!("the library's outcomes are 0 to 3"),
+    }
+}
+
+/// Checks a routine table.
+pub fn check(table: &[i32]) -> Verdict {
+    verdict(extern_c::check_words(table))
+}
+
+/// Checks a routine table with a list of loop facts, four words an entry: while statement, x, y, k. Where the routine is accepted, also
+/// the statements, ascending, of the accesses that stop no run at check 2 or 3.
+pub fn check_with_facts(table: &[i32], facts: &[i32]) -> (Verdict, Vec<u32>) {
+    let (words, report) = extern_c::check_with_facts_words(table, facts);
+    (verdict(words), report)
 }
 
 /// Runs a routine table on lent cells and values, `limit` steps at most. Only these two are written, and by a refusal neither.
@@ -94,13 +116,20 @@ pub fn run(
     origins: &[u32],
     limit: u32,
 ) -> Outcome {
-    match extern_c::run_words(table, directory, cells, values, origins, limit) {
-        [0, steps, ..] => Outcome::Done { steps },
-        [1, steps, statement, _] => Outcome::Spent { steps, statement },
-        [2, steps, statement, check] => Outcome::Stopped { steps, statement, check: check_of(check) },
-        [3, number, place, pointer] => Outcome::Refused(refusal([number, place, pointer])),
-        _ => unreachable!("the library's outcomes are 0 to 3"),
-    }
+    outcome(extern_c::run_words(table, directory, cells, values, origins, limit))
+}
+
+/// The same with a list of loop facts.
+pub fn run_with_facts(
+    table: &[i32],
+    facts: &[i32],
+    directory: &[u32],
+    cells: &mut [u32],
+    values: &mut [u32],
+    origins: &[u32],
+    limit: u32,
+) -> Outcome {
+    outcome(extern_c::run_with_facts_words(table, facts, directory, cells, values, origins, limit))
 }
 
 impl fmt::Display for Refusal {
