@@ -2,7 +2,7 @@
 
 use crate::generate::{accepted, accepted_with_rows, accepted_with_sizes};
 use crate::linked::Proved;
-use crate::proved::Implementation;
+use crate::proved::{Fast, Implementation};
 use crate::{fast_check, fast_run};
 use oracle::answer::{RunAnswer, RunInput};
 use oracle::draft::*;
@@ -14,7 +14,8 @@ use std::time::Instant;
 const STATEMENTS: usize = 1_024;
 
 /// The parts of the benchmark, in their order.
-pub const PARTS: [(&str, fn()); 4] = [("check", check), ("run", run), ("rows", rows), ("sizes", sizes)];
+pub const PARTS: [(&str, fn()); 5] =
+    [("check", check), ("run", run), ("rows", rows), ("sizes", sizes), ("facts", facts)];
 
 /// Nanoseconds for one call: the best of many short rounds, as other work on
 /// the machine only ever adds to a round.
@@ -82,6 +83,22 @@ pub fn sizes_table() -> Vec<i32> {
     table.words()
 }
 
+/// Loops over an array one after the other: a cell is read, raised and written back; 1,024 statements with the check
+/// before them. Variables as in `loop_table`.
+pub fn accesses_table(loops: usize) -> Vec<i32> {
+    let mut table = Draft::from_words(&loop_table()).expect("a right directory");
+    let (p, n, i, x) = (0, 1, 2, 3);
+    let body = vec![load(x, p, i, 0), add_constant(x, x, 1), store(p, i, 0, x), add_constant(i, i, 1)];
+    let part = [vec![set(i, 0)], while_loop(with_variable(i, NOT_EQUAL, n), body)].concat();
+    table.statements = [vec![dynamic_check(with_literal(p, NOT_EQUAL, 0))], part.repeat(loops)].concat();
+    table.words()
+}
+
+/// i <= n at each of these loops.
+pub fn accesses_list(loops: usize) -> Vec<i32> {
+    (0..loops as i32).flat_map(|number| [2 + 6 * number, 2, 1, 0]).collect()
+}
+
 /// How many statements of each kind the tables have.
 fn kinds(tables: &[Vec<i32>]) -> [usize; 14] {
     let mut counts = [0; 14];
@@ -115,6 +132,33 @@ fn sizes() {
     run_table("loop by size 3", ", loop by size 3", &sizes_table(), 300);
 }
 
+/// Check and run of loops of accesses with a list of a fact for each, beside the same without.
+fn facts() {
+    const LOOPS: usize = 170;
+    let (table, list) = (accesses_table(LOOPS), accesses_list(LOOPS));
+    let statements = (1 + 6 * LOOPS) as f64;
+    for (name, list) in [("without a list", &[][..]), ("with a list", &list[..])] {
+        let forms: [(&str, &dyn Implementation, usize); 2] = [("fast", &Fast, 300), ("proved", &Proved, 100)];
+        for (form, implementation, rounds) in forms {
+            let reported = implementation.check(&table, list).report.len();
+            let each = best(rounds, || assert_eq!(implementation.check(black_box(&table), list).words[0], 0));
+            println!(
+                "check, {form}, {name}: {:.1} ns a statement, {reported} accesses reported",
+                each / statements
+            );
+            // A run checks first: the steps are those of 100 cells in each of the loops.
+            let mut steps = 0;
+            let each = best(rounds, || {
+                let mut input = loop_input(100, u32::MAX);
+                let words = implementation.run(black_box(&table), list, &mut input);
+                assert_eq!(words[0], 0, "done");
+                steps = words[1];
+            });
+            println!("run, {form}, {name}: {:.2} ns a step, {steps} steps", each / f64::from(steps));
+        }
+    }
+}
+
 fn check_tables(beside: &str, make: fn(u64, usize, usize) -> Vec<i32>) {
     for variables in [11, 16] {
         let tables: Vec<Vec<i32>> = (0..8).map(|seed| make(seed, STATEMENTS, variables)).collect();
@@ -130,7 +174,7 @@ fn check_forms(title: &str, tables: &[Vec<i32>]) {
         ("decode only", |t| decode(t).is_ok(), 300),
         ("check, fast", |t| fast_check::check(t).is_ok(), 300),
         ("check, plain", |t| checker::check(t).is_ok(), 20),
-        ("check, proved", |t| Proved.check(t)[0] == 0, 100),
+        ("check, proved", |t| Proved.check_alone(t)[0] == 0, 100),
     ];
     let mut fast = f64::NAN;
     for (name, form, rounds) in forms {
@@ -159,7 +203,7 @@ fn run_table(title: &str, beside: &str, table: &[i32], cells: u32) {
     let forms: [(&str, Run, u32); 3] = [
         ("run, fast", |t, i| matches!(fast_run::run(t, i), RunAnswer::Spent { .. }), 200_000),
         ("run, plain", |t, i| matches!(machine::run(t, i), RunAnswer::Spent { .. }), 20_000),
-        ("run, proved", |t, i| Proved.run(t, i)[0] == 1, 200_000),
+        ("run, proved", |t, i| Proved.run_alone(t, i)[0] == 1, 200_000),
     ];
     let mut fast = f64::NAN;
     for (name, run, steps) in forms {
@@ -178,6 +222,18 @@ fn run_table(title: &str, beside: &str, table: &[i32], cells: u32) {
 #[cfg(test)]
 mod tests {
     use super::*;
+
+    #[test]
+    fn the_list_makes_all_accesses_safe() {
+        for loops in [1, 170] {
+            let (table, list) = (accesses_table(loops), accesses_list(loops));
+            let report = |facts: &[i32]| Fast.check(&table, facts).report.len();
+            assert_eq!([report(&[]), report(&list)], [0, 2 * loops]);
+            let run = |facts: &[i32]| Fast.run(&table, facts, &mut loop_input(100, u32::MAX));
+            assert_eq!(run(&[]), run(&list));
+            assert_eq!(run(&list)[..2], [0, 1 + 502 * loops as u32]);
+        }
+    }
 
     #[test]
     fn the_measured_loops_are_right_in_both_forms() {

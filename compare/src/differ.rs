@@ -3,20 +3,21 @@
 use crate::generate::{case, Case};
 use crate::noninterference::{Ended, Pair};
 use crate::parallel::lowest;
+use crate::promises;
 use crate::proved::{
-    check_words, run_agrees, run_words, show_check_words, show_run_words, Implementation, RunWords,
+    checked, run_agrees, run_words, show_check_words, show_checked, show_run_words, Implementation, RunWords,
 };
 use crate::shrink::shrink;
-use oracle::answer::{show_check, Refusal, RunAnswer, RunInput};
-use oracle::table::{decode, Routine};
-use oracle::{checker, machine};
+use oracle::answer::{Refusal, RunAnswer, RunInput};
+use oracle::machine;
+use oracle::report::{accept, Accepted};
 use std::fmt::Write;
 
 /// A case and its runs. The plain form checks the table once, and the buffers are used again at every
 /// limit: each can be 64 MB, and new ones for each run took nearly a third of the time.
 struct Runs<'a> {
     case: &'a Case,
-    routine: Result<Routine, Refusal>,
+    accepted: Result<Accepted, Refusal>,
     /// The second of two runs that must not be told apart; `None` where the entry is refused.
     pair: Option<Pair>,
     ours: RunInput,
@@ -33,28 +34,42 @@ fn lend(buffers: &mut RunInput, input: &RunInput, allowance: u32) {
 
 impl<'a> Runs<'a> {
     fn new(case: &'a Case) -> Runs<'a> {
-        let routine = decode(&case.table).and_then(|r| checker::check_routine(&r).map(|_| r));
-        let pair = routine.as_ref().ok().and_then(|routine| Pair::new(routine, &case.input));
+        let accepted = accept(&case.table, &case.facts);
+        let pair = accepted.as_ref().ok().and_then(|a| Pair::new(&a.routine, &case.input));
         let [ours, theirs, second] = [(); 3].map(|_| RunInput::default());
-        Runs { case, routine, pair, ours, theirs, second }
+        Runs { case, accepted, pair, ours, theirs, second }
     }
 
     fn check_difference(&self, other: &dyn Implementation) -> Option<String> {
-        let right = self.routine.as_ref().map(|_| ()).map_err(|refusal| *refusal);
-        let words = other.check(&self.case.table);
-        (words != check_words(&right))
-            .then(|| format!("check: {} and {}", show_check(&right), show_check_words(words)))
+        let Case { table, facts, .. } = self.case;
+        let right = checked(self.accepted.as_ref().map(|a| a.report.clone()).map_err(|r| *r));
+        let answer = other.check(table, facts);
+        if answer != right {
+            return Some(format!("check: {} and {}", show_checked(&right), show_checked(&answer)));
+        }
+        let alone = if facts.is_empty() { other.check_alone(table) } else { right.words };
+        (alone != right.words).then(|| {
+            format!("check without a list: {} and {}", show_checked(&right), show_check_words(alone))
+        })
     }
 
     fn run_difference(&mut self, allowance: u32, other: &dyn Implementation) -> Option<String> {
         for buffers in [&mut self.ours, &mut self.theirs] {
             lend(buffers, &self.case.input, allowance);
         }
-        let right = match &self.routine {
+        let right = match &self.accepted {
             Err(refusal) => RunAnswer::Refused(*refusal),
-            Ok(routine) => machine::run_routine(routine, &mut self.ours),
+            Ok(accepted) => match promises::run(accepted, &mut self.ours) {
+                Err(broken) => return Some(broken),
+                Ok(answer) => answer,
+            },
         };
-        let words = other.run(&self.case.table, &mut self.theirs);
+        let Case { table, facts, .. } = self.case;
+        // Without a list there are two calls, which answer alike: at even limits the one that takes none.
+        let words = match facts.is_empty() && allowance % 2 == 0 {
+            true => other.run_alone(table, &mut self.theirs),
+            false => other.run(table, facts, &mut self.theirs),
+        };
         if !run_agrees(&right, words) {
             return Some(format!("run: {right} and {}", show_run_words(words)));
         }
@@ -68,10 +83,10 @@ impl<'a> Runs<'a> {
     /// What a run lets out of cells out of reach, by a second run of the plain form and of the other; the first
     /// runs of the two have just ended alike.
     fn leak(&mut self, allowance: u32, answer: RunWords, other: &dyn Implementation) -> Option<String> {
-        let (Some(pair), Ok(routine)) = (&self.pair, &self.routine) else { return None };
+        let (Some(pair), Ok(accepted)) = (&self.pair, &self.accepted) else { return None };
         let first = Ended { answer, after: &self.ours };
-        let plain = |buffers: &mut RunInput| run_words(&machine::run_routine(routine, buffers));
-        let others = |buffers: &mut RunInput| other.run(&self.case.table, buffers);
+        let plain = |buffers: &mut RunInput| run_words(&machine::run_routine(&accepted.routine, buffers));
+        let others = |buffers: &mut RunInput| other.run(&self.case.table, &self.case.facts, buffers);
         let forms: [(&str, Run); 2] = [("plain form", &plain), (other.name(), &others)];
         for (name, run) in forms {
             lend(&mut self.second, &pair.second, allowance);
@@ -145,19 +160,29 @@ fn join<T: ToString>(words: &[T]) -> String {
 pub fn vector(case: &Case) -> String {
     let RunInput { directory, cells, values, origins, allowance } = &case.input;
     let mut after = case.input.clone();
-    let run = machine::run(&case.table, &mut after);
+    let accepted = accept(&case.table, &case.facts);
+    let run = machine::run_with_facts(&case.table, &case.facts, &mut after);
     let mut text = String::new();
     let mut line = |name: &str, value: String| {
         text += format!("{name}: {value}").trim_end();
         text.push('\n');
     };
     line("table", join(&case.table));
+    if !case.facts.is_empty() {
+        line("facts", join(&case.facts));
+    }
     line("directory", join(directory));
     line("cells", join(cells));
     line("values", join(values));
     line("origins", join(origins));
     line("allowance", allowance.to_string());
-    line("check", show_check(&checker::check(&case.table)));
+    match &accepted {
+        Err(refusal) => line("check", refusal.to_string()),
+        Ok(accepted) => {
+            line("check", "accepted".to_string());
+            line("safe", join(&accepted.report));
+        }
+    }
     line("run", run.to_string());
     if !matches!(run, RunAnswer::Refused(_)) {
         line("after-values", join(&after.values));
@@ -169,7 +194,7 @@ pub fn vector(case: &Case) -> String {
 #[cfg(test)]
 mod tests {
     use super::*;
-    use crate::proved::{CheckWords, Fast};
+    use crate::proved::{Checked, Fast};
     use crate::vectors;
 
     /// Wrong on purpose: takes every refusal 9 for accepted.
@@ -180,15 +205,16 @@ mod tests {
             "lenient"
         }
 
-        fn check(&self, table: &[i32]) -> CheckWords {
-            match Fast.check(table) {
-                [9, ..] => [0; 3],
-                words => words,
+        fn check(&self, table: &[i32], facts: &[i32]) -> Checked {
+            let answer = Fast.check(table, facts);
+            match answer.words {
+                [9, ..] => Checked { words: [0; 3], ..answer },
+                _ => answer,
             }
         }
 
-        fn run(&self, table: &[i32], input: &mut RunInput) -> RunWords {
-            Fast.run(table, input)
+        fn run(&self, table: &[i32], facts: &[i32], input: &mut RunInput) -> RunWords {
+            Fast.run(table, facts, input)
         }
     }
 

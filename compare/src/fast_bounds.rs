@@ -88,9 +88,9 @@ pub fn bits(mut mask: u16) -> impl Iterator<Item = usize> {
     })
 }
 
-/// Bit v for each variable whose facts can matter.
-fn used(routine: &Routine) -> u16 {
-    let mut mask = routine.compared;
+/// Bit v for each variable whose facts can matter, beside those that are asked for.
+fn used(routine: &Routine, asked: u16) -> u16 {
+    let mut mask = routine.compared | asked;
     for bounds in routine.bounds.iter().flatten().chain(&routine.rows) {
         for integer in [bounds.lower.integer, bounds.upper.integer].into_iter().flatten() {
             mask |= 1 << integer;
@@ -101,9 +101,9 @@ fn used(routine: &Routine) -> u16 {
 }
 
 impl<'a> FastBounds<'a> {
-    /// The bounds at entry and the facts there.
-    pub fn new(routine: &'a Routine) -> (FastBounds<'a>, FastFacts) {
-        let used = used(routine);
+    /// The bounds at entry and the facts there; bit v of `asked` for each variable that a list or a report asks of.
+    pub fn new(routine: &'a Routine, asked: u16) -> (FastBounds<'a>, FastFacts) {
+        let used = used(routine, asked);
         let pointers = routine.kinds.iter().filter(|kind| kind.is_pointer()).count();
         let integers = used.count_ones() as usize - pointers;
         let (mut next_pointer, mut next_integer) = (0u8, pointers as u8 + 1);
@@ -205,6 +205,20 @@ impl<'a> FastBounds<'a> {
         self.changed & 1 << p == 0
             || within(facts, declared, known, self.zero)
             || facts.shows(self.node(p), self.zero(), 0)
+    }
+
+    /// Whether the facts show p >= 1 and the access p[i + k] within the declared bounds (point 9).
+    pub fn access_within(&self, p: Var, i: Option<Var>, k: i32, facts: &FastFacts) -> bool {
+        if facts.contradictory {
+            return true;
+        }
+        let declared = &self.declared[usize::from(p)];
+        let integer = i.map_or(self.zero, |i| self.nodes[usize::from(i)]);
+        let address = Known { pointer: self.nodes[usize::from(p)], integer, constant: i64::from(k) };
+        let behind = Known { constant: address.constant + 1, ..address };
+        facts.shows(self.zero(), self.node(p), -1)
+            && below(facts, &declared.lower, &address, declared.size)
+            && below(facts, &behind, &declared.upper, declared.size)
     }
 
     /// All declared bounds must be shown and become the known ones.

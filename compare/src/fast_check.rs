@@ -4,23 +4,66 @@
 use crate::fast_bounds::{bits, FastBounds, InForce};
 use crate::fast_facts::FastFacts;
 use oracle::answer::{CheckAnswer, Refusal};
-use oracle::facts::GREATEST;
+use oracle::facts::{Node, GREATEST, ZERO};
+use oracle::loop_facts::LoopFacts;
 use oracle::table::{decode, Condition, Right, Routine, Statement, Var};
+use std::ops::Range;
 
-/// Causes 1 to 9 and 13 of a table.
+/// Causes 1 to 9 and 13 of a table without a list.
 pub fn check(words: &[i32]) -> CheckAnswer {
     check_routine(&decode(words)?)
 }
 
 /// Causes 8, 9 and 13 of a decoded routine.
 pub fn check_routine(routine: &Routine) -> CheckAnswer {
-    let (bounds, mut facts) = FastBounds::new(routine);
-    Walker { routine, bounds }.block(0, routine.statements.len(), &mut facts)
+    let (bounds, mut facts) = FastBounds::new(routine, 0);
+    Walker { routine, bounds, list: Vec::new(), report: None }.block(0, routine.statements.len(), &mut facts)
+}
+
+/// Causes 1 to 9, 13 and 17 of a table with a list of loop facts; the report of an accepted one.
+pub fn check_with_facts(words: &[i32], facts: &[i32]) -> Result<Vec<u32>, Refusal> {
+    let routine = decode(words)?;
+    let loop_facts = LoopFacts::read(&routine, facts)?;
+    report(&routine, &loop_facts)
+}
+
+/// Causes 8, 9, 13 and 17 of a decoded routine with its list; the report of an accepted one.
+pub fn report(routine: &Routine, loop_facts: &LoopFacts) -> Result<Vec<u32>, Refusal> {
+    let (bounds, mut facts) = FastBounds::new(routine, asked(routine, loop_facts));
+    let node = |x: Node| if x == ZERO { bounds.zero() } else { bounds.node(x as Var) };
+    let entries = loop_facts.entries().iter();
+    let list = entries.map(|e| Listed { head: e.head, x: node(e.x), y: node(e.y), k: e.k }).collect();
+    let mut walker = Walker { routine, bounds, list, report: Some(Vec::new()) };
+    walker.block(0, routine.statements.len(), &mut facts)?;
+    Ok(walker.report.unwrap_or_default())
+}
+
+/// Bit v for each variable of the list, and of an access as its index.
+fn asked(routine: &Routine, loop_facts: &LoopFacts) -> u16 {
+    let listed = loop_facts.entries().iter().flat_map(|entry| [entry.x, entry.y]);
+    let indexes = routine.statements.iter().filter_map(|statement| match *statement {
+        Statement::Load { i, .. } | Statement::Store { i, .. } => i.map(Node::from),
+        _ => None,
+    });
+    listed.chain(indexes).filter(|&x| x != ZERO).fold(0, |mask, x| mask | 1 << x)
+}
+
+/// An entry of the list over nodes of the fact store.
+#[derive(Clone, Copy)]
+struct Listed {
+    head: usize,
+    x: usize,
+    y: usize,
+    k: i64,
 }
 
 struct Walker<'a> {
     routine: &'a Routine,
     bounds: FastBounds<'a>,
+    /// Sorted by their heads.
+    list: Vec<Listed>,
+    /// The accesses reported up to here, where a report is asked for.
+    report: Option<Vec<u32>>,
 }
 
 impl Walker<'_> {
@@ -56,12 +99,19 @@ impl Walker<'_> {
                 }
                 Statement::While { condition, count } => {
                     let next = s + 1 + count as usize;
+                    let entries = self.entries(s);
+                    self.entries_shown(entries.clone(), facts)?;
                     self.drop_assigned(s + 1, next, facts);
+                    for &Listed { x, y, k, .. } in &self.list[entries.clone()] {
+                        facts.add(x, y, k);
+                    }
+                    // Of an empty body the entries are shown: they were assumed.
                     if count > 0 {
                         let mut body = *facts;
                         let head = self.bounds.in_force;
                         self.assume(&mut body, condition);
                         self.block(s + 1, next, &mut body)?;
+                        self.entries_shown(entries, &body)?;
                         self.same_rows(s, &head)?;
                     }
                     self.assume(facts, condition.negated());
@@ -76,6 +126,7 @@ impl Walker<'_> {
                     s = next;
                 }
                 simple => {
+                    self.report_access(s, facts);
                     self.simple(simple, facts);
                     self.bounds.settle(s, facts)?;
                     s += 1;
@@ -83,6 +134,32 @@ impl Walker<'_> {
             }
         }
         Ok(())
+    }
+
+    /// The places in the list of the entries of the loop at s.
+    fn entries(&self, s: usize) -> Range<usize> {
+        let start = self.list.partition_point(|entry| entry.head < s);
+        start..start + self.list[start..].partition_point(|entry| entry.head == s)
+    }
+
+    /// 17: the lowest of the entries that the facts do not show.
+    fn entries_shown(&self, mut entries: Range<usize>, facts: &FastFacts) -> CheckAnswer {
+        let unshown = |&e: &usize| {
+            let Listed { x, y, k, .. } = self.list[e];
+            !facts.shows(x, y, k)
+        };
+        entries.find(unshown).map_or(Ok(()), |e| Err(Refusal::at(17, e)))
+    }
+
+    #[inline]
+    fn report_access(&mut self, s: usize, facts: &FastFacts) {
+        let Some(report) = &mut self.report else { return };
+        if let Statement::Load { p, i, k, .. } | Statement::Store { p, i, k, .. } = self.routine.statements[s]
+        {
+            if self.bounds.access_within(p, i, k, facts) {
+                report.push(s as u32);
+            }
+        }
     }
 
     /// 13: other rows are in force here than there.
@@ -112,6 +189,7 @@ impl Walker<'_> {
                 return Err(Refusal::at(9, s));
             }
         }
+        self.report_access(s, facts);
         self.simple(statement, facts);
         match statement {
             Statement::Declare { p, .. } if !self.bounds.shown(p, facts) => Err(Refusal::bounds(s, p)),

@@ -2,15 +2,28 @@
 //! instructions that know where the run goes on, and runs without origins.
 //! That is allowed because an accepted routine never leaves an origin object.
 
-use crate::fast_check::check_routine;
+use crate::fast_check::{check_routine, report};
 use crate::fast_code::{translate, Code, FlatBounds, FlatEnd, Near, Op, Slot, SLOTS};
 use oracle::answer::{Check, RunAnswer, RunInput};
-use oracle::machine::check_entry;
+use oracle::entry::check_entry;
+use oracle::loop_facts::LoopFacts;
 use oracle::table::{decode, Routine};
 
 /// Checks the routine and the entry, then runs it in the lent buffers.
 pub fn run(words: &[i32], input: &mut RunInput) -> RunAnswer {
     match decode(words).and_then(|r| check_routine(&r).map(|_| r)) {
+        Err(refusal) => RunAnswer::Refused(refusal),
+        Ok(routine) => run_routine(&routine, input),
+    }
+}
+
+/// The same with a list of loop facts.
+pub fn run_with_facts(words: &[i32], facts: &[i32], input: &mut RunInput) -> RunAnswer {
+    let accepted = decode(words).and_then(|routine| {
+        report(&routine, &LoopFacts::read(&routine, facts)?)?;
+        Ok(routine)
+    });
+    match accepted {
         Err(refusal) => RunAnswer::Refused(refusal),
         Ok(routine) => run_routine(&routine, input),
     }

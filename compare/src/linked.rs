@@ -1,6 +1,6 @@
 //! The proved implementation behind the seam, through the wrapper that Rust programs use.
 
-use crate::proved::{CheckWords, Implementation, RunWords};
+use crate::proved::{CheckWords, Checked, Implementation, RunWords};
 use mizzengrape::{Outcome, Refusal, Verdict};
 use oracle::answer::RunInput;
 
@@ -10,28 +10,48 @@ fn refusal_words(refusal: Refusal) -> CheckWords {
     [refusal.number, refusal.place, refusal.pointer.unwrap_or(0)]
 }
 
+fn verdict_words(verdict: Verdict) -> CheckWords {
+    match verdict {
+        Verdict::Accepted => [0; 3],
+        Verdict::Refused(refusal) => refusal_words(refusal),
+    }
+}
+
+fn outcome_words(outcome: Outcome) -> RunWords {
+    match outcome {
+        Outcome::Done { steps } => [0, steps, 0, 0],
+        Outcome::Spent { steps, statement } => [1, steps, statement, 0],
+        Outcome::Stopped { steps, statement, check } => [2, steps, statement, check as u32],
+        Outcome::Refused(refusal) => {
+            let [number, place, pointer] = refusal_words(refusal);
+            [3, number, place, pointer]
+        }
+    }
+}
+
 impl Implementation for Proved {
     fn name(&self) -> &'static str {
         "proved implementation"
     }
 
-    fn check(&self, table: &[i32]) -> CheckWords {
-        match mizzengrape::check(table) {
-            Verdict::Accepted => [0; 3],
-            Verdict::Refused(refusal) => refusal_words(refusal),
-        }
+    fn check(&self, table: &[i32], facts: &[i32]) -> Checked {
+        let (verdict, report) = mizzengrape::check_with_facts(table, facts);
+        Checked { words: verdict_words(verdict), report }
     }
 
-    fn run(&self, table: &[i32], input: &mut RunInput) -> RunWords {
+    fn run(&self, table: &[i32], facts: &[i32], input: &mut RunInput) -> RunWords {
         let RunInput { directory, cells, values, origins, allowance } = input;
-        match mizzengrape::run(table, directory, cells, values, origins, *allowance) {
-            Outcome::Done { steps } => [0, steps, 0, 0],
-            Outcome::Spent { steps, statement } => [1, steps, statement, 0],
-            Outcome::Stopped { steps, statement, check } => [2, steps, statement, check as u32],
-            Outcome::Refused(refusal) => {
-                let [number, place, pointer] = refusal_words(refusal);
-                [3, number, place, pointer]
-            }
-        }
+        let outcome =
+            mizzengrape::run_with_facts(table, facts, directory, cells, values, origins, *allowance);
+        outcome_words(outcome)
+    }
+
+    fn check_alone(&self, table: &[i32]) -> CheckWords {
+        verdict_words(mizzengrape::check(table))
+    }
+
+    fn run_alone(&self, table: &[i32], input: &mut RunInput) -> RunWords {
+        let RunInput { directory, cells, values, origins, allowance } = input;
+        outcome_words(mizzengrape::run(table, directory, cells, values, origins, *allowance))
     }
 }

@@ -12,6 +12,7 @@ mod generate;
 mod linked;
 mod noninterference;
 mod parallel;
+mod promises;
 mod proved;
 mod rng;
 mod shrink;
@@ -26,7 +27,7 @@ const USAGE: &str = "usage: compare vectors DIR
        compare stats SEED COUNT
        compare differ SEED COUNT [FIRST]
        compare show SEED NUMBER
-       compare bench [check|run|rows|sizes]
+       compare bench [check|run|rows|sizes|facts]
        compare stack [KIB]";
 
 fn main() -> ExitCode {
@@ -101,7 +102,8 @@ fn check_vectors(directory: &Path) -> Result<bool, String> {
 /// The differences of one case of the files, of both forms and of every implementation behind the seam.
 fn all_differences(vector: &vectors::Vector) -> Vec<String> {
     let mut found = vectors::differences(vector);
-    let case = generate::Case { table: vector.table.clone(), input: vector.input.clone() };
+    let vectors::Vector { table, facts, input, .. } = vector.clone();
+    let case = generate::Case { table, facts, input };
     for other in proved::implementations() {
         let what = differ::difference(&case, other.as_ref())
             .or_else(|| differ::at_every_limit(&case, other.as_ref()));

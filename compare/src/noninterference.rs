@@ -3,7 +3,7 @@
 
 use crate::proved::{show_run_words, RunWords};
 use oracle::answer::RunInput;
-use oracle::machine::check_entry;
+use oracle::entry::check_entry;
 use oracle::reach::cells_out_of_reach;
 use oracle::table::Routine;
 use std::ops::Range;
@@ -74,7 +74,7 @@ mod tests {
     use super::*;
     use crate::differ;
     use crate::generate::Case;
-    use crate::proved::{run_words, CheckWords, Fast, Implementation};
+    use crate::proved::{run_words, Checked, Fast, Implementation};
     use oracle::draft::*;
     use oracle::machine;
     use oracle::table::decode;
@@ -116,12 +116,12 @@ mod tests {
             "wrong"
         }
 
-        fn check(&self, table: &[i32]) -> CheckWords {
-            Fast.check(table)
+        fn check(&self, table: &[i32], facts: &[i32]) -> Checked {
+            Fast.check(table, facts)
         }
 
-        fn run(&self, table: &[i32], input: &mut RunInput) -> RunWords {
-            let mut words = Fast.run(table, input);
+        fn run(&self, table: &[i32], facts: &[i32], input: &mut RunInput) -> RunWords {
+            let mut words = Fast.run(table, facts, input);
             (self.0)(input, &mut words);
             words
         }
@@ -150,9 +150,9 @@ mod tests {
     #[test]
     fn both_forms_leak_nothing() {
         let (table, mut input) = club();
-        assert_eq!(Fast.run(&table, &mut input), [2, 13, 5, 3]);
+        assert_eq!(Fast.run(&table, &[], &mut input), [2, 13, 5, 3]);
         assert_eq!(leak(|table, input| run_words(&machine::run(table, input))), None);
-        assert_eq!(leak(|table, input| Fast.run(table, input)), None);
+        assert_eq!(leak(|table, input| Fast.run(table, &[], input)), None);
     }
 
     #[test]
@@ -164,7 +164,7 @@ mod tests {
 
     #[test]
     fn an_implementation_that_touches_a_foreign_cell_is_found() {
-        let found = |wrong| leak(|table, input| Wrong(wrong).run(table, input)).expect("a leak");
+        let found = |wrong| leak(|table, input| Wrong(wrong).run(table, &[], input)).expect("a leak");
         // Reads a telephone number: into a value, a cell of its own, the steps.
         assert!(found(|input, _| input.values[2] = input.cells[5]).starts_with("a value"));
         assert!(found(|input, _| input.cells[4] = input.cells[6]).starts_with("a reachable cell"));
@@ -177,7 +177,7 @@ mod tests {
     #[test]
     fn differ_finds_it_where_the_lent_memory_tells_nothing() {
         let (table, input) = club();
-        let case = Case { table, input };
+        let case = Case { table, facts: vec![], input };
         // Right in the memory that is lent, where cell 0 is small.
         let nosy = Wrong(|input, _| input.values[2] += u32::from(input.cells[0] > 1_000));
         let what = differ::difference(&case, &nosy).expect("a leak");

@@ -4,11 +4,18 @@
 
 use crate::linked::Proved;
 use crate::{fast_check, fast_run};
-use oracle::answer::{CheckAnswer, Refusal, RunAnswer, RunInput};
+use oracle::answer::{Refusal, RunAnswer, RunInput};
 
 /// 0 for accepted, else the number of the refusal; its place; for refusal 8 the
 /// lowest pointer whose declared bounds are not shown there, else 0.
 pub type CheckWords = [u32; 3];
+
+/// The answer of a check with a list: its words, and the statements of the reported accesses.
+#[derive(Clone, Debug, PartialEq, Eq)]
+pub struct Checked {
+    pub words: CheckWords,
+    pub report: Vec<u32>,
+}
 
 /// Outcome, then three words: 0 done (steps), 1 spent (steps, statement),
 /// 2 stopped (steps, statement, check), 3 refused (number, place, pointer).
@@ -19,8 +26,17 @@ pub type RunWords = [u32; 4];
 /// threads call it at once.
 pub trait Implementation: Sync {
     fn name(&self) -> &'static str;
-    fn check(&self, table: &[i32]) -> CheckWords;
-    fn run(&self, table: &[i32], input: &mut RunInput) -> RunWords;
+    fn check(&self, table: &[i32], facts: &[i32]) -> Checked;
+    fn run(&self, table: &[i32], facts: &[i32], input: &mut RunInput) -> RunWords;
+
+    /// The calls without a list, where there are such.
+    fn check_alone(&self, table: &[i32]) -> CheckWords {
+        self.check(table, &[]).words
+    }
+
+    fn run_alone(&self, table: &[i32], input: &mut RunInput) -> RunWords {
+        self.run(table, &[], input)
+    }
 }
 
 /// The fast form of this crate behind the seam.
@@ -31,11 +47,19 @@ impl Implementation for Fast {
         "fast form"
     }
 
-    fn check(&self, table: &[i32]) -> CheckWords {
-        check_words(&fast_check::check(table))
+    fn check(&self, table: &[i32], facts: &[i32]) -> Checked {
+        checked(fast_check::check_with_facts(table, facts))
     }
 
-    fn run(&self, table: &[i32], input: &mut RunInput) -> RunWords {
+    fn run(&self, table: &[i32], facts: &[i32], input: &mut RunInput) -> RunWords {
+        run_words(&fast_run::run_with_facts(table, facts, input))
+    }
+
+    fn check_alone(&self, table: &[i32]) -> CheckWords {
+        checked(fast_check::check(table).map(|()| Vec::new())).words
+    }
+
+    fn run_alone(&self, table: &[i32], input: &mut RunInput) -> RunWords {
         run_words(&fast_run::run(table, input))
     }
 }
@@ -49,10 +73,11 @@ fn refusal_words(refusal: &Refusal) -> CheckWords {
     [refusal.cause.into(), refusal.place, refusal.pointer.unwrap_or(0).into()]
 }
 
-pub fn check_words(answer: &CheckAnswer) -> CheckWords {
+/// The answer of a check with a list, from the report or the refusal.
+pub fn checked(answer: Result<Vec<u32>, Refusal>) -> Checked {
     match answer {
-        Ok(()) => [0; 3],
-        Err(refusal) => refusal_words(refusal),
+        Ok(report) => Checked { words: [0; 3], report },
+        Err(refusal) => Checked { words: refusal_words(&refusal), report: Vec::new() },
     }
 }
 
@@ -73,6 +98,14 @@ pub fn run_words(answer: &RunAnswer) -> RunWords {
 /// Whether words are the right answer. An alarm is right for nobody.
 pub fn run_agrees(right: &RunAnswer, words: RunWords) -> bool {
     !matches!(right, RunAnswer::Stuck { .. }) && words == run_words(right)
+}
+
+/// An answer of a check as text, with its report.
+pub fn show_checked(answer: &Checked) -> String {
+    match answer.words[0] {
+        0 => format!("accepted, safe {:?}", answer.report),
+        _ => show_check_words(answer.words),
+    }
 }
 
 /// Words as text, in the form of the vectors.
@@ -102,7 +135,7 @@ mod tests {
 
     #[test]
     fn an_answer_must_be_equal() {
-        assert_eq!(check_words(&Err(Refusal::bounds(3, 2))), [8, 3, 2]);
+        assert_eq!(checked(Err(Refusal::bounds(3, 2))).words, [8, 3, 2]);
         let right = RunAnswer::Stopped { steps: 4, statement: 2, check: Check::OutOfBounds };
         assert!(run_agrees(&right, [2, 4, 2, 3]));
         assert!(!run_agrees(&right, [2, 5, 2, 3]) && !run_agrees(&right, [1, 4, 2, 0]));

@@ -1,7 +1,9 @@
 //! Makes a case smaller while a predicate stays true, for short reports.
 
 use crate::generate::Case;
-use oracle::draft::{Draft, Record};
+use oracle::draft::{to_records, without_statements, Draft, Listed, Record};
+use oracle::loop_facts::ENTRY_WORDS;
+use std::ops::Range;
 
 /// Gives up after so many trials.
 const TRIALS: usize = 50_000;
@@ -17,6 +19,7 @@ pub fn shrink(case: &Case, keeps: &mut dyn FnMut(&Case) -> bool) -> Case {
         shrinker.statements();
         shrinker.names();
         shrinker.rows();
+        shrinker.list();
         shrinker.words();
         shrinker.input();
         if shrinker.best == before || shrinker.trials == 0 {
@@ -46,7 +49,14 @@ impl Shrinker<'_> {
     }
 
     fn offer_table(&mut self, table: Vec<i32>) -> bool {
-        self.offer(Case { table, input: self.best.input.clone() })
+        self.offer(Case { table, ..self.best.clone() })
+    }
+
+    /// A table without these statements, and its list without their entries.
+    fn offer_without(&mut self, table: &Draft, removed: Range<usize>) -> bool {
+        let (list, rest) = split(&self.best.facts);
+        let facts = [without_statements(&list, &removed).as_flattened(), rest].concat();
+        self.offer(Case { table: table.words(), facts, ..self.best.clone() })
     }
 
     fn draft(&self) -> Option<Draft> {
@@ -68,8 +78,9 @@ impl Shrinker<'_> {
         let mut cut = count(self.draft()) / 2;
         while cut > 0 {
             let Some(mut smaller) = self.draft() else { return };
-            smaller.statements.truncate(smaller.statements.len() - cut);
-            let taken = self.offer_table(smaller.words());
+            let kept = smaller.statements.len() - cut;
+            smaller.statements.truncate(kept);
+            let taken = self.offer_without(&smaller, kept..kept + cut);
             cut = if taken { cut.min(count(self.draft())) } else { cut / 2 };
         }
     }
@@ -81,8 +92,8 @@ impl Shrinker<'_> {
             for keep_blocks in [false, true] {
                 let Some(mut smaller) = self.draft() else { return };
                 if s < smaller.statements.len() {
-                    smaller.remove(s, keep_blocks);
-                    if self.offer_table(smaller.words()) {
+                    let removed = smaller.remove(s, keep_blocks);
+                    if self.offer_without(&smaller, removed) {
                         break;
                     }
                 }
@@ -96,7 +107,8 @@ impl Shrinker<'_> {
         for v in (0..count).rev() {
             let mut smaller = self.best.clone();
             let Some(table) = self.draft().and_then(|draft| without_variable(draft, v)) else { continue };
-            smaller.table = table.words();
+            let Some(facts) = list_without_variable(&smaller.facts, v as i32) else { continue };
+            (smaller.table, smaller.facts) = (table.words(), facts);
             for list in [&mut smaller.input.values, &mut smaller.input.origins] {
                 if v < list.len() {
                     list.remove(v);
@@ -129,6 +141,24 @@ impl Shrinker<'_> {
         if let Some(draft) = self.draft() {
             let rows = draft.rows.filter(|rows| !rows.is_empty());
             self.offer_table(Draft { rows, ..draft }.words());
+        }
+    }
+
+    /// Drops entries of the list, from the last, and makes the words of the others smaller.
+    fn list(&mut self) {
+        for start in (0..self.best.facts.len()).step_by(ENTRY_WORDS).rev() {
+            let mut smaller = self.best.clone();
+            smaller.facts.drain(start..smaller.facts.len().min(start + ENTRY_WORDS));
+            self.offer(smaller);
+        }
+        for place in 0..self.best.facts.len() {
+            for word in smaller_words(self.best.facts[place].into()) {
+                let mut smaller = self.best.clone();
+                smaller.facts[place] = word as i32;
+                if self.offer(smaller) {
+                    break;
+                }
+            }
         }
     }
 
@@ -209,6 +239,23 @@ fn named(record: &Record) -> &'static [usize] {
     }
 }
 
+/// The entries of a list, and the words of one that is cut short.
+fn split(facts: &[i32]) -> (Vec<Listed>, &[i32]) {
+    (to_records(facts), facts.chunks_exact(ENTRY_WORDS).remainder())
+}
+
+/// The list without variable v, if no entry names it.
+fn list_without_variable(facts: &[i32], v: i32) -> Option<Vec<i32>> {
+    let (mut list, rest) = split(facts);
+    for word in list.iter_mut().flat_map(|entry| &mut entry[1..3]) {
+        if *word == v {
+            return None;
+        }
+        *word -= i32::from(*word > v);
+    }
+    Some([list.as_flattened(), rest].concat())
+}
+
 /// The draft without variable v, if nothing else names it.
 fn without_variable(mut draft: Draft, v: usize) -> Option<Draft> {
     draft.variables.remove(v);
@@ -244,6 +291,7 @@ fn without_row(mut draft: Draft, row: usize) -> Option<Draft> {
 #[cfg(test)]
 mod tests {
     use super::*;
+    use crate::fast_check;
     use crate::generate::case;
     use oracle::answer::RunAnswer;
     use oracle::{checker, machine};
@@ -280,6 +328,19 @@ mod tests {
         assert_eq!(small.table[0], 8, "kept where the predicate is false of it");
         let small = shrink(&unused, &mut |_| true);
         assert_ne!(small.table[0], 8);
+    }
+
+    #[test]
+    fn lists_get_short() {
+        let is_unshown = |c: &Case| {
+            let refusal = fast_check::check_with_facts(&c.table, &c.facts).err();
+            let alone = fast_check::check_with_facts(&c.table, &[]).is_ok();
+            alone && refusal.is_some_and(|refusal| refusal.cause == 17 && refusal.place == 1)
+        };
+        for found in (0..).map(|n| case(8, n)).filter(is_unshown).take(8) {
+            let small = shrink(&found, &mut |c| is_unshown(c));
+            assert!(is_unshown(&small) && small.facts.len() <= 8, "{:?}", small.facts);
+        }
     }
 
     #[test]

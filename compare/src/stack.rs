@@ -12,8 +12,8 @@ use std::thread;
 const KIB: usize = 1024;
 
 /// p (0, count(n)) and n; ifs within ifs to the greatest depth, and there a bundle: without rows, and with one that
-/// the bundle puts in force on both sides of each if.
-fn deepest() -> [Draft; 2] {
+/// the bundle puts in force on both sides of each if; whiles within whiles, of each of which n >= 0 is listed.
+fn deepest() -> [(Draft, Vec<i32>); 3] {
     let condition = with_literal(1, GREATER, 0);
     let step = [move_pointer(0, 0, 1), add_constant(1, 1, -1)];
     let inner =
@@ -26,7 +26,10 @@ fn deepest() -> [Draft; 2] {
     let row = declare(0, 0);
     let statements = nest(inner(vec![row]), bundle(vec![row]));
     let with_rows = Draft { statements, rows: Some(vec![[0, -1, 0, 0, 1, 0]]), ..plain.clone() };
-    [plain, with_rows]
+    let statements = (0..MAX_DEPTH).fold(inner(vec![]), |inner, _| while_loop(condition, inner));
+    let loops = Draft { statements, ..plain.clone() };
+    let list = (0..MAX_DEPTH as i32).flat_map(|head| [head, -1, 1, 0]).collect();
+    [(plain, vec![]), (with_rows, vec![]), (loops, list)]
 }
 
 fn input() -> RunInput {
@@ -39,17 +42,20 @@ fn input() -> RunInput {
     }
 }
 
-/// Both calls for each table on a thread with a stack of so many KiB.
+/// All calls for each table on a thread with a stack of so many KiB.
 pub fn probe(kib: usize) {
     let calls = || {
-        deepest().map(|table| {
+        deepest().map(|(table, list)| {
             let table = table.words();
-            (Proved.check(&table)[0], Proved.run(&table, &mut input())[0])
+            let checks = [Proved.check_alone(&table)[0], Proved.check(&table, &list).words[0]];
+            let runs =
+                [Proved.run_alone(&table, &mut input())[0], Proved.run(&table, &list, &mut input())[0]];
+            [checks, runs]
         })
     };
     let thread = thread::Builder::new().stack_size(kib * KIB).spawn(calls).expect("a thread");
     let answers = thread.join().expect("all calls return");
-    assert_eq!(answers, [(0, 0); 2], "accepted and done");
+    assert_eq!(answers, [[[0; 2]; 2]; 3], "accepted and done");
 }
 
 fn survives(kib: usize) -> bool {
@@ -93,9 +99,9 @@ mod tests {
 
     #[test]
     fn the_deepest_tables_run_to_their_end() {
-        for table in deepest() {
-            let depth = table.statements.iter().filter(|record| record[0] == 11).count();
-            let answer = machine::run(&table.words(), &mut input()).to_string();
+        for (table, list) in deepest() {
+            let depth = table.statements.iter().filter(|record| [11, 12].contains(&record[0])).count();
+            let answer = machine::run_with_facts(&table.words(), &list, &mut input()).to_string();
             assert!(depth == MAX_DEPTH && answer.starts_with("done"), "{depth} {answer}");
         }
     }

@@ -1,11 +1,15 @@
 //! How many generated cases end in which way.
 
-use crate::generate::case;
+use crate::generate::{case, Case};
+use crate::promises;
 use crate::{fast_check, fast_run};
-use oracle::answer::{CheckAnswer, Refusal, RunAnswer, RunInput};
+use oracle::answer::{Refusal, RunAnswer, RunInput};
+use oracle::checker::{self, Asked, Known, Observer, Rows};
+use oracle::facts::Facts;
+use oracle::loop_facts::{Entry, LoopFacts};
 use oracle::reach::reachable;
+use oracle::report::{accept, Accepted};
 use oracle::table::{decode, Kind, Routine, Statement};
-use oracle::{checker, machine};
 use std::collections::BTreeMap;
 
 /// The cases of a seed by their answers; the fast form is held against the
@@ -27,6 +31,12 @@ pub struct Stats {
     sizes: [u64; 2],
     /// Accepted tables with a kind 2 pointer, with both kinds; runs begun with a terminated object.
     terminated: [u64; 3],
+    /// Accepted tables with a list, those whose report or verdict the list changes; reported accesses of all accepted
+    /// tables.
+    listed: [u64; 3],
+    reported: u64,
+    /// Refusals 17: by the form of the list, before a loop, at the end of a body.
+    unshown: [u64; 3],
     /// Accepted tables with a statement whose facts contradict, and with such facts at the end.
     dead: u64,
     dead_at_end: u64,
@@ -37,9 +47,9 @@ pub struct Stats {
     pub differences: Vec<String>,
 }
 
-fn check_class(answer: &CheckAnswer) -> String {
+fn check_class<T>(answer: &Result<T, Refusal>) -> String {
     match answer {
-        Ok(()) => "accepted".to_string(),
+        Ok(_) => "accepted".to_string(),
         Err(refusal) => format!("refused {:2}", refusal.cause),
     }
 }
@@ -58,29 +68,33 @@ pub fn gather(seed: u64, count: u64) -> Stats {
     let mut stats = Stats { cases: count, ..Stats::default() };
     for number in 0..count {
         let case = case(seed, number);
-        let checked = checker::check(&case.table);
+        let checked = accept(&case.table, &case.facts);
         let (mut plain, mut fast) = (case.input.clone(), case.input.clone());
-        let answer = machine::run(&case.table, &mut plain);
-        let same = fast_check::check(&case.table) == checked
-            && fast_run::run(&case.table, &mut fast) == answer
+        let answer = match &checked {
+            Err(refusal) => RunAnswer::Refused(*refusal),
+            Ok(accepted) => promises::run(accepted, &mut plain).unwrap_or_else(|broken| {
+                stats.differences.push(format!("case {seed} {number}: {broken}"));
+                RunAnswer::Stuck { steps: 0, statement: 0 }
+            }),
+        };
+        let report = checked.as_ref().map(|accepted| accepted.report.clone()).map_err(|r| *r);
+        let same = fast_check::check_with_facts(&case.table, &case.facts) == report
+            && fast_run::run_with_facts(&case.table, &case.facts, &mut fast) == answer
             && plain == fast;
         let stuck = matches!(answer, RunAnswer::Stuck { .. });
         if !same || stuck {
             stats.differences.push(format!("case {seed} {number}: plain {answer}"));
         }
-        match (checked, decode(&case.table)) {
-            (Ok(()), Ok(routine)) => {
+        match &checked {
+            Ok(accepted) => {
                 stats.accepted += 1;
-                stats.count_statements(&routine);
+                stats.count_statements(accepted);
+                stats.count_list(&case, accepted);
                 if !matches!(answer, RunAnswer::Refused(_)) {
-                    stats.count_out_of_reach(&routine, &case.input);
+                    stats.count_out_of_reach(&accepted.routine, &case.input);
                 }
             }
-            (Err(Refusal { cause: 13, place, .. }), Ok(routine)) => {
-                let head = routine.statements[place as usize];
-                stats.unlike_rows[usize::from(matches!(head, Statement::While { .. }))] += 1;
-            }
-            _ => {}
+            Err(refusal) => stats.count_refusal(&case, refusal),
         }
         if let RunAnswer::Done { steps } | RunAnswer::Spent { steps, .. } | RunAnswer::Stopped { steps, .. } =
             answer
@@ -94,12 +108,43 @@ pub fn gather(seed: u64, count: u64) -> Stats {
 }
 
 impl Stats {
-    fn count_statements(&mut self, routine: &Routine) {
+    fn count_list(&mut self, case: &Case, accepted: &Accepted) {
+        self.reported += accepted.report.len() as u64;
+        if case.facts.is_empty() {
+            return;
+        }
+        let without = fast_check::check_with_facts(&case.table, &[]);
+        let changed = [true, without.as_ref().is_ok_and(|r| *r != accepted.report), without.is_err()];
+        for (count, changed) in self.listed.iter_mut().zip(changed) {
+            *count += u64::from(changed);
+        }
+    }
+
+    fn count_refusal(&mut self, case: &Case, refusal: &Refusal) {
+        let Ok(routine) = decode(&case.table) else { return };
+        match refusal.cause {
+            13 => {
+                let head = routine.statements[refusal.place as usize];
+                self.unlike_rows[usize::from(matches!(head, Statement::While { .. }))] += 1;
+            }
+            17 => {
+                let mut seen = Unshown(0);
+                if let Ok(list) = LoopFacts::read(&routine, &case.facts) {
+                    let _ = checker::watch_with_facts(&routine, &list, &mut seen);
+                }
+                self.unshown[seen.0] += 1;
+            }
+            _ => {}
+        }
+    }
+
+    fn count_statements(&mut self, accepted: &Accepted) {
+        let routine = &accepted.routine;
         let statements = &routine.statements;
         self.statements += statements.len() as u64;
-        let mut dead = false;
-        let end = checker::walk(routine, &mut |_, facts| dead |= facts.contradictory());
-        self.dead += u64::from(dead);
+        let mut dead = Dead(false);
+        let end = checker::watch_with_facts(routine, &accepted.loop_facts, &mut dead);
+        self.dead += u64::from(dead.0);
         self.dead_at_end += u64::from(end.is_ok_and(|facts| facts.contradictory()));
         let has = |test: fn(&Statement) -> bool| u64::from(statements.iter().any(test));
         self.heads[0] += has(|s| matches!(s, Statement::If { .. }));
@@ -141,6 +186,27 @@ impl Stats {
     }
 }
 
+/// Whether facts contradict before a statement.
+struct Dead(bool);
+
+impl Observer for Dead {
+    fn before(&mut self, _: usize, facts: &Facts, _: &Rows, _: &Known) {
+        self.0 |= facts.contradictory();
+    }
+}
+
+/// Where an entry is not shown, as a place in `Stats::unshown`.
+struct Unshown(usize);
+
+impl Observer for Unshown {
+    fn unshown(&mut self, _: usize, _: Entry, asked: Asked, _: &Facts) {
+        self.0 = match asked {
+            Asked::BeforeLoop => 1,
+            Asked::AtBodyEnd => 2,
+        };
+    }
+}
+
 impl std::fmt::Display for Stats {
     fn fmt(&self, f: &mut std::fmt::Formatter<'_>) -> std::fmt::Result {
         let percent = |part: u64| 100.0 * part as f64 / self.cases.max(1) as f64;
@@ -173,6 +239,14 @@ impl std::fmt::Display for Stats {
             f,
             "accepted tables with a kind 2 pointer: {all}, {both} with an array_ptr too; \
              runs begun with a terminated object: {runs}"
+        )?;
+        let [lists, reports, verdicts] = self.listed;
+        let [form, before, at_end] = self.unshown;
+        writeln!(
+            f,
+            "accepted tables with a list: {lists}, {reports} with another report by it, {verdicts} accepted by it; \
+             accesses reported: {}; refusals 17: {form} by form, {before} before a loop, {at_end} at the end of a body",
+            self.reported
         )?;
         let share = |part: u64| 100.0 * part as f64 / self.begun.max(1) as f64;
         writeln!(
@@ -223,7 +297,7 @@ mod tests {
         assert!(stats.differences.is_empty(), "{:?}", stats.differences);
         let percent = 100 * stats.accepted / stats.cases;
         assert!((30..=60).contains(&percent), "{percent} percent accepted");
-        for cause in (1..=6).chain(8..=9).chain([13]) {
+        for cause in (1..=6).chain(8..=9).chain([13, 17]) {
             assert!(stats.check.contains_key(&format!("refused {cause:2}")), "cause {cause}");
         }
         for class in ["done", "spent", "refused 10", "refused 11", "refused 12", "refused 16"] {
@@ -235,9 +309,12 @@ mod tests {
         assert!(!stats.run.contains_key("STUCK"));
         assert!(5 * stats.dead > stats.accepted, "{stats}");
         assert!(7 * stats.declared[0] > stats.accepted, "{stats}");
-        assert!(stats.declared.iter().all(|count| 30 * count > stats.accepted), "{stats}");
+        assert!(stats.declared.iter().all(|count| 40 * count > stats.accepted), "{stats}");
         assert!(stats.sizes.iter().all(|count| 5 * count > stats.accepted), "{stats}");
         assert!(stats.terminated.iter().all(|count| 8 * count > stats.accepted), "{stats}");
+        let [lists, reports, verdicts] = stats.listed;
+        assert!(8 * lists > stats.accepted && 120 * reports > stats.accepted, "{stats}");
+        assert!(verdicts > 5 && stats.unshown.iter().all(|&count| count > 30), "{stats}");
         assert!(stats.unlike_rows.iter().all(|&count| count > 10), "{stats}");
         let [objects, cells] = stats.out_of_reach;
         assert!(3 * objects > stats.begun && 2 * cells > stats.begun, "{stats}");

@@ -1,8 +1,8 @@
 //! The reader of the vector files, and the check of this implementation by them.
 
 use crate::{fast_check, fast_run};
-use oracle::answer::{show_check, RunAnswer, RunInput};
-use oracle::{checker, machine};
+use oracle::answer::{show_check, Refusal, RunAnswer, RunInput};
+use oracle::{machine, report};
 use std::collections::HashMap;
 use std::path::Path;
 
@@ -11,8 +11,12 @@ use std::path::Path;
 pub struct Vector {
     pub name: String,
     pub table: Vec<i32>,
+    /// The list of loop facts, four words an entry.
+    pub facts: Vec<i32>,
     pub input: RunInput,
     pub check: String,
+    /// The statements of the reported accesses, where they are given.
+    pub safe: Option<Vec<u32>>,
     pub run: String,
     pub after_values: Option<Vec<u32>>,
     pub after_cells: Option<Vec<u32>>,
@@ -34,6 +38,7 @@ fn read_case(text: &str, number: usize) -> Result<Vector, String> {
     Ok(Vector {
         name: fields.get("name").map_or_else(|| format!("#{number}"), |name| name.to_string()),
         table: numbers(field("table")?)?,
+        facts: numbers(fields.get("facts").unwrap_or(&""))?,
         input: RunInput {
             directory: numbers(field("directory")?)?,
             cells: numbers(field("cells")?)?,
@@ -42,6 +47,7 @@ fn read_case(text: &str, number: usize) -> Result<Vector, String> {
             allowance: *allowance.first().ok_or(format!("case {number}: empty allowance"))?,
         },
         check: field("check")?.to_string(),
+        safe: optional("safe")?,
         run: field("run")?.to_string(),
         after_values: optional("after-values")?,
         after_cells: optional("after-cells")?,
@@ -61,13 +67,19 @@ pub fn read_file(path: &Path) -> Result<Vec<Vector>, String> {
     read(&text)
 }
 
-type CheckForm = fn(&[i32]) -> oracle::answer::CheckAnswer;
-type RunForm = fn(&[i32], &mut RunInput) -> RunAnswer;
+type CheckForm = fn(&[i32], &[i32]) -> Result<Vec<u32>, Refusal>;
+type RunForm = fn(&[i32], &[i32], &mut RunInput) -> RunAnswer;
+
+fn plain_check(table: &[i32], facts: &[i32]) -> Result<Vec<u32>, Refusal> {
+    report::accept(table, facts).map(|accepted| accepted.report)
+}
 
 /// The differences of one case, over the plain and the fast form.
 pub fn differences(vector: &Vector) -> Vec<String> {
-    let forms: [(&str, CheckForm, RunForm); 2] =
-        [("plain", checker::check, machine::run), ("fast", fast_check::check, fast_run::run)];
+    let forms: [(&str, CheckForm, RunForm); 2] = [
+        ("plain", plain_check, machine::run_with_facts),
+        ("fast", fast_check::check_with_facts, fast_run::run_with_facts),
+    ];
     let mut found = Vec::new();
     for (form, check, run) in forms {
         let mut report = |what: &str, ours: String, right: String| {
@@ -75,9 +87,14 @@ pub fn differences(vector: &Vector) -> Vec<String> {
                 found.push(format!("{} ({form}): {what}: {ours}, but right is {right}", vector.name));
             }
         };
-        report("check", show_check(&check(&vector.table)), vector.check.clone());
+        let checked = check(&vector.table, &vector.facts);
+        report("check", show_check(&checked.as_ref().map(|_| ()).map_err(|r| *r)), vector.check.clone());
+        if let Some(safe) = &vector.safe {
+            report("safe", format!("{:?}", checked.unwrap_or_default()), format!("{safe:?}"));
+        }
         let mut buffers = vector.input.clone();
-        report("run", run(&vector.table, &mut buffers).to_string(), vector.run.clone());
+        let ran = run(&vector.table, &vector.facts, &mut buffers);
+        report("run", ran.to_string(), vector.run.clone());
         // A refusal changes nothing.
         let right_values = vector.after_values.as_ref().unwrap_or(&vector.input.values);
         let right_cells = vector.after_cells.as_ref().unwrap_or(&vector.input.cells);
@@ -101,6 +118,15 @@ mod tests {
         assert_eq!(cases[0].table, [6, 0, -1]);
         assert_eq!(cases[0].input.allowance, u32::MAX);
         assert!(cases[0].input.directory.is_empty() && cases[0].after_cells.is_none());
+        assert!(cases[0].facts.is_empty() && cases[0].safe.is_none());
+    }
+
+    #[test]
+    fn reads_a_list_and_a_report() {
+        let text = "table: 6\nfacts: 2 1 -1 0\ndirectory:\ncells:\nvalues:\norigins:\nallowance: 0\n\
+                    check: accepted\nsafe:\nrun: done 0\n";
+        let cases = read(text).unwrap();
+        assert_eq!((&cases[0].facts[..], &cases[0].safe), (&[2, 1, -1, 0][..], &Some(vec![])));
     }
 
     #[test]

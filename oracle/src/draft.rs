@@ -1,6 +1,8 @@
 //! A table in the making: records that can be added, taken out and written as words.
 
+use crate::loop_facts::ENTRY_WORDS;
 use crate::table::{ROW_WORDS, STATEMENT_WORDS, VARIABLE_WORDS};
+use std::ops::Range;
 
 pub type Record = [i32; STATEMENT_WORDS];
 /// Left, relation, form, right.
@@ -82,6 +84,16 @@ pub fn bundle(inner: Vec<Record>) -> Vec<Record> {
 /// A row in the making: the lower end, then the upper end.
 pub type RowRecord = [i32; ROW_WORDS];
 
+/// An entry of a list of loop facts: while statement, x, y, k.
+pub type Listed = [i32; ENTRY_WORDS];
+
+/// The list of a table without these statements: an entry of a loop that is gone goes too.
+pub fn without_statements(list: &[Listed], removed: &Range<usize>) -> Vec<Listed> {
+    let [start, end] = [removed.start, removed.end].map(|s| s as i32);
+    let kept = list.iter().filter(|entry| !(start..end).contains(&entry[0]));
+    kept.map(|&[s, x, y, k]| [if s < end { s } else { s - (end - start) }, x, y, k]).collect()
+}
+
 /// The sections, not yet words. Records may break any rule.
 #[derive(Clone, Debug, Default)]
 pub struct Draft {
@@ -146,8 +158,8 @@ impl Draft {
         }
     }
 
-    /// Takes out statement s, with its blocks or, `keep_blocks`, without them.
-    pub fn remove(&mut self, s: usize, keep_blocks: bool) {
+    /// Takes out statement s, with its blocks or, `keep_blocks`, without them; the statements that are gone.
+    pub fn remove(&mut self, s: usize, keep_blocks: bool) -> Range<usize> {
         let all = self.statements.len();
         let end = match self.blocks(s).last() {
             Some(&(_, _, end)) if !keep_blocks => end.min(all),
@@ -164,10 +176,12 @@ impl Draft {
             }
         }
         self.statements.drain(s..end);
+        s..end
     }
 }
 
-fn to_records<const N: usize>(words: &[i32]) -> Vec<[i32; N]> {
+/// Whole records of N words.
+pub fn to_records<const N: usize>(words: &[i32]) -> Vec<[i32; N]> {
     words.chunks_exact(N).map(|chunk| chunk.try_into().expect("an exact chunk")).collect()
 }
 
@@ -175,6 +189,13 @@ fn to_records<const N: usize>(words: &[i32]) -> Vec<[i32; N]> {
 mod tests {
     use super::*;
     use crate::table::decode;
+
+    #[test]
+    fn a_list_moves_with_its_loops() {
+        let list = [[1, 0, -1, 5], [3, 0, -1, 5], [3, -1, 0, 0], [6, 0, -1, 5]];
+        assert_eq!(without_statements(&list, &(3..5)), [[1, 0, -1, 5], [4, 0, -1, 5]]);
+        assert_eq!(without_statements(&list, &(0..1)).iter().map(|e| e[0]).collect::<Vec<_>>(), [0, 2, 2, 5]);
+    }
 
     #[test]
     fn removal_keeps_the_blocks_right() {

@@ -1,15 +1,16 @@
 //! What a run is lent: directories, cells, entries true and untrue, allowances.
 
-use crate::fast_check::check_routine;
 use crate::rng::Rng;
 use oracle::answer::{RunAnswer, RunInput};
+use oracle::entry::{check_entry, MAX_CELLS};
 use oracle::machine;
 use oracle::table::{decode, Kind, Routine, Var};
 
 /// A run that needs more steps than this never gets the greatest allowance.
 const LONG: u32 = 20_000;
 
-pub fn choose(rng: &mut Rng, table: &[i32]) -> RunInput {
+/// For a table that is accepted with its list, or not.
+pub fn choose(rng: &mut Rng, table: &[i32], accepted: bool) -> RunInput {
     // A table that does not decode is refused before anything lent is looked at.
     let Ok(routine) = decode(table) else {
         return RunInput {
@@ -27,7 +28,7 @@ pub fn choose(rng: &mut Rng, table: &[i32]) -> RunInput {
     for _ in 0..rng.pick(&[1, 3, 6]) {
         fill_values(rng, &routine, &entered, &mut input);
         make_true(&routine, &mut input);
-        let progress = progress(&routine, &input);
+        let progress = if accepted { progress(&routine, &input) } else { 0 };
         if furthest.as_ref().is_none_or(|(most, _, _)| progress > *most) {
             furthest = Some((progress, input.values.clone(), input.origins.clone()));
         }
@@ -42,13 +43,13 @@ pub fn choose(rng: &mut Rng, table: &[i32]) -> RunInput {
         23..=27 => break_name(rng, &routine, &mut input),
         _ => {}
     }
-    input.allowance = allowance(rng, &routine, &input);
+    input.allowance = allowance(rng, &routine, &input, accepted);
     input
 }
 
 /// How far a short run of an accepted routine goes; to its end counts most.
 fn progress(routine: &Routine, input: &RunInput) -> u64 {
-    if input.cells.len() > 2_000 || check_routine(routine).is_err() {
+    if input.cells.len() > 2_000 {
         return 0;
     }
     let mut trial = RunInput { allowance: 300, ..input.clone() };
@@ -164,7 +165,7 @@ fn fit_counts(rng: &mut Rng, routine: &Routine, input: &mut RunInput) {
 
 /// Makes null every pointer whose bounds are untrue: so all become true.
 fn make_true(routine: &Routine, input: &mut RunInput) {
-    while let Err(refusal) = machine::check_entry(routine, input) {
+    while let Err(refusal) = check_entry(routine, input) {
         if refusal.cause != 12 {
             return;
         }
@@ -183,7 +184,7 @@ fn break_directory(rng: &mut Rng, input: &mut RunInput) {
             input.directory.pop();
         }
         2 => input.directory.extend([1, 1]),
-        3 if rng.chance(3) => input.cells = vec![0; machine::MAX_CELLS + rng.below(2)],
+        3 if rng.chance(3) => input.cells = vec![0; MAX_CELLS + rng.below(2)],
         3 | 4 => input.cells.truncate(input.cells.len().saturating_sub(1 + rng.below(3))),
         5 if words >= 4 => input.directory.swap(word, (word + 2) % words),
         6 if words > 0 => input.directory[word & !1] = rng.pick(&[0, 1, u32::MAX, u32::MAX - 3]),
@@ -234,14 +235,14 @@ fn break_name(rng: &mut Rng, routine: &Routine, input: &mut RunInput) {
 }
 
 /// None, few, just enough, or plenty of steps.
-fn allowance(rng: &mut Rng, routine: &Routine, input: &RunInput) -> u32 {
+fn allowance(rng: &mut Rng, routine: &Routine, input: &RunInput, accepted: bool) -> u32 {
     match rng.below(20) {
         0 => return 0,
         1..=3 => return rng.range(1, 30) as u32,
         _ => {}
     }
     // Should another implementation accept it after all, its run has to end.
-    if check_routine(routine).is_err() {
+    if !accepted {
         return rng.pick(&[100, LONG]);
     }
     let mut trial = RunInput { allowance: LONG, ..input.clone() };

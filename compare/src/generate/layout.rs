@@ -27,6 +27,8 @@ pub struct Layout {
     /// The variables' own bounds, and the bounds rows, each with the pointer that it was made for.
     pub own: Vec<RowRecord>,
     pub rows: Vec<LaidRow>,
+    /// Whether there are loops that a list of loop facts says something of.
+    pub loops: bool,
 }
 
 #[derive(Clone, Copy, Debug)]
@@ -92,6 +94,7 @@ pub fn choose(rng: &mut Rng, draft: &mut Draft) -> Layout {
         };
         add_rows(rng, draft, &mut layout, rows);
     }
+    layout.loops = rng.chance(60);
     layout
 }
 

@@ -5,32 +5,36 @@ mod faults;
 mod inputs;
 mod kinds;
 mod layout;
+mod lists;
 mod routine;
 
 use crate::fast_check;
 use crate::rng::Rng;
 use layout::Layout;
-use oracle::answer::RunInput;
+use oracle::answer::{CheckAnswer, RunInput};
 use oracle::checker;
-use oracle::draft::Draft;
+use oracle::draft::{without_statements, Draft, Listed};
 use oracle::table::{decode, Routine, MAX_STATEMENTS};
 use routine::Writer;
 
-/// A table and what a run of it is lent.
+/// A table with its list of loop facts, and what a run of it is lent.
 #[derive(Clone, Debug, PartialEq, Eq)]
 pub struct Case {
     pub table: Vec<i32>,
+    pub facts: Vec<i32>,
     pub input: RunInput,
 }
 
 pub fn case(seed: u64, number: u64) -> Case {
     let mut rng = Rng::of_case(seed, number);
-    let table = table(&mut rng);
-    let input = inputs::choose(&mut rng, &table);
-    Case { table, input }
+    let (table, facts) = table(&mut rng);
+    let accepted = fast_check::check_with_facts(&table, &facts).is_ok();
+    let input = inputs::choose(&mut rng, &table, accepted);
+    Case { table, facts, input }
 }
 
-fn table(rng: &mut Rng) -> Vec<i32> {
+/// A table and its list.
+fn table(rng: &mut Rng) -> (Vec<i32>, Vec<i32>) {
     let mut draft = Draft::default();
     let layout = layout::choose(rng, &mut draft);
     let size = match rng.below(400) {
@@ -47,9 +51,14 @@ fn table(rng: &mut Rng) -> Vec<i32> {
     if rng.chance(70) {
         revive(&mut draft);
     }
+    let mut list = if rng.chance(75) { lists::believed(rng, &draft) } else { Vec::new() };
     if rng.chance(55) {
-        repair(rng, &mut draft);
+        repair(rng, &mut draft, &mut list);
     }
+    if rng.chance(80) {
+        lists::take_out_unshown(rng, &draft, &mut list);
+    }
+    let facts = lists::words(rng, &draft, list);
     let fault = rng.below(100);
     if fault < 8 {
         faults::break_record(rng, &mut draft);
@@ -66,7 +75,7 @@ fn table(rng: &mut Rng) -> Vec<i32> {
         _ if large && rng.chance(40) => words.push(0),
         _ => {}
     }
-    words
+    (words, facts)
 }
 
 /// Takes out each top statement behind which facts contradict.
@@ -92,18 +101,31 @@ fn makes_dead(routine: &Routine) -> Option<usize> {
     None
 }
 
-/// Takes out statements that are refused by 6, 8, 9 or 13 until none is; now and then
+/// Takes out statements that are refused by 6, 8, 9 or 13, and entries refused by 17, until none is; now and then
 /// leaves the rest as it is.
-fn repair(rng: &mut Rng, draft: &mut Draft) {
-    while let Err(refusal) = fast_check::check(&draft.words()) {
+fn repair(rng: &mut Rng, draft: &mut Draft, list: &mut Vec<Listed>) {
+    while let Err(refusal) = check_listed(draft, list) {
         if refusal.cause < 6 || draft.statements.is_empty() || rng.chance(4) {
             return;
+        }
+        if refusal.cause == 17 {
+            list.remove(refusal.place as usize);
+            continue;
         }
         // A 13 is rare without repair: something else is refused before it.
         if refusal.cause == 13 && rng.chance(25) {
             return;
         }
-        draft.remove(refusal.place as usize, false);
+        let removed = draft.remove(refusal.place as usize, false);
+        *list = without_statements(list, &removed);
+    }
+}
+
+/// Without a list the quicker check does.
+fn check_listed(draft: &Draft, list: &[Listed]) -> CheckAnswer {
+    match list {
+        [] => fast_check::check(&draft.words()),
+        _ => fast_check::check_with_facts(&draft.words(), list.as_flattened()).map(|_| ()),
     }
 }
 
@@ -139,7 +161,7 @@ fn measured(
         let mut longer = draft.clone();
         let room = statements - draft.statements.len();
         longer.statements.extend(Writer { rng: &mut rng, layout: &layout }.body(room.min(4), 0));
-        repair(&mut rng, &mut longer);
+        repair(&mut rng, &mut longer, &mut Vec::new());
         let length = longer.statements.len();
         if length <= statements && length > draft.statements.len() && ends_alive(&longer) {
             draft = longer;

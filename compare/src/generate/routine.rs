@@ -27,6 +27,9 @@ impl Writer<'_> {
         if !self.layout.rows.is_empty() && self.rng.chance(40) {
             return self.with_rows(depth).unwrap_or_else(|| vec![self.check()]);
         }
+        if self.layout.loops && self.rng.chance(38) {
+            return self.listed_loop(depth).unwrap_or_else(|| vec![self.check()]);
+        }
         if self.layout.sizes.iter().any(|&size| size > 1) && self.rng.chance(20) {
             return self.with_sizes().unwrap_or_else(|| vec![self.check()]);
         }
@@ -371,6 +374,8 @@ impl Writer<'_> {
 
 #[path = "dead.rs"]
 mod dead;
+#[path = "loops.rs"]
+mod loops;
 #[path = "names.rs"]
 mod names;
 #[path = "patterns.rs"]
