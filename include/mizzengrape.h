@@ -1,7 +1,8 @@
 /* Mizzengrape: the proved checker and interpreter for routine tables, as a static library.
 
    A routine is a table of 32-bit words (docs/FORMAT.md; the command `mizzengrape` makes tables from Checked C text). mizzengrape_check answers whether the
-   rules accept it; mizzengrape_run runs an accepted one on memory that the caller lends.
+   rules accept it; mizzengrape_run runs an accepted one on memory that the caller lends. With a list of loop facts beside the table they are
+   mizzengrape_check_with_facts, which also reports the accesses that cannot fail, and mizzengrape_run_with_facts.
 
    Tables. A table begins with pairs of offset and length: objects, variables, statements; the first offset is 6, and the table has at most 7,318 words.
    - A first offset of 8 means a fourth pair and section, bounds rows of six words behind the statements: bounds that statements of kind 14 declare for a
@@ -11,14 +12,21 @@
    - An object word below 0 is a terminated object of that many cells, sign removed, whose last cell is 0 at every point of a run. A pointer of kind 2
      (nt_array_ptr) is null or belongs to a terminated object; it may also read the cell at its upper end, and store 0 there.
 
-   Calls. Every slice is a pointer and a length in elements. Nothing is kept after a call, and nothing is allocated. There are two ways in:
-   - mizzengrape_check and mizzengrape_run are the proved functions. Their caller promises of each slice that its pointer is not null (also where the
-     length is 0), is aligned to four bytes and has that many elements of memory behind it; and that a slice that is written overlaps no other.
-   - mizzengrape_try_check and mizzengrape_try_run, below, ask for less: they look at null, alignment and overlap first, and answer what is wrong
-     without calling. What no program can see is left to the caller: that a pointer has that many elements behind it, and that no other thread writes them.
+   Loop facts. A list of facts about loops may be lent beside a table, to a check and to a run: four words an entry, a while statement, x, y and k, sorted by
+   statement, at most 256 entries. An entry means x <= y + k at every test of that while; x and y are variables of one kind, and -1 stands for zero. Each
+   fact is tested: it has to be shown before the loop and again at the end of the body, where all entries of that loop are assumed together at its head.
+   Then they are known in the body and after the loop; else the list is refused with 17. Nobody has to trust who wrote the list.
 
-   Stack. A thread with a stack of MIZZENGRAPE_STACK_BYTES, 128 KiB, has room for either call at the deepest nesting, with 8 KiB left for its caller
-   (examples/c/stack.c runs both on exactly that stack; `compare stack` measures the least).
+   Calls. Every slice is a pointer and a length in elements. Nothing is kept after a call, and nothing is allocated. There are two ways in:
+   - mizzengrape_check, mizzengrape_run and the same .._with_facts are the proved functions. Their caller promises of each slice that its pointer is not
+     null (also where the length is 0), is aligned to four bytes and has that many elements of memory behind it; and that a slice that is written overlaps
+     no other.
+   - mizzengrape_try_check, mizzengrape_try_run and the same .._with_facts, below, ask for less: they look at null, alignment and overlap first, and answer
+     what is wrong without calling. What no program can see is left to the caller: that a pointer has that many elements behind it, and that no other
+     thread writes them.
+
+   Stack. A thread with a stack of MIZZENGRAPE_STACK_BYTES, 128 KiB, has room for each call at the deepest nesting, with 8 KiB left for its caller
+   (examples/c/stack.c runs all of them on exactly that stack; `compare stack` measures the least).
 
    Memory. What a run is lent:
    - cells: the memory, at most 16,777,216 cells of 32 bits. Address a is cells[a]. Cell 0 is in no object, so address 0 is null.
@@ -57,8 +65,11 @@
 #define MIZZENGRAPE_VERSION "0.2.0"
 #define MIZZENGRAPE_VERSION_NUMBER (MIZZENGRAPE_VERSION_MAJOR * 10000u + MIZZENGRAPE_VERSION_MINOR * 100u + MIZZENGRAPE_VERSION_PATCH)
 
-/* The stack of a thread that is enough for either call. */
+/* The stack of a thread that is enough for each call. */
 #define MIZZENGRAPE_STACK_BYTES 131072
+
+/* The words that a report has room for: a table has at most so many statements. */
+#define MIZZENGRAPE_REPORT_WORDS 1024
 
 #ifdef __cplusplus
 extern "C" {
@@ -85,7 +96,9 @@ typedef enum mizzengrape_refusal {
     MIZZENGRAPE_REFUSED_ENTRY = 12,      /* [variable] an origin is wrong, or the bounds are untrue at entry */
     MIZZENGRAPE_REFUSED_ROWS = 13,       /* [if or while] its two sides, or head and end of its body, leave different rows in force */
     /* 14 and 15 are unused. */
-    MIZZENGRAPE_REFUSED_TERMINATOR = 16  /* [object] the last cell of a terminated object is not 0 at entry */
+    MIZZENGRAPE_REFUSED_TERMINATOR = 16, /* [object] the last cell of a terminated object is not 0 at entry */
+    MIZZENGRAPE_REFUSED_FACT = 17        /* [entry] of the list of loop facts: it is cut short, unsorted or names wrongly, or its fact is not shown before
+                                            the loop or at the body's end; 256 where there are more entries */
 } mizzengrape_refusal;
 
 /* How a run ended: answer[0] of a run. */
@@ -125,20 +138,29 @@ bool mizzengrape_run(const int32_t *table, size_t table_len, const uint32_t *dir
                      uint32_t *values, size_t values_len, const uint32_t *origins, size_t origins_len, uint32_t limit, uint32_t *answer,
                      size_t answer_len);
 
-/* The same with a list of loop facts (point 9), four words an entry: while statement, x, y, k; -1 stands for zero. Refusal 17 gives the entry. The answer's
-   words are those of mizzengrape_check, and answer[3] is the number of accesses reported; their statements stand in ascending order at the front of numbers,
-   the words behind stay. False, and nothing written, where the answer has fewer than four words or numbers fewer than 1,024. */
-bool mizzengrape_check_with_facts(const int32_t *table, size_t table_len, const int32_t *listed, size_t listed_len, uint32_t *answer, size_t answer_len,
-                                  uint32_t *numbers, size_t numbers_len);
+/* mizzengrape_check with a list of loop facts beside the table; an empty one adds nothing. It also reports the accesses that cannot fail. The answer's
+   words, the others stay:
+     answer[0]  0 accepted, else the number of the refusal, as above or 17
+     answer[1]  0 accepted, else the refusal's place; of 17 the entry
+     answer[2]  for refusal 8 the pointer as above, else 0
+     answer[3]  the number of reported accesses; 0 where refused
+   report[0] up to report[answer[3]], that one not included: the statements of the reported accesses, ascending; the words behind them stay. A reported
+   access is one for which the facts before it show that its pointer is not null and its address lies within the bounds in force: in no run with this table
+   and list does it stop at check 2 or 3. Where the routine is refused nothing is written there.
+   True; or false, and nothing written, where answer_len is below 4 or report_len below MIZZENGRAPE_REPORT_WORDS. */
+bool mizzengrape_check_with_facts(const int32_t *table, size_t table_len, const int32_t *facts, size_t facts_len, uint32_t *report, size_t report_len,
+                                  uint32_t *answer, size_t answer_len);
 
-bool mizzengrape_run_with_facts(const int32_t *table, size_t table_len, const int32_t *listed, size_t listed_len, const uint32_t *directory,
+/* mizzengrape_run with a list of loop facts beside the table. The list decides whether the routine is refused (17 comes with the table's own refusals); it
+   changes nothing in a run. */
+bool mizzengrape_run_with_facts(const int32_t *table, size_t table_len, const int32_t *facts, size_t facts_len, const uint32_t *directory,
                                 size_t directory_len, uint32_t *cells, size_t cells_len, uint32_t *values, size_t values_len, const uint32_t *origins,
                                 size_t origins_len, uint32_t limit, uint32_t *answer, size_t answer_len);
 
 /* What a guarded call says. Unless it says ANSWERED nothing has been written. */
 typedef enum mizzengrape_call {
     MIZZENGRAPE_ANSWERED = 0,
-    MIZZENGRAPE_NO_ROOM = 1,   /* the answer has too few words */
+    MIZZENGRAPE_NO_ROOM = 1,   /* the answer or the report has too few words */
     MIZZENGRAPE_BAD_SLICE = 2, /* null with a length above 0, not aligned to four bytes, or past the end of the address space */
     MIZZENGRAPE_OVERLAP = 3    /* a slice that is written overlaps another */
 } mizzengrape_call;
@@ -166,40 +188,76 @@ static inline const void *mizzengrape_start(const void *start, size_t len)
     return len == 0 ? &empty : start;
 }
 
-/* mizzengrape_check, guarded. */
+/* What is wrong with the slices of a call, where something is; those that are written come first. */
+static inline mizzengrape_call mizzengrape_guard(const void *const *start, const size_t *len, int slices, int written)
+{
+    for (int i = 0; i < slices; i++)
+        if (!mizzengrape_is_slice(start[i], len[i]))
+            return MIZZENGRAPE_BAD_SLICE;
+    for (int i = 0; i < written; i++)
+        for (int j = i + 1; j < slices; j++)
+            if (mizzengrape_overlap(start[i], len[i], start[j], len[j]))
+                return MIZZENGRAPE_OVERLAP;
+    return MIZZENGRAPE_ANSWERED;
+}
+
+/* mizzengrape_check, guarded. It has no report, so that its caller needs no room for one. */
 static inline mizzengrape_call mizzengrape_try_check(const int32_t *table, size_t table_len, uint32_t *answer, size_t answer_len)
 {
-    if (!mizzengrape_is_slice(table, table_len) || !mizzengrape_is_slice(answer, answer_len))
-        return MIZZENGRAPE_BAD_SLICE;
-    if (mizzengrape_overlap(answer, answer_len, table, table_len))
-        return MIZZENGRAPE_OVERLAP;
+    const void *const start[2] = {answer, table};
+    const size_t len[2] = {answer_len, table_len};
+    const mizzengrape_call call = mizzengrape_guard(start, len, 2, 1);
+    if (call != MIZZENGRAPE_ANSWERED)
+        return call;
     if (answer_len < 3)
         return MIZZENGRAPE_NO_ROOM;
     mizzengrape_check((const int32_t *)mizzengrape_start(table, table_len), table_len, answer, answer_len);
     return MIZZENGRAPE_ANSWERED;
 }
 
-/* mizzengrape_run, guarded. */
+/* mizzengrape_check_with_facts, guarded. */
+static inline mizzengrape_call mizzengrape_try_check_with_facts(const int32_t *table, size_t table_len, const int32_t *facts, size_t facts_len,
+                                                                uint32_t *report, size_t report_len, uint32_t *answer, size_t answer_len)
+{
+    const void *const start[4] = {answer, report, table, facts};
+    const size_t len[4] = {answer_len, report_len, table_len, facts_len};
+    const mizzengrape_call call = mizzengrape_guard(start, len, 4, 2);
+    if (call != MIZZENGRAPE_ANSWERED)
+        return call;
+    if (answer_len < 4 || report_len < MIZZENGRAPE_REPORT_WORDS)
+        return MIZZENGRAPE_NO_ROOM;
+    mizzengrape_check_with_facts((const int32_t *)mizzengrape_start(table, table_len), table_len, (const int32_t *)mizzengrape_start(facts, facts_len),
+                                 facts_len, report, report_len, answer, answer_len);
+    return MIZZENGRAPE_ANSWERED;
+}
+
+/* mizzengrape_run_with_facts, guarded. */
+static inline mizzengrape_call mizzengrape_try_run_with_facts(const int32_t *table, size_t table_len, const int32_t *facts, size_t facts_len,
+                                                              const uint32_t *directory, size_t directory_len, uint32_t *cells, size_t cells_len,
+                                                              uint32_t *values, size_t values_len, const uint32_t *origins, size_t origins_len,
+                                                              uint32_t limit, uint32_t *answer, size_t answer_len)
+{
+    const void *const start[7] = {answer, cells, values, table, facts, directory, origins};
+    const size_t len[7] = {answer_len, cells_len, values_len, table_len, facts_len, directory_len, origins_len};
+    const mizzengrape_call call = mizzengrape_guard(start, len, 7, 3);
+    if (call != MIZZENGRAPE_ANSWERED)
+        return call;
+    if (answer_len < 4)
+        return MIZZENGRAPE_NO_ROOM;
+    mizzengrape_run_with_facts((const int32_t *)mizzengrape_start(table, table_len), table_len, (const int32_t *)mizzengrape_start(facts, facts_len),
+                               facts_len, (const uint32_t *)mizzengrape_start(directory, directory_len), directory_len,
+                               (uint32_t *)mizzengrape_start(cells, cells_len), cells_len, (uint32_t *)mizzengrape_start(values, values_len), values_len,
+                               (const uint32_t *)mizzengrape_start(origins, origins_len), origins_len, limit, answer, answer_len);
+    return MIZZENGRAPE_ANSWERED;
+}
+
+/* mizzengrape_run, guarded: the same with an empty list. */
 static inline mizzengrape_call mizzengrape_try_run(const int32_t *table, size_t table_len, const uint32_t *directory, size_t directory_len,
                                                    uint32_t *cells, size_t cells_len, uint32_t *values, size_t values_len,
                                                    const uint32_t *origins, size_t origins_len, uint32_t limit, uint32_t *answer, size_t answer_len)
 {
-    /* The three that are written come first. */
-    const void *start[6] = {answer, cells, values, table, directory, origins};
-    const size_t len[6] = {answer_len, cells_len, values_len, table_len, directory_len, origins_len};
-    for (int i = 0; i < 6; i++)
-        if (!mizzengrape_is_slice(start[i], len[i]))
-            return MIZZENGRAPE_BAD_SLICE;
-    for (int i = 0; i < 3; i++)
-        for (int j = i + 1; j < 6; j++)
-            if (mizzengrape_overlap(start[i], len[i], start[j], len[j]))
-                return MIZZENGRAPE_OVERLAP;
-    if (answer_len < 4)
-        return MIZZENGRAPE_NO_ROOM;
-    mizzengrape_run((const int32_t *)mizzengrape_start(table, table_len), table_len, (const uint32_t *)mizzengrape_start(directory, directory_len),
-                    directory_len, (uint32_t *)mizzengrape_start(cells, cells_len), cells_len, (uint32_t *)mizzengrape_start(values, values_len),
-                    values_len, (const uint32_t *)mizzengrape_start(origins, origins_len), origins_len, limit, answer, answer_len);
-    return MIZZENGRAPE_ANSWERED;
+    return mizzengrape_try_run_with_facts(table, table_len, NULL, 0, directory, directory_len, cells, cells_len, values, values_len, origins, origins_len,
+                                          limit, answer, answer_len);
 }
 
 #ifdef __cplusplus

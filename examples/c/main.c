@@ -1,4 +1,4 @@
-/* Embedding in C: checks a routine for late entries, runs it for three boats, and shows what wrong arguments are answered.
+/* Embedding in C: checks a routine for late entries, runs it for three boats, shows what wrong arguments are answered, and what a list of loop facts adds.
    The memory: cell 0 is in no object, cells 1 and 2 are one laptop's block, cells 3 and 4 the other's. */
 #include <stdio.h>
 
@@ -36,6 +36,25 @@ static const int32_t differing[] = {
     0, -1, 0, 0, -1, 0,         /* row 0: count(0) */
     0, -1, 0, 0, 1, 0,          /* row 1: count(rows) */
 };
+
+/* The sum of a block's cells: the loop ends at i != rows, which alone does not say that i stays below rows. */
+static const int32_t sum[] = {
+    6, 2, 8, 40, 48, 42,
+    2, 2,
+    1, 0, 0, -1, 0, 0, 1, 0,    /* variable 0: row, array_ptr with count(rows) */
+    0, 0, 0, 0, 0, 0, 0, 0,     /* variable 1: rows */
+    0, 0, 0, 0, 0, 0, 0, 0,     /* variable 2: i */
+    0, 0, 0, 0, 0, 0, 0, 0,     /* variable 3: cell */
+    0, 0, 0, 0, 0, 0, 0, 0,     /* variable 4: total */
+    10, 0, 5, 1, 0, 0, 0,       /* 0: check row != NULL */
+    1, 2, 0, 0, 0, 0, 0,        /* 1: i := 0 */
+    12, 2, 5, 0, 1, 3, 0,       /* 2: while i != rows */
+    8, 3, 0, 2, 0, 0, 0,        /* 3:   cell := row[i] */
+    3, 4, 4, 3, 0, 0, 0,        /* 4:   total := total + cell */
+    2, 2, 2, 1, 0, 0, 0,        /* 5:   i := i + 1 */
+};
+static const int32_t i_up_to_rows[] = {2, 2, 1, 0};   /* at each test of statement 2: i <= rows */
+static const int32_t i_below_rows[] = {2, 2, 1, -1};  /* i <= rows - 1, which is wrong at the last test */
 
 static const uint32_t directory[] = {1, 2, 3, 2};
 static const uint32_t origins[] = {1, 0, 0};
@@ -76,6 +95,33 @@ static void run(const char *what, size_t directory_len, size_t cells_len, size_t
     mizzengrape_call call = mizzengrape_try_run(routine, LENGTH(routine), directory, directory_len, cells, cells_len, values, values_len, origins,
                                                 origins_len, limit, answer, answer_len);
     show_run(what, call, answer);
+}
+
+/* A check with a list, and the accesses that it reports. */
+static void check_with_facts(const char *what, const int32_t *facts, size_t facts_len, size_t report_len)
+{
+    static uint32_t report[MIZZENGRAPE_REPORT_WORDS];
+    uint32_t answer[4] = {99, 99, 99, 99};
+    mizzengrape_call call = mizzengrape_try_check_with_facts(sum, LENGTH(sum), facts, facts_len, report, report_len, answer, 4);
+    show_check(what, call, answer);
+    for (uint32_t i = 0; call == MIZZENGRAPE_ANSWERED && i < answer[3]; i++)
+        printf("  statement %u cannot stop\n", (unsigned)report[i]);
+}
+
+static void loop_facts(void)
+{
+    uint32_t entry[] = {1, 2, 0, 0, 0}, answer[4];
+    static const uint32_t of_block[] = {1, 0, 0, 0, 0};
+    check_with_facts("the sum", NULL, 0, MIZZENGRAPE_REPORT_WORDS);
+    check_with_facts("with i <= rows", i_up_to_rows, LENGTH(i_up_to_rows), MIZZENGRAPE_REPORT_WORDS);
+    check_with_facts("with i < rows", i_below_rows, LENGTH(i_below_rows), MIZZENGRAPE_REPORT_WORDS);
+    check_with_facts("an entry cut short", i_up_to_rows, 3, MIZZENGRAPE_REPORT_WORDS);
+    check_with_facts("a short report", i_up_to_rows, LENGTH(i_up_to_rows), MIZZENGRAPE_REPORT_WORDS - 1);
+    show_run("the sum of the block",
+             mizzengrape_try_run_with_facts(sum, LENGTH(sum), i_up_to_rows, LENGTH(i_up_to_rows), directory, 4, cells, 5, entry, 5, of_block, 5, 100,
+                                            answer, 4),
+             answer);
+    printf("total %u\n", (unsigned)entry[4]);
 }
 
 static void wrong_pointers(void)
@@ -125,5 +171,6 @@ int main(void)
     run("no origins", 4, 5, 3, 0, 100, 4);
     run("room for three words", 4, 5, 3, 3, 100, 3);
     wrong_pointers();
+    loop_facts();
     return 0;
 }

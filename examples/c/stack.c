@@ -1,4 +1,4 @@
-/* Both calls, for the deepest tables, on a thread whose stack has exactly MIZZENGRAPE_STACK_BYTES and a page below it that ends the program. */
+/* All calls, for the deepest tables, on a thread whose stack has exactly MIZZENGRAPE_STACK_BYTES and a page below it that ends the program. */
 #define _DEFAULT_SOURCE
 #include <pthread.h>
 #include <stdio.h>
@@ -8,10 +8,12 @@
 
 #include "mizzengrape.h"
 
-enum { DEPTH = 6, WORDS = 256 };
+enum { DEPTH = 6, WORDS = 256, ENTRIES = 256 };
 
 static int32_t table[WORDS];
 static size_t table_len;
+static int32_t facts[4 * ENTRIES];
+static uint32_t report[MIZZENGRAPE_REPORT_WORDS];
 
 static void put(const int32_t *words, size_t count)
 {
@@ -25,14 +27,23 @@ static void statement(int32_t kind, int32_t a, int32_t b, int32_t c, int32_t d, 
     put(words, 7);
 }
 
-/* row (count(rows)) and rows; ifs within ifs to the greatest depth, and there a bundle that steps both: without bounds rows, and with one that the bundle
-   puts in force on both sides of each if. */
+/* An object of three cells; row (count(rows)) and rows. */
+static const int32_t declared[] = {3, 1, 0, 0, -1, 0, 0, 1, 0, 0, 0, 0, 0, 0, 0, 0, 0};
+
+/* A bundle that steps both, with room for so many statements more. */
+static void step(int32_t more)
+{
+    statement(13, 2 + more, 0, 0, 0, 0, 0); /* bundled */
+    statement(6, 0, 0, 1, 0, 0, 0);         /*   row = row + 1 */
+    statement(2, 1, 1, -1, 0, 0, 0);        /*   rows = rows - 1 */
+}
+
+/* Ifs within ifs to the greatest depth, and there that bundle: without bounds rows, and with one that the bundle puts in force on both sides of each if. */
 static void deepest(int with_row)
 {
     const int32_t inner = with_row ? 5 : 4, other = with_row ? 2 : 0, statements = DEPTH * (1 + other) + inner;
     const int32_t first = with_row ? 8 : 6;
     const int32_t pairs[] = {first, 1, first + 1, 16, first + 17, 7 * statements, first + 17 + 7 * statements, 6};
-    const int32_t declared[] = {3, 1, 0, 0, -1, 0, 0, 1, 0, 0, 0, 0, 0, 0, 0, 0, 0};
     const int32_t row[] = {0, -1, 0, 0, 1, 0};
     table_len = 0;
     put(pairs, (size_t)first);
@@ -40,9 +51,7 @@ static void deepest(int with_row)
     for (int32_t depth = DEPTH - 1; depth >= 0; depth--)
         statement(11, 1, 2, 1, 0, inner + depth * (1 + other), other); /* if (rows > 0) */
     statement(10, 1, 2, 1, 0, 0, 0);                                   /* dynamic_check(rows > 0) */
-    statement(13, with_row ? 3 : 2, 0, 0, 0, 0, 0);                    /* bundled */
-    statement(6, 0, 0, 1, 0, 0, 0);                                    /*   row = row + 1 */
-    statement(2, 1, 1, -1, 0, 0, 0);                                   /*   rows = rows - 1 */
+    step(with_row);
     if (with_row) {
         statement(14, 0, 0, 0, 0, 0, 0); /*   where row : count(rows) */
         for (int32_t depth = 0; depth < DEPTH; depth++) {
@@ -53,17 +62,53 @@ static void deepest(int with_row)
     }
 }
 
-static void *calls(void *wrong)
+/* Whiles within whiles around the same bundle, and as many entries as a list may have, shared out to all of them: row is not null. */
+static void deepest_loops(void)
+{
+    const int32_t statements = 1 + DEPTH + 4;
+    const int32_t pairs[] = {6, 1, 7, 16, 23, 7 * statements};
+    table_len = 0;
+    put(pairs, 6);
+    put(declared, 17);
+    statement(10, 0, 5, 1, 0, 0, 0); /* dynamic_check(row != NULL) */
+    for (int32_t depth = DEPTH - 1; depth >= 0; depth--)
+        statement(12, 1, 2, 1, 0, 4 + depth, 0); /* while (rows > 0) */
+    statement(9, 0, -1, 0, 1, 0, 0);             /* row[0] = rows */
+    step(0);
+    for (int32_t entry = 0; entry < ENTRIES; entry++) {
+        const int32_t words[] = {1 + entry * DEPTH / ENTRIES, -1, 0, -1};
+        memcpy(facts + 4 * entry, words, sizeof words);
+    }
+}
+
+/* Whether the table is accepted and its run done, by the calls with a list of so many words and, where it is empty, by those without. */
+static int answers(size_t facts_len)
 {
     static const uint32_t directory[] = {1, 3}, origins[] = {1, 0};
+    uint32_t cells[4] = {0}, values[] = {1, 3}, checked[4], ran[4];
+    if (mizzengrape_try_check_with_facts(table, table_len, facts, facts_len, report, MIZZENGRAPE_REPORT_WORDS, checked, 4) != MIZZENGRAPE_ANSWERED
+        || checked[0] != 0 || (facts_len > 0 && checked[3] != 1))
+        return 0;
+    if (mizzengrape_try_run_with_facts(table, table_len, facts, facts_len, directory, 2, cells, 4, values, 2, origins, 2, 100, ran, 4)
+            != MIZZENGRAPE_ANSWERED
+        || ran[0] != 0)
+        return 0;
+    if (facts_len > 0)
+        return 1;
+    values[0] = 1;
+    values[1] = 3;
+    return mizzengrape_try_check(table, table_len, checked, 3) == MIZZENGRAPE_ANSWERED && checked[0] == 0
+           && mizzengrape_try_run(table, table_len, directory, 2, cells, 4, values, 2, origins, 2, 100, ran, 4) == MIZZENGRAPE_ANSWERED && ran[0] == 0;
+}
+
+static void *calls(void *wrong)
+{
     for (int with_row = 0; with_row < 2; with_row++) {
-        uint32_t cells[4] = {0}, values[] = {1, 3}, checked[3], ran[4];
         deepest(with_row);
-        if (mizzengrape_try_check(table, table_len, checked, 3) != MIZZENGRAPE_ANSWERED || checked[0] != 0)
-            *(int *)wrong = 1;
-        if (mizzengrape_try_run(table, table_len, directory, 2, cells, 4, values, 2, origins, 2, 100, ran, 4) != MIZZENGRAPE_ANSWERED || ran[0] != 0)
-            *(int *)wrong = 1;
+        *(int *)wrong |= !answers(0);
     }
+    deepest_loops();
+    *(int *)wrong |= !answers(4 * ENTRIES);
     return NULL;
 }
 
