@@ -13,6 +13,7 @@ pub const MAX_CONSTANT: i32 = 65_536;
 pub const MAX_SIZE: i32 = 8;
 pub const MAX_DEPTH: usize = 6;
 pub const MAX_BUNDLE: i32 = 16;
+pub const MAX_ENTRIES: usize = 256;
 
 pub const SECTIONS: [&str; 4] = ["objects", "variables", "statements", "bounds rows"];
 
@@ -339,6 +340,10 @@ impl<'a> Form<'a> {
 
 /// What a list of loop facts has that does not fit its table: the entry and the reason.
 pub fn list_fault(table: &Table, names: &Names, facts: &[i32]) -> Result<(), (usize, String)> {
+    let entries = facts.len().div_ceil(4);
+    if entries > MAX_ENTRIES {
+        return Err((MAX_ENTRIES, format!("there are {entries} loop facts; {MAX_ENTRIES} is the limit")));
+    }
     let mut before = 0;
     for (number, entry) in facts.chunks(4).enumerate() {
         let wrong = |reason: String| Err((number, reason));

@@ -50,6 +50,21 @@ impl fmt::Display for Verdict {
     }
 }
 
+/// A verdict, and of an accepted routine its report: the statements of the accesses that stop no run at check 2 or 3, ascending.
+#[derive(Clone, Debug, PartialEq, Eq)]
+pub struct Checked {
+    pub verdict: Verdict,
+    pub safe: Vec<u32>,
+}
+
+impl Checked {
+    /// `safe: 4 7`, where there are some.
+    pub fn safe_line(&self) -> Option<String> {
+        let listed: String = self.safe.iter().map(|statement| format!(" {statement}")).collect();
+        (!listed.is_empty()).then(|| format!("safe:{listed}"))
+    }
+}
+
 /// What a run is lent besides the routine.
 #[derive(Clone, Debug, Default, PartialEq, Eq)]
 pub struct Lent {
@@ -71,19 +86,25 @@ pub fn steps(outcome: &Outcome) -> u32 {
 /// What this library cannot be asked, in words.
 pub type Asked<T> = Result<T, &'static str>;
 
-fn single<'a>(tables: &'a [Vec<i32>], facts: &[i32]) -> Asked<&'a [i32]> {
+fn single(tables: &[Vec<i32>]) -> Asked<&[i32]> {
     match tables {
-        [_] if !facts.is_empty() => Err("this library has no loop facts"),
         [table] => Ok(table),
         _ => Err("this library has no sets of routines"),
     }
 }
 
-pub fn check(tables: &[Vec<i32>], facts: &[i32]) -> Asked<Verdict> {
-    Ok(match mizzengrape::check(single(tables, facts)?) {
+pub fn check(tables: &[Vec<i32>], facts: &[i32]) -> Asked<Checked> {
+    single(tables).map(|table| check_table(table, facts))
+}
+
+/// The check of one routine with its list of loop facts.
+pub fn check_table(table: &[i32], facts: &[i32]) -> Checked {
+    let (verdict, safe) = mizzengrape::check_with_facts(table, facts);
+    let verdict = match verdict {
         mizzengrape::Verdict::Accepted => Verdict::Accepted,
         mizzengrape::Verdict::Refused(refusal) => Verdict::Refused(refusal.into()),
-    })
+    };
+    Checked { verdict, safe }
 }
 
 /// The first refusal by causes 1 to 6: where there is none, the tables have a text.
@@ -100,7 +121,7 @@ pub fn form_refusal(tables: &[Vec<i32>]) -> Option<Refusal> {
 
 /// A run; cells and values then hold what it left.
 pub fn run(tables: &[Vec<i32>], facts: &[i32], lent: &mut Lent) -> Asked<Outcome> {
-    let table = single(tables, facts)?;
+    let table = single(tables)?;
     let Lent { directory, cells, values, origins, allowance } = lent;
-    Ok(mizzengrape::run(table, directory, cells, values, origins, *allowance))
+    Ok(mizzengrape::run_with_facts(table, facts, directory, cells, values, origins, *allowance))
 }

@@ -113,11 +113,7 @@ impl Program {
     pub fn lacking(&self, lack: &str, short: bool) -> String {
         let message = format!("error: {lack}");
         let text = self.text.as_ref().filter(|_| !self.of_words);
-        let at = text.and_then(|text| match &text.map.routines[..] {
-            [_, second, ..] => Some(second.name),
-            [only] => only.facts.first().copied(),
-            [] => None,
-        });
+        let at = text.and_then(|text| text.map.routines.get(1)).map(|second| second.name);
         match (at, self.source()) {
             (Some(at), Some(source)) => source.show(at, &message, short),
             _ => format!("{}: {message}\n", self.name),

@@ -1,5 +1,6 @@
 //! The words of a table as records, section by section.
 
+use std::collections::BTreeSet;
 use std::ops::Range;
 
 pub const VARIABLE_WORDS: usize = 8;
@@ -140,6 +141,22 @@ impl Table {
         }
     }
 
+    /// The variable that a statement sets; none where it sets no variable.
+    pub fn target(&self, statement: usize) -> Option<i32> {
+        match self.statements[statement] {
+            [1..=8, target, ..] => Some(target),
+            [15, _, result, ..] if result >= 0 => Some(result),
+            _ => None,
+        }
+    }
+
+    /// The variables that the blocks of a head set, lowest first.
+    pub fn assigned(&self, head: usize) -> Vec<i32> {
+        let inside = head + 1..head + self.extent(head);
+        let targets: BTreeSet<i32> = inside.filter_map(|s| self.target(s)).collect();
+        targets.into_iter().collect()
+    }
+
     /// The bounds that a pointer is declared with.
     pub fn own_bounds(&self, pointer: usize) -> [i32; ROW_WORDS] {
         let [_, _, ends @ ..] = self.variables[pointer];
@@ -178,4 +195,13 @@ impl Table {
 
 fn records<const N: usize>(words: &[i32]) -> Vec<[i32; N]> {
     words.chunks_exact(N).map(|record| record.try_into().expect("chunks of that size")).collect()
+}
+
+/// Pointer, index and constant of an access, kind 8 or 9.
+pub fn accessed(record: &[i32; STATEMENT_WORDS]) -> (i32, i32, i32) {
+    if record[0] == 8 {
+        (record[2], record[3], record[4])
+    } else {
+        (record[1], record[2], record[3])
+    }
 }

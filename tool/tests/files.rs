@@ -198,9 +198,6 @@ fn what_the_library_lacks_has_its_line() {
     let two = folder.write("two.c", "void g(unsigned n)\n{\n}\nvoid f(unsigned n)\n{\n    g(n);\n}\n");
     let line = "two.c:4:6: error: this library has no sets of routines\nvoid f(unsigned n)\n     ^\n";
     assert_eq!(folder.command(&["check", &two]), Output::wrong(line.to_string()));
-    let fact = folder.write("fact.c", "void f(unsigned n)\n{\n    while (n > 0) where n <= 4 {\n    }\n}\n");
-    let answer = folder.command(&["check", "--short", &fact]);
-    assert_eq!(answer, wrong("fact.c:3:25: error: this library has no loop facts"));
 }
 
 #[test]

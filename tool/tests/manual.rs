@@ -68,7 +68,7 @@ fn explain_prints_the_page() {
         let arguments: Vec<String> = ["explain"].iter().chain(words).map(|word| word.to_string()).collect();
         call(&arguments)
     };
-    for number in (1..=13).filter(|&number| number != 7).chain([16]) {
+    for number in (1..=13).filter(|&number| number != 7).chain([16, 17]) {
         let page = explain(&[&number.to_string()]);
         assert!(page.out.starts_with(&format!("Refusal {number}: ")), "{number}");
         assert!(page.out.matches("Refusal ").count() == 1 && !page.out.contains("```"), "{}", page.out);
@@ -103,12 +103,15 @@ fn the_explainer_agrees_on_all_vectors() {
     let mut count = 0;
     for file in ["named.txt", "random.txt"] {
         let vectors = fs::read_to_string(repository().join("vectors").join(file)).expect("vectors");
-        for line in vectors.lines().filter_map(|line| line.strip_prefix("table:")) {
-            let table = line.split_whitespace().map(|word| word.parse().expect("a word")).collect();
-            let program = Program::of_tables("vector.tbl", vec![table], Vec::new());
+        for case in vectors.split("---\n") {
+            let words = |name: &str| {
+                let line = case.lines().find_map(|line| line.strip_prefix(name)).unwrap_or_default();
+                line.split_whitespace().map(|word| word.parse().expect("a word")).collect::<Vec<i32>>()
+            };
+            let program = Program::of_tables("vector.tbl", vec![words("table:")], words("facts:"));
             let output = verdict(&program, false).expect("a verdict");
-            assert!(output.status <= 1, "{line}\n{}", output.err);
-            assert!(output.status == 0 || output.err.contains("error: refused "), "{line}\n{}", output.err);
+            assert!(output.status <= 1, "{case}\n{}", output.err);
+            assert!(output.status == 0 || output.err.contains("error: refused "), "{case}\n{}", output.err);
             if output.out.starts_with("refused 8") || output.out.starts_with("refused 9") {
                 let declared = ["note: declared here: ", "note: declared before: "];
                 assert!(declared.iter().any(|note| output.err.contains(note)), "{}", output.err);
@@ -118,6 +121,7 @@ fn the_explainer_agrees_on_all_vectors() {
             if output.out.starts_with("refused 13") {
                 assert!(output.err.contains("has other bounds a"), "{}", output.err);
             }
+            assert!(!output.err.contains("refused 17: \n"), "{case}\n{}", output.err);
             count += 1;
         }
     }

@@ -2,21 +2,23 @@
 
 use super::arguments::{Arguments, Usage};
 use super::{Output, DONE, REFUSED};
-use crate::explain::Second;
-use crate::library::{self, Verdict};
+use crate::explain::{report, Second};
+use crate::library::{self, Checked, Verdict};
 use crate::program::Program;
 
 pub const USAGE: Usage = Usage {
     help: "\
-mizzengrape check FILE [--facts F] [--short]
+mizzengrape check FILE [--facts F] [--report] [--short]
 
 Prints the verdict of the proved library: `accepted`, or `refused NUMBER PLACE` (for 8 also the pointer). The reason for a refusal
-goes to standard error.
+goes to standard error. Of an accepted routine a line `safe: 4 7` has the statements of the accesses that are shown to stop no run
+at check 2 or 3, where there are some.
 
     --facts F   the list of loop facts of a table, as words in a file
+    --report    a line for each access: safe, or what is not known before it
     --short     diagnostics of one line
 ",
-    flags: &["--short"],
+    flags: &["--report", "--short"],
     options: &["--facts"],
     least_files: 1,
     most_files: 8,
@@ -25,21 +27,31 @@ goes to standard error.
 pub fn check(arguments: &Arguments) -> Result<Output, String> {
     let short = arguments.is_short();
     let program = Program::load(&arguments.files, arguments.option("--facts"), short)?;
-    verdict(&program, short)
+    let (mut output, checked) = answer(&program, short)?;
+    if arguments.flag("--report") && checked.verdict == Verdict::Accepted {
+        output.out.push_str(&report(&program, &checked.safe));
+    }
+    Ok(output)
 }
 
 /// The verdict on a program, as `check` prints it.
 pub fn verdict(program: &Program, short: bool) -> Result<Output, String> {
+    answer(program, short).map(|(output, _)| output)
+}
+
+fn answer(program: &Program, short: bool) -> Result<(Output, Checked), String> {
     let mut output = Output { err: program.warnings(short), ..Output::default() };
-    let verdict = library::check(&program.tables, &program.facts)
+    let checked = library::check(&program.tables, &program.facts)
         .map_err(|lack| format!("{}{}", output.err, program.lacking(lack, short)))?;
+    let verdict = &checked.verdict;
     output.out = format!("{verdict}\n");
-    output.status = if verdict == Verdict::Accepted { DONE } else { REFUSED };
-    let second = Second::of(program, &verdict);
-    if let Some(other) = second.other_verdict(&verdict) {
+    output.out.extend(checked.safe_line().map(|line| format!("{line}\n")));
+    output.status = if *verdict == Verdict::Accepted { DONE } else { REFUSED };
+    let second = Second::of(program, verdict);
+    if let Some(other) = second.other_verdict(&checked) {
         output.at_odds(program, &other);
-    } else if let Verdict::Refused(refusal) = &verdict {
+    } else if let Verdict::Refused(refusal) = verdict {
         output.err.push_str(&second.explain(program, refusal).show(program, short));
     }
-    Ok(output)
+    Ok((output, checked))
 }

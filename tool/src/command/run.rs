@@ -13,7 +13,7 @@ use crate::program::{Program, Text};
 
 pub const RUN_USAGE: Usage = Usage {
     help: "\
-mizzengrape run FILE IMAGE [--allowance N] [--short]
+mizzengrape run FILE IMAGE [--allowance N] [--facts F] [--short]
 
 Runs a routine and says how it ended, which values and cells it changed. IMAGE says what it is lent:
 
@@ -25,17 +25,18 @@ Runs a routine and says how it ended, which values and cells it changed. IMAGE s
 Objects without `at` touch, the first at cell 1; what is not given is 0.
 
     --allowance N   the steps at most, 0 to 4294967295, whatever the image says
+    --facts F       the list of loop facts of a table, as words in a file
     --short         the outcome, the values and the cells as in the vectors
 ",
     flags: &["--short"],
-    options: &["--allowance"],
+    options: &["--allowance", "--facts"],
     least_files: 2,
     most_files: 2,
 };
 
 pub const TRACE_USAGE: Usage = Usage {
     help: "\
-mizzengrape trace FILE IMAGE [--from T] [--steps N] [--allowance N]
+mizzengrape trace FILE IMAGE [--from T] [--steps N] [--allowance N] [--facts F]
 
 Runs a routine and prints a line for each step: its number, place, statement, what it changed; then how the run ends, which is the
 exit status too, also where not all steps are printed.
@@ -43,9 +44,10 @@ exit status too, also where not all steps are printed.
     --from T        begins with step T
     --steps N       prints so many, 1000 by default
     --allowance N   the steps at most, whatever the image says
+    --facts F       the list of loop facts of a table, as words in a file
 ",
     flags: &["--short"],
-    options: &["--from", "--steps", "--allowance"],
+    options: &["--from", "--steps", "--allowance", "--facts"],
     least_files: 2,
     most_files: 2,
 };
@@ -69,7 +71,7 @@ struct Wanted {
 /// The routine and the image that the arguments name.
 fn read(arguments: &Arguments) -> Result<(Program, String, Wanted), String> {
     let short = arguments.is_short();
-    let program = Program::load(&arguments.files[..1], None, short)?;
+    let program = Program::load(&arguments.files[..1], arguments.option("--facts"), short)?;
     let image = read_text(&arguments.files[1], &IMAGE, short)?;
     Ok((program, image, Wanted { short, allowance: arguments.number("--allowance")? }))
 }
@@ -144,7 +146,8 @@ impl Session {
         let outcome = self.run(&mut lent)?;
         let mut output = self.ended(&outcome, &lent)?;
         if let [table] = &self.program.tables[..] {
-            if let Some(other) = explain::other_run(table, &self.image.lent, &outcome, &lent) {
+            let routine = (&table[..], &self.program.facts[..]);
+            if let Some(other) = explain::other_run(routine, &self.image.lent, &outcome, &lent) {
                 output.at_odds(&self.program, &other);
             }
         }

@@ -2,10 +2,12 @@
 //! refused statement is said.
 
 use super::bounds::lacking;
-use super::walk::{walk, Walk};
+use super::draft::Draft;
+use super::walk::Walk;
 use super::Place;
 use crate::table::Table;
 use crate::tree::Relation;
+use oracle::checker::Asked;
 
 /// More checks than these are no advice.
 const MOST_CHECKS: usize = 4;
@@ -34,18 +36,18 @@ impl Check {
 
 /// What would show the bounds after a refused statement: checks before it, or a bundle with its neighbours, or both.
 pub fn for_bounds(place: &Place, refused: usize) -> Option<String> {
-    let table = place.printer.table;
-    if let Some((at, conditions)) = checks(table, refused) {
+    let routine = Draft::of(place);
+    if let Some((at, conditions)) = checks(&routine, refused) {
         return Some(format!("help: write {} before {}", written(place, &conditions), place.line(at)));
     }
-    let groups = groups(table, refused);
+    let groups = groups(&routine.table, refused);
     let alone =
-        groups.iter().copied().find(|&(first, count)| passes(&table.with_bundle(first, count), first));
+        groups.iter().copied().find(|&(first, count)| passes(&routine.with_bundle(first, count), first));
     if let Some(group) = alone {
         return Some(format!("help: {}", in_one(place, group)));
     }
     groups.into_iter().find_map(|group| {
-        let (at, conditions) = checks(&table.with_bundle(group.0, group.1), group.0)?;
+        let (at, conditions) = checks(&routine.with_bundle(group.0, group.1), group.0)?;
         let conditions = written(place, &conditions);
         (at == group.0).then(|| format!("help: {}, with {conditions} before it", in_one(place, group)))
     })
@@ -59,12 +61,13 @@ fn written(place: &Place, conditions: &[[i32; 4]]) -> String {
 
 /// Conditions that are all that a refused statement lacks, and the statement before which they are to be tested. A run that stops
 /// inside of a bundle may leave bounds untrue, so the head of a bundle comes first.
-fn checks(table: &Table, refused: usize) -> Option<(usize, Vec<[i32; 4]>)> {
-    let mut trial = Trial::of(table, refused, &[], refused);
+fn checks(routine: &Draft, refused: usize) -> Option<(usize, Vec<[i32; 4]>)> {
+    let table = &routine.table;
+    let mut trial = Trial::of(routine, refused, &[], refused);
     for check in lacking(table, &trial.seen, refused) {
         let at_head = table.bundle_around(check.before).map(|head| (head, check.at(table, head)));
         let mut places = at_head.into_iter().chain([(check.before, check.condition)]);
-        let suffices = |&(at, condition): &_| Trial::of(table, at, &[condition], refused).passes;
+        let suffices = |&(at, condition): &_| Trial::of(routine, at, &[condition], refused).passes;
         if let Some((at, condition)) = places.find(suffices) {
             return Some((at, vec![condition]));
         }
@@ -73,11 +76,12 @@ fn checks(table: &Table, refused: usize) -> Option<(usize, Vec<[i32; 4]>)> {
     let mut conditions = Vec::new();
     while conditions.len() < MOST_CHECKS {
         let written = conditions.len();
-        let next = lacking(&trial.table, &trial.seen, refused + written).into_iter().next()?;
-        conditions.push(next.at(&trial.table, at + written));
-        trial = Trial::of(table, at, &conditions, refused);
+        let tried = &trial.routine.table;
+        let next = lacking(tried, &trial.seen, refused + written).into_iter().next()?;
+        conditions.push(next.at(tried, at + written));
+        trial = Trial::of(routine, at, &conditions, refused);
         if trial.passes {
-            return Some((at, without_needless(table, at, conditions, refused)));
+            return Some((at, without_needless(routine, at, conditions, refused)));
         }
     }
     None
@@ -85,7 +89,7 @@ fn checks(table: &Table, refused: usize) -> Option<(usize, Vec<[i32; 4]>)> {
 
 /// The conditions without those that a later one makes needless.
 fn without_needless(
-    table: &Table,
+    routine: &Draft,
     at: usize,
     mut conditions: Vec<[i32; 4]>,
     refused: usize,
@@ -93,7 +97,7 @@ fn without_needless(
     for number in (0..conditions.len()).rev() {
         let mut fewer = conditions.clone();
         fewer.remove(number);
-        if Trial::of(table, at, &fewer, refused).passes {
+        if Trial::of(routine, at, &fewer, refused).passes {
             conditions = fewer;
         }
     }
@@ -102,24 +106,24 @@ fn without_needless(
 
 /// A routine with checks written before a statement.
 struct Trial {
-    table: Table,
+    routine: Draft,
     seen: Walk,
     /// Whether the walk came past the refused statement.
     passes: bool,
 }
 
 impl Trial {
-    fn of(table: &Table, at: usize, conditions: &[[i32; 4]], refused: usize) -> Trial {
-        let mut table = table.clone();
+    fn of(routine: &Draft, at: usize, conditions: &[[i32; 4]], refused: usize) -> Trial {
+        let mut routine = routine.clone();
         for &[left, relation, form, right] in conditions.iter().rev() {
-            table = table.with_before(at, [10, left, relation, form, right, 0, 0]);
+            routine = routine.with_before(at, [10, left, relation, form, right, 0, 0]);
         }
-        let seen = walk(&table.words(), Some(at + conditions.len()));
+        let seen = routine.walk(Some(at + conditions.len()));
         // Checks that can never hold would let everything pass.
         let can_hold = seen.asked.as_ref().is_some_and(|moment| !moment.facts.contradictory());
         let refused = if refused < at { refused } else { refused + conditions.len() };
-        let passes = can_hold && gets_past(&table, refused, &seen);
-        Trial { table, seen, passes }
+        let passes = can_hold && gets_past(&routine, refused, &seen);
+        Trial { routine, seen, passes }
     }
 }
 
@@ -169,7 +173,7 @@ pub fn same_rows(place: &Place, head: usize, differing: &[Differing]) -> Option<
     let ways = [0, 1].into_iter().filter(|&way| written(way).all(|(_, row)| row >= 0));
     let is_while = table.statements[head][0] == 12;
     ways.filter(|way| !is_while || *way == 0).find_map(|way| {
-        let (mut repaired, mut at) = (table.clone(), head);
+        let (mut repaired, mut at) = (Draft::of(place), head);
         let mut listed = Vec::new();
         for (p, row) in written(way) {
             let record = [14, p, row, 0, 0, 0, 0];
@@ -191,18 +195,53 @@ pub fn same_rows(place: &Place, head: usize, differing: &[Differing]) -> Option<
     })
 }
 
-fn passes(repaired: &Table, statement: usize) -> bool {
-    gets_past(repaired, statement, &walk(&repaired.words(), None))
+fn passes(repaired: &Draft, statement: usize) -> bool {
+    gets_past(repaired, statement, &repaired.walk(None))
 }
 
 /// Whether a walk came past a statement with its blocks: a refusal at a smaller number is one at a head around it, which is found later.
-fn gets_past(repaired: &Table, statement: usize, seen: &Walk) -> bool {
-    let end = statement + repaired.extent(statement);
+fn gets_past(repaired: &Draft, statement: usize, seen: &Walk) -> bool {
+    let end = statement + repaired.table.extent(statement);
     match &seen.answer {
         Ok(()) => true,
         Err(refusal) => {
-            let place = refusal.place as usize;
+            // The place of a refused entry is the entry: its loop tells how far the walk came.
+            let head = seen.unshown.as_ref().map(|unshown| unshown.entry.head);
+            let place = head.unwrap_or(refusal.place as usize);
             refusal.cause >= 7 && (place < statement || place >= end)
         }
+    }
+}
+
+/// A check before the loop that shows an entry of the list there.
+pub fn for_entry(place: &Place, entry: usize) -> Option<String> {
+    let routine = Draft::of(place);
+    let &[head, x, y, k] = routine.facts.chunks_exact(4).nth(entry)? else { return None };
+    let [left, relation, form, right] = condition(&routine.table, x, y, k)?;
+    let head = head as usize;
+    let repaired = routine.with_before(head, [10, left, relation, form, right, 0, 0]);
+    let seen = repaired.walk(Some(head + 1));
+    let can_hold = seen.asked.as_ref().is_some_and(|moment| !moment.facts.contradictory());
+    let is_shown = seen.answer.is_ok_and(|()| true)
+        || seen
+            .unshown
+            .is_none_or(|unshown| unshown.asked == Asked::AtBodyEnd || unshown.entry.head != head + 1);
+    let words = place.printer.condition([left, relation, form, right]);
+    (can_hold && is_shown).then(|| format!("help: write dynamic_check({words}); before {}", place.line(head)))
+}
+
+/// The condition that is the fact x <= y + k, where one is.
+fn condition(table: &Table, x: i32, y: i32, k: i32) -> Option<[i32; 4]> {
+    let [less, less_equal, greater_equal, equal, not_equal] =
+        [Relation::Less, Relation::LessEqual, Relation::GreaterEqual, Relation::Equal, Relation::NotEqual]
+            .map(|relation| relation as i32);
+    match (x, y, k) {
+        (_, -1, 0) if table.is_pointer(x) => Some([x, equal, 1, 0]),
+        (-1, _, -1) if table.is_pointer(y) => Some([y, not_equal, 1, 0]),
+        (-1, _, ..0) if !table.is_pointer(y) => Some([y, greater_equal, 1, -k]),
+        (0.., -1, 0..) if !table.is_pointer(x) => Some([x, less_equal, 1, k]),
+        (0.., 0.., 0) => Some([x, less_equal, 0, y]),
+        (0.., 0.., -1) => Some([x, less, 0, y]),
+        _ => None,
     }
 }

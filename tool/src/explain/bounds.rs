@@ -6,13 +6,13 @@ use super::walk::{Moment, Walk};
 use super::{Explanation, Place};
 use crate::library::Refusal;
 use crate::rows::InForce;
-use crate::table::Table;
+use crate::table::{accessed, Table};
 use crate::tree::Relation;
 use oracle::checker::{KnownBounds, KnownEnd, Value};
 use oracle::facts::{node_or_zero, Facts, GREATEST};
 
 /// Beyond this nothing but the range of all values relates two ends.
-const UNRELATED: i64 = 65_536;
+pub const UNRELATED: i64 = 65_536;
 
 /// The bounds of a pointer are not shown after a statement.
 pub fn not_shown(place: &Place, seen: &Walk, refusal: &Refusal) -> Explanation {
@@ -33,8 +33,7 @@ pub fn not_shown(place: &Place, seen: &Walk, refusal: &Refusal) -> Explanation {
 
 /// An access in a bundle whose pointer's bounds are not shown there.
 pub fn not_shown_for_access(place: &Place, seen: &Walk, refusal: &Refusal) -> Explanation {
-    let record = &place.printer.table.statements[refusal.place];
-    let pointer = if record[0] == 8 { record[2] } else { record[1] };
+    let (pointer, ..) = accessed(&place.printer.table.statements[refusal.place]);
     let name = place.printer.name(pointer);
     let sentence = format!(
         "in a bundle an access through `{name}` needs its declared bounds, and they are not shown here"
@@ -70,20 +69,20 @@ fn notes(place: &Place, moment: &Moment, pointer: usize, explanation: &mut Expla
         variables.extend(side.variables());
         explanation.notes.push((None, format!("note: {}", side.reason(&gap, place, moment, pointer))));
     }
-    explanation.notes.push((None, note(printer, moment, &variables)));
+    explanation.notes.push((None, note(printer, &moment.facts, &variables)));
 }
 
 /// One of the two inequalities: its ends, and how many cells the integer of each counts.
-struct Side {
-    upper: bool,
-    declared: Value,
-    size: i64,
-    known: KnownEnd,
-    known_size: i64,
+pub struct Side {
+    pub upper: bool,
+    pub declared: Value,
+    pub size: i64,
+    pub known: KnownEnd,
+    pub known_size: i64,
 }
 
 /// Why an inequality is not shown.
-enum Gap {
+pub enum Gap {
     /// So many cells are missing.
     Short(i64),
     /// Ends with integers that count different numbers of cells are not compared.
@@ -120,7 +119,7 @@ impl Side {
     }
 
     /// None where the inequality is shown.
-    fn gap(&self, facts: &Facts) -> Option<Gap> {
+    pub fn gap(&self, facts: &Facts) -> Option<Gap> {
         let Some((a, b)) = self.ordered() else { return Some(Gap::Lost) };
         let names_integer = a.integer.is_some() || b.integer.is_some();
         if names_integer && self.size != self.known_size {
@@ -133,7 +132,7 @@ impl Side {
     }
 
     /// A condition on integers that would show the inequality.
-    fn lacking(&self, facts: &Facts) -> Option<[i32; 4]> {
+    pub fn lacking(&self, facts: &Facts) -> Option<[i32; 4]> {
         let (a, b) = self.ordered().filter(|_| self.size == self.known_size)?;
         let cells = b.constant - a.constant - facts.sum(usize::from(a.pointer), usize::from(b.pointer));
         // a's integer has to be at most b's and this.
@@ -149,6 +148,15 @@ impl Side {
             (Some(n), Some(m)) if room == -1 && n != m => Some([n, Relation::Less as i32, 0, m]),
             _ => None,
         }
+    }
+
+    /// `row + i + 1 <= row + rows`.
+    pub fn inequality(&self, place: &Place) -> String {
+        let end = |value, size| place.end(value, size);
+        let known = self.known.map_or(String::new(), |known| end(known, self.known_size));
+        let declared = end(self.declared, self.size);
+        let (below, above) = if self.upper { (declared, known) } else { (known, declared) };
+        format!("{below} <= {above}")
     }
 
     fn variables(&self) -> Vec<i32> {

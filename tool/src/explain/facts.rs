@@ -1,6 +1,5 @@
 //! Known facts in the text's notation.
 
-use super::walk::Moment;
 use crate::printer::{plus, Printer};
 use oracle::facts::{Facts, GREATEST, ZERO};
 
@@ -75,6 +74,6 @@ fn between(printer: &Printer, facts: &Facts, x: i32, y: i32) -> Option<String> {
 }
 
 /// The note `known here: ..`.
-pub fn note(printer: &Printer, moment: &Moment, variables: &[i32]) -> String {
-    format!("note: known here: {}", known(printer, &moment.facts, variables))
+pub fn note(printer: &Printer, facts: &Facts, variables: &[i32]) -> String {
+    format!("note: known here: {}", known(printer, facts, variables))
 }

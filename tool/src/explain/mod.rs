@@ -2,10 +2,14 @@
 
 mod advice;
 mod bounds;
+mod draft;
 mod entry;
 mod facts;
 mod form;
+mod listed;
+mod lost;
 pub mod pages;
+mod report;
 mod rows;
 mod state;
 pub mod stops;
@@ -14,13 +18,14 @@ mod walk;
 
 use crate::diagnostics::{Pos, Source};
 use crate::image::Image;
-use crate::library::{steps, Lent, Outcome, Refusal, Verdict};
+use crate::library::{steps, Checked, Lent, Outcome, Refusal, Verdict};
 use crate::map::RoutineMap;
 use crate::printer::Printer;
 use crate::program::{Program, Text};
 use crate::rows::InForce;
 use oracle::answer::{CheckAnswer, RunInput};
 use oracle::checker::Value;
+pub use report::report;
 pub use state::state;
 use walk::Walk;
 
@@ -81,6 +86,11 @@ impl<'a> Place<'a> {
         self.map.statements.get(s).copied()
     }
 
+    /// Where an entry of the list of loop facts stands.
+    fn entry(&self, number: usize) -> Option<Pos> {
+        self.map.facts.get(number).copied()
+    }
+
     /// Where a pointer's bounds in force are declared: at a where statement, or at its declaration.
     fn declaration(&self, rows: &InForce, pointer: usize) -> Option<Pos> {
         let at_where = rows.statement(pointer).and_then(|s| self.statement(s));
@@ -112,8 +122,10 @@ impl<'a> Place<'a> {
 /// The second implementation's view of a program: its verdict, and what it saw on the way to a refusal.
 pub struct Second {
     routine: usize,
-    /// None where it cannot be asked: for sets and lists.
+    /// None where it cannot be asked: for sets.
     seen: Option<Walk>,
+    /// The accesses that it reports.
+    safe: Vec<u32>,
 }
 
 impl Second {
@@ -123,20 +135,26 @@ impl Second {
             Verdict::Refused(refusal) => refusal.routine.unwrap_or(0),
             Verdict::Accepted => 0,
         };
-        let [table] = &program.tables[..] else { return Second { routine, seen: None } };
-        Second { routine, seen: Some(walk::walk(table, None)) }
+        let [table] = &program.tables[..] else { return Second { routine, seen: None, safe: Vec::new() } };
+        let accepted = oracle::report::accept(table, &program.facts);
+        let safe = accepted.map_or_else(|_| Vec::new(), |accepted| accepted.report);
+        Second { routine, seen: Some(walk::walk(table, &program.facts, None)), safe }
     }
 
-    /// Its verdict, where that is another one than the proved one.
-    pub fn other_verdict(&self, verdict: &Verdict) -> Option<String> {
+    /// Its verdict and report, where they are others than the proved ones.
+    pub fn other_verdict(&self, checked: &Checked) -> Option<String> {
         let answer = &self.seen.as_ref()?.answer;
-        (!agree(verdict, answer)).then(|| oracle::answer::show_check(answer))
+        let same = agree(&checked.verdict, answer) && checked.safe == self.safe;
+        (!same).then(|| format!("{}, safe: {:?}", oracle::answer::show_check(answer), self.safe))
     }
 
     /// The reason for a refusal.
     pub fn explain(&self, program: &Program, refusal: &Refusal) -> Explanation {
         let explanation = match refusal.number {
             1..=6 => form::explain(program, refusal),
+            17 if self.seen.as_ref().is_none_or(|seen| seen.unshown.is_none()) => {
+                listed::form(program, refusal).unwrap_or_default()
+            }
             _ => self.walked(program, refusal).unwrap_or_default(),
         };
         explanation.numbered(refusal)
@@ -150,6 +168,7 @@ impl Second {
             8 => bounds::not_shown(&place, seen, refusal),
             9 => bounds::not_shown_for_access(&place, seen, refusal),
             13 => rows::differ(&place, refusal),
+            17 => listed::not_shown(&place, seen, refusal)?,
             number => {
                 let sentence = format!("`mizzengrape explain {number}` tells what it means");
                 Explanation { at: place.statement(refusal.place), sentence, notes: Vec::new() }
@@ -183,13 +202,18 @@ fn agree(verdict: &Verdict, answer: &CheckAnswer) -> bool {
 const MOST_COMPARED: u32 = 10_000_000;
 
 /// How the second implementation ends a run, where that is another end than the proved one or leaves other values or cells.
-pub fn other_run(table: &[i32], lent: &Lent, outcome: &Outcome, left: &Lent) -> Option<String> {
+pub fn other_run(
+    (table, facts): (&[i32], &[i32]),
+    lent: &Lent,
+    outcome: &Outcome,
+    left: &Lent,
+) -> Option<String> {
     if steps(outcome) > MOST_COMPARED {
         return None;
     }
     let Lent { directory, cells, values, origins, allowance } = lent.clone();
     let mut input = RunInput { directory, cells, values, origins, allowance };
-    let answer = oracle::machine::run(table, &mut input).to_string();
+    let answer = oracle::machine::run_with_facts(table, facts, &mut input).to_string();
     let same = answer == outcome.to_string() && input.values == left.values && input.cells == left.cells;
     (!same).then_some(answer)
 }
@@ -213,8 +237,9 @@ mod tests {
         let lent =
             Lent { cells: vec![0], values: vec![1], origins: vec![0], allowance: 9, ..Lent::default() };
         let left = Lent { values: vec![5], ..lent.clone() };
-        assert_eq!(other_run(&table, &lent, &Outcome::Done { steps: 1 }, &left), None);
-        assert_eq!(other_run(&table, &lent, &Outcome::Done { steps: 1 }, &lent), Some("done 1".to_string()));
-        assert_eq!(other_run(&table, &lent, &Outcome::Done { steps: 2 }, &left), Some("done 1".to_string()));
+        let other = |steps, left| other_run((&table, &[]), &lent, &Outcome::Done { steps }, left);
+        assert_eq!(other(1, &left), None);
+        assert_eq!(other(1, &lent), Some("done 1".to_string()));
+        assert_eq!(other(2, &left), Some("done 1".to_string()));
     }
 }

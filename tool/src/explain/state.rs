@@ -11,7 +11,7 @@ pub fn state(program: &Program, (routine, statement): (usize, usize), short: boo
     let (Some(place), Some(source)) = (place, program.source()) else {
         return Err("this table has no text".to_string());
     };
-    let seen = walk(&program.tables[routine], Some(statement));
+    let seen = walk(&program.tables[routine], &program.facts, Some(statement));
     let (Some(at), Some(moment)) = (place.statement(statement), seen.asked) else {
         return Err(match seen.answer {
             Err(refusal) => format!("{refusal}: the check ended before this statement"),
@@ -25,6 +25,9 @@ pub fn state(program: &Program, (routine, statement): (usize, usize), short: boo
         lines.push_str(&bounds(&place, &moment, p));
     }
     lines.push_str(&format!("known: {}\n", known(printer, &moment.facts, &variables)));
+    for fact in printer.facts_of(statement) {
+        lines.push_str(&format!("loop fact: {fact}\n"));
+    }
     Ok(lines)
 }
 

@@ -4,6 +4,7 @@ use super::values::end;
 use crate::library::Check;
 use crate::printer::Printer;
 use crate::rows::InForce;
+use crate::table::accessed;
 
 /// What the failing check of a statement says.
 pub fn sentence(printer: &Printer, statement: usize, check: Check, values: &[u32]) -> String {
@@ -36,15 +37,6 @@ pub fn sentence(printer: &Printer, statement: usize, check: Check, values: &[u32
                 value(stored)
             )
         }
-    }
-}
-
-/// Pointer, index and constant of an access.
-fn accessed(record: &[i32; 7]) -> (i32, i32, i32) {
-    if record[0] == 8 {
-        (record[2], record[3], record[4])
-    } else {
-        (record[1], record[2], record[3])
     }
 }
 

@@ -3,8 +3,9 @@
 use crate::rows::InForce;
 use crate::table::Table;
 use oracle::answer::CheckAnswer;
-use oracle::checker::{watch, Known, KnownBounds, KnownEnd, Observer, Rows};
+use oracle::checker::{watch_with_facts, Asked, Known, KnownBounds, KnownEnd, Observer, Rows};
 use oracle::facts::Facts;
+use oracle::loop_facts::{Entry, LoopFacts};
 use oracle::table::decode;
 
 /// What is known before or after a statement.
@@ -39,13 +40,26 @@ pub struct Walk {
     pub after: Option<Moment>,
     /// The moment before the statement that was asked for, if the walk came to it.
     pub asked: Option<Moment>,
+    /// The entry of the list that was not shown at its loop.
+    pub unshown: Option<Unshown>,
 }
 
-/// Walks a table; `asked` is a statement of interest.
-pub fn walk(words: &[i32], asked: Option<usize>) -> Walk {
-    let routine = match decode(words) {
-        Ok(routine) => routine,
-        Err(refusal) => return Walk { answer: Err(refusal), before: None, after: None, asked: None },
+/// An entry of the list of loop facts that is not shown, where, and what is known there.
+#[derive(Debug)]
+pub struct Unshown {
+    pub entry: Entry,
+    pub asked: Asked,
+    pub facts: Facts,
+}
+
+/// Walks a table with its list; `asked` is a statement of interest.
+pub fn walk(words: &[i32], facts: &[i32], asked: Option<usize>) -> Walk {
+    let read = decode(words).and_then(|routine| Ok((LoopFacts::read(&routine, facts)?, routine)));
+    let (loop_facts, routine) = match read {
+        Ok(read) => read,
+        Err(refusal) => {
+            return Walk { answer: Err(refusal), before: None, after: None, asked: None, unshown: None }
+        }
     };
     let bundles = routine.statements.iter().map(|s| matches!(s, oracle::syntax::Statement::Bundle { .. }));
     let mut recorder = Recorder {
@@ -57,10 +71,11 @@ pub fn walk(words: &[i32], asked: Option<usize>) -> Walk {
         before: None,
         after: None,
         asked: None,
+        unshown: None,
     };
-    let answer = watch(&routine, &mut recorder).map(|_| ());
-    let Recorder { before, after, asked, .. } = recorder;
-    Walk { answer, before, after, asked }
+    let answer = watch_with_facts(&routine, &loop_facts, &mut recorder).map(|_| ());
+    let Recorder { before, after, asked, unshown, .. } = recorder;
+    Walk { answer, before, after, asked, unshown }
 }
 
 struct Recorder {
@@ -73,6 +88,7 @@ struct Recorder {
     before: Option<Moment>,
     after: Option<Moment>,
     asked: Option<Moment>,
+    unshown: Option<Unshown>,
 }
 
 impl Recorder {
@@ -122,5 +138,9 @@ impl Observer for Recorder {
             self.compare(statement, known);
         }
         self.after = Some(self.moment(statement, true, facts, known));
+    }
+
+    fn unshown(&mut self, _: usize, entry: Entry, asked: Asked, facts: &Facts) {
+        self.unshown = Some(Unshown { entry, asked, facts: facts.clone() });
     }
 }

@@ -39,7 +39,7 @@ fn print_all(tables: &[Table], facts: &[i32], names: &Names, numbers: bool) -> S
 pub struct Printer<'a> {
     pub table: &'a Table,
     tables: &'a [Table],
-    facts: &'a [i32],
+    pub facts: &'a [i32],
     names: &'a Names,
     routine: usize,
 }

@@ -52,7 +52,7 @@ impl Printer<'_> {
     }
 
     /// A while's facts, in the order of the list.
-    fn facts_of(&self, head: usize) -> Vec<String> {
+    pub fn facts_of(&self, head: usize) -> Vec<String> {
         let entries = self.facts.chunks_exact(4).filter(|entry| entry[0] == head as i32);
         entries.map(|entry| self.fact(entry[1], entry[2], i64::from(entry[3]))).collect()
     }

@@ -1,0 +1,47 @@
+//! A routine that is changed to try advice out: its table with its list of loop facts, whose entries move with their loops.
+
+use super::walk::{walk, Walk};
+use super::Place;
+use crate::table::{Table, STATEMENT_WORDS};
+
+#[derive(Clone, Debug)]
+pub struct Draft {
+    pub table: Table,
+    pub facts: Vec<i32>,
+}
+
+impl Draft {
+    pub fn of(place: &Place) -> Draft {
+        Draft { table: place.printer.table.clone(), facts: place.printer.facts.to_vec() }
+    }
+
+    /// With one more statement before another, in its block.
+    pub fn with_before(&self, statement: usize, record: [i32; STATEMENT_WORDS]) -> Draft {
+        Draft { table: self.table.with_before(statement, record), facts: self.moved_from(statement) }
+    }
+
+    /// With one more statement at the end of an if's block: field 5 counts the then block, field 6 the else block.
+    pub fn with_last(&self, head: usize, field: usize, record: [i32; STATEMENT_WORDS]) -> Draft {
+        let before = self.table.statements[head][5..=field].iter().sum::<i32>() as usize;
+        let facts = self.moved_from(head + 1 + before);
+        Draft { table: self.table.with_last(head, field, record), facts }
+    }
+
+    /// With so many plain statements of one block in a bundle, whose head has the number of the first one.
+    pub fn with_bundle(&self, first: usize, count: usize) -> Draft {
+        Draft { table: self.table.with_bundle(first, count), facts: self.moved_from(first) }
+    }
+
+    /// The list where the loops from a statement on have moved by one.
+    fn moved_from(&self, statement: usize) -> Vec<i32> {
+        let mut facts = self.facts.clone();
+        for entry in facts.chunks_exact_mut(4) {
+            entry[0] += i32::from(entry[0] as usize >= statement);
+        }
+        facts
+    }
+
+    pub fn walk(&self, asked: Option<usize>) -> Walk {
+        walk(&self.table.words(), &self.facts, asked)
+    }
+}
