@@ -2,7 +2,7 @@
 
 pub mod command;
 pub mod diagnostics;
-mod explain;
+pub mod explain;
 pub mod files;
 pub mod form;
 pub mod image;
@@ -13,6 +13,7 @@ pub mod names;
 mod parser;
 pub mod printer;
 pub mod program;
+pub mod repair;
 mod rows;
 pub mod table;
 pub mod tokens;

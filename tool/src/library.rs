@@ -57,14 +57,6 @@ pub struct Checked {
     pub safe: Vec<u32>,
 }
 
-impl Checked {
-    /// `safe: 4 7`, where there are some.
-    pub fn safe_line(&self) -> Option<String> {
-        let listed: String = self.safe.iter().map(|statement| format!(" {statement}")).collect();
-        (!listed.is_empty()).then(|| format!("safe:{listed}"))
-    }
-}
-
 /// What a run is lent besides the routine.
 #[derive(Clone, Debug, Default, PartialEq, Eq)]
 pub struct Lent {

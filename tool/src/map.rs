@@ -13,6 +13,8 @@ pub struct RoutineMap {
     pub name: Pos,
     pub variables: Vec<Pos>,
     pub statements: Vec<Pos>,
+    /// The position behind each statement, with its blocks.
+    pub ends: Vec<Pos>,
     pub rows: Vec<Pos>,
     pub facts: Vec<Pos>,
 }

@@ -128,6 +128,14 @@ impl Table {
         }
     }
 
+    /// The last statement of an if's block itself, not of a block in it; field 5 counts the then block, field 6 the else block.
+    pub fn last_of_block(&self, head: usize, field: usize) -> Option<usize> {
+        let start = head + 1 + if field == 6 { self.statements[head][5] as usize } else { 0 };
+        let end = start + self.statements[head][field] as usize;
+        let next = |s: &usize| Some(s + self.extent(*s)).filter(|&next| next < end);
+        std::iter::successors((start < end).then_some(start), next).last()
+    }
+
     /// Counts one more statement in every block that a statement stands in.
     fn grow_around(&mut self, statement: usize) {
         for head in self.heads_around(statement) {

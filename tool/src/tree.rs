@@ -204,6 +204,8 @@ pub enum Callee {
 #[derive(Debug)]
 pub struct Statement {
     pub at: Pos,
+    /// The position behind it.
+    pub end: Pos,
     pub kind: StatementKind,
 }
 

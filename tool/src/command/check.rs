@@ -2,8 +2,8 @@
 
 use super::arguments::{Arguments, Usage};
 use super::{Output, DONE, REFUSED};
-use crate::explain::{report, Second};
-use crate::library::{self, Checked, Verdict};
+use crate::explain::{self, report, Checked};
+use crate::library::Verdict;
 use crate::program::Program;
 
 pub const USAGE: Usage = Usage {
@@ -41,17 +41,17 @@ pub fn verdict(program: &Program, short: bool) -> Result<Output, String> {
 
 fn answer(program: &Program, short: bool) -> Result<(Output, Checked), String> {
     let mut output = Output { err: program.warnings(short), ..Output::default() };
-    let checked = library::check(&program.tables, &program.facts)
-        .map_err(|lack| format!("{}{}", output.err, program.lacking(lack, short)))?;
-    let verdict = &checked.verdict;
-    output.out = format!("{verdict}\n");
+    let mut checked =
+        explain::check(program).map_err(|lack| format!("{}{}", output.err, program.lacking(lack, short)))?;
+    output.out = format!("{}\n", checked.verdict);
     output.out.extend(checked.safe_line().map(|line| format!("{line}\n")));
-    output.status = if *verdict == Verdict::Accepted { DONE } else { REFUSED };
-    let second = Second::of(program, verdict);
-    if let Some(other) = second.other_verdict(&checked) {
-        output.at_odds(program, &other);
-    } else if let Verdict::Refused(refusal) = verdict {
-        output.err.push_str(&second.explain(program, refusal).show(program, short));
+    output.status = if checked.verdict == Verdict::Accepted { DONE } else { REFUSED };
+    if let Some(other) = &checked.other {
+        output.at_odds(program, other);
+    }
+    if let (Some(reason), Verdict::Refused(refusal)) = (&mut checked.reason, checked.verdict) {
+        reason.help = explain::help(program, &refusal);
+        output.err.push_str(&reason.show(program, short));
     }
     Ok((output, checked))
 }

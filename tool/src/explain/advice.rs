@@ -3,8 +3,9 @@
 
 use super::bounds::lacking;
 use super::draft::Draft;
-use super::walk::Walk;
-use super::Place;
+use super::walk::{Unshown, Walk};
+use super::{Help, Place};
+use crate::repair::Repair;
 use crate::table::Table;
 use crate::tree::Relation;
 use oracle::checker::Asked;
@@ -35,28 +36,34 @@ impl Check {
 }
 
 /// What would show the bounds after a refused statement: checks before it, or a bundle with its neighbours, or both.
-pub fn for_bounds(place: &Place, refused: usize) -> Option<String> {
+pub fn for_bounds(place: &Place, refused: usize) -> Option<Help> {
     let routine = Draft::of(place);
     if let Some((at, conditions)) = checks(&routine, refused) {
-        return Some(format!("help: write {} before {}", written(place, &conditions), place.line(at)));
+        return Some(checks_before(place, at, &conditions));
     }
     let groups = groups(&routine.table, refused);
     let alone =
         groups.iter().copied().find(|&(first, count)| passes(&routine.with_bundle(first, count), first));
     if let Some(group) = alone {
-        return Some(format!("help: {}", in_one(place, group)));
+        return Some(in_one(place, group, Vec::new()));
     }
     groups.into_iter().find_map(|group| {
         let (at, conditions) = checks(&routine.with_bundle(group.0, group.1), group.0)?;
-        let conditions = written(place, &conditions);
-        (at == group.0).then(|| format!("help: {}, with {conditions} before it", in_one(place, group)))
+        (at == group.0).then(|| in_one(place, group, written(place, &conditions)))
     })
 }
 
-/// `dynamic_check(n >= 1); and dynamic_check(m >= 1);`.
-fn written(place: &Place, conditions: &[[i32; 4]]) -> String {
+/// Checks before a statement.
+fn checks_before(place: &Place, statement: usize, conditions: &[[i32; 4]]) -> Help {
+    let written = written(place, conditions);
+    let message = format!("write {} before {}", written.join(" and "), place.line(statement));
+    Help { message, repair: Some(Repair::Before { statement, written }) }
+}
+
+/// `dynamic_check(n >= 1);` for each condition.
+fn written(place: &Place, conditions: &[[i32; 4]]) -> Vec<String> {
     let check = |condition: &[i32; 4]| format!("dynamic_check({});", place.printer.condition(*condition));
-    conditions.iter().map(check).collect::<Vec<_>>().join(" and ")
+    conditions.iter().map(check).collect()
 }
 
 /// Conditions that are all that a refused statement lacks, and the statement before which they are to be tested. A run that stops
@@ -141,21 +148,28 @@ fn groups(table: &Table, refused: usize) -> Vec<(usize, usize)> {
     groups.filter(inside).filter(|&(first, count)| (first..first + count).all(is_plain)).collect()
 }
 
-/// `put both in one bundled { .. }`; an assignment and the where for its target are written as one.
-fn in_one(place: &Place, (first, count): (usize, usize)) -> String {
+/// `put both in one bundled { .. }`, with checks before it; an assignment and the where for its target are written as one.
+fn in_one(place: &Place, (first, count): (usize, usize), checks: Vec<String>) -> Help {
     let printer = &place.printer;
     let statements: Vec<String> = (first..first + count).map(|s| printer.statement(s)).collect();
     let records = &printer.table.statements[first..first + count];
-    match records {
+    let (mut message, repair) = match records {
         [[4..=7, target, ..], [14, p, row, ..]] if target == p => {
             let bounds = printer.row_to_write(*p, *row);
-            format!("write it as one: {} where {} : {bounds};", statements[0], printer.name(*p))
+            let written = format!("{} where {} : {bounds};", statements[0], printer.name(*p));
+            let message = format!("write it as one: {written}");
+            (message, Repair::AsOne { first, count, before: checks.clone(), written })
         }
         _ => {
             let which = if count == 2 { "both" } else { "these" };
-            format!("put {which} in one bundled {{ {}; }}", statements.join("; "))
+            let message = format!("put {which} in one bundled {{ {}; }}", statements.join("; "));
+            (message, Repair::Bundle { first, count, before: checks.clone(), last: Vec::new() })
         }
+    };
+    if !checks.is_empty() {
+        message.push_str(&format!(", with {} before it", checks.join(" and ")));
     }
+    Help { message, repair: Some(repair) }
 }
 
 /// A pointer that has one row on one way through a head and another on the other; -1 is its own bound.
@@ -166,7 +180,7 @@ pub struct Differing {
 
 /// Where statements that give the two ways through a head the same rows: behind the then and the else block, or at the end and at the
 /// head of a body.
-pub fn same_rows(place: &Place, head: usize, differing: &[Differing]) -> Option<String> {
+pub fn same_rows(place: &Place, head: usize, differing: &[Differing]) -> Option<Help> {
     let table = place.printer.table;
     // The rows of the first way, written on the second one, or the other way round; no statement declares a variable's own bound.
     let written = |way: usize| differing.iter().map(move |one| (one.pointer as i32, one.rows[way]));
@@ -185,13 +199,22 @@ pub fn same_rows(place: &Place, head: usize, differing: &[Differing]) -> Option<
             }
             listed.push(format!("{} : {}", place.printer.name(p), place.printer.row_to_write(p, row)));
         }
-        let words = format!("where {};", listed.join(" and "));
-        let advice = match table.statements[head] {
-            [12, ..] => format!("write {words} before {}", place.line(head)),
-            [.., 0] if way == 0 => format!("add else {{ {words} }}"),
-            _ => format!("write {words} at the end of the {} block", ["else", "then"][way]),
+        let written = format!("where {};", listed.join(" and "));
+        let (message, repair) = match table.statements[head] {
+            [12, ..] => {
+                let message = format!("write {written} before {}", place.line(head));
+                (message, Some(Repair::Before { statement: head, written: vec![written] }))
+            }
+            [.., 0] if way == 0 => {
+                (format!("add else {{ {written} }}"), Some(Repair::Else { head, written }))
+            }
+            _ => {
+                let message = format!("write {written} at the end of the {} block", ["else", "then"][way]);
+                let last = table.last_of_block(head, 6 - way);
+                (message, last.map(|statement| Repair::Behind { statement, written }))
+            }
         };
-        passes(&repaired, at).then(|| format!("help: {advice}"))
+        passes(&repaired, at).then_some(Help { message, repair })
     })
 }
 
@@ -214,20 +237,18 @@ fn gets_past(repaired: &Draft, statement: usize, seen: &Walk) -> bool {
 }
 
 /// A check before the loop that shows an entry of the list there.
-pub fn for_entry(place: &Place, entry: usize) -> Option<String> {
+pub fn for_entry(place: &Place, entry: usize) -> Option<Help> {
     let routine = Draft::of(place);
+    let asked = routine.walk(None).unshown?.asked;
     let &[head, x, y, k] = routine.facts.chunks_exact(4).nth(entry)? else { return None };
-    let [left, relation, form, right] = condition(&routine.table, x, y, k)?;
+    let condition = condition(&routine.table, x, y, k).filter(|_| asked == Asked::BeforeLoop)?;
+    let [left, relation, form, right] = condition;
     let head = head as usize;
     let repaired = routine.with_before(head, [10, left, relation, form, right, 0, 0]);
     let seen = repaired.walk(Some(head + 1));
     let can_hold = seen.asked.as_ref().is_some_and(|moment| !moment.facts.contradictory());
-    let is_shown = seen.answer.is_ok_and(|()| true)
-        || seen
-            .unshown
-            .is_none_or(|unshown| unshown.asked == Asked::AtBodyEnd || unshown.entry.head != head + 1);
-    let words = place.printer.condition([left, relation, form, right]);
-    (can_hold && is_shown).then(|| format!("help: write dynamic_check({words}); before {}", place.line(head)))
+    let still = |unshown: Unshown| unshown.asked == Asked::BeforeLoop && unshown.entry.head == head + 1;
+    (can_hold && !seen.unshown.is_some_and(still)).then(|| checks_before(place, head, &[condition]))
 }
 
 /// The condition that is the fact x <= y + k, where one is.

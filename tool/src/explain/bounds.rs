@@ -1,10 +1,11 @@
 //! Refusals 8 and 9: which inequality between declared and known ends is not shown, and what moved or lost the known end.
 
-use super::advice::{self, Check};
+use super::advice::Check;
 use super::facts::note;
 use super::walk::{Moment, Walk};
-use super::{Explanation, Place};
+use super::{Explanation, Help, Note, Place};
 use crate::library::Refusal;
+use crate::repair::Repair;
 use crate::rows::InForce;
 use crate::table::{accessed, Table};
 use crate::tree::Relation;
@@ -23,33 +24,42 @@ pub fn not_shown(place: &Place, seen: &Walk, refusal: &Refusal) -> Explanation {
         14 => format!("the bounds of `{name}` are not shown: this where declares more than is known"),
         _ => format!("the bounds of `{name}` are not shown after this statement"),
     };
-    let mut explanation = Explanation { at: place.statement(s), sentence, notes: Vec::new() };
+    let mut explanation = Explanation::new(place.statement(s), sentence);
     if let Some(moment) = &seen.after {
         notes(place, moment, pointer, &mut explanation);
-        explanation.notes.extend(advice::for_bounds(place, s).map(|help| (None, help)));
     }
     explanation
 }
 
 /// An access in a bundle whose pointer's bounds are not shown there.
 pub fn not_shown_for_access(place: &Place, seen: &Walk, refusal: &Refusal) -> Explanation {
-    let (pointer, ..) = accessed(&place.printer.table.statements[refusal.place]);
-    let name = place.printer.name(pointer);
+    let pointer = pointer_of(place.printer.table, refusal.place);
+    let name = place.printer.name(pointer as i32);
     let sentence = format!(
         "in a bundle an access through `{name}` needs its declared bounds, and they are not shown here"
     );
-    let mut explanation = Explanation { at: place.statement(refusal.place), sentence, notes: Vec::new() };
+    let mut explanation = Explanation::new(place.statement(refusal.place), sentence);
     if let Some(moment) = &seen.before {
-        notes(place, moment, pointer as usize, &mut explanation);
-        let changes = moment.changed[pointer as usize].into_iter().flatten();
-        if let Some(line) = changes.min().and_then(|s| place.statement(s)).map(|at| at.line) {
-            let help = format!(
-                "help: move the access before line {line}, or what restores the bounds before the access"
-            );
-            explanation.notes.push((None, help));
-        }
+        notes(place, moment, pointer, &mut explanation);
     }
     explanation
+}
+
+/// What would let the access stand.
+pub fn help_for_access(place: &Place, seen: &Walk, refusal: &Refusal) -> Option<Help> {
+    let pointer = pointer_of(place.printer.table, refusal.place);
+    let changes = seen.before.as_ref()?.changed[pointer].into_iter().flatten();
+    let first = changes.min()?;
+    let line = place.statement(first)?.line;
+    Some(Help {
+        message: format!("move the access before line {line}, or what restores the bounds before the access"),
+        repair: Some(Repair::Move { statement: refusal.place, before: first }),
+    })
+}
+
+/// The pointer of an access.
+fn pointer_of(table: &Table, statement: usize) -> usize {
+    accessed(&table.statements[statement]).0 as usize
 }
 
 /// Where the bounds were declared, what is not shown of them, what is known.
@@ -62,14 +72,14 @@ fn notes(place: &Place, moment: &Moment, pointer: usize, explanation: &mut Expla
         false => ("here", moment.rows(printer.table)),
     };
     let bounds = place.in_force(&rows, pointer);
-    let note_declared = format!("note: declared {when}: {} : {bounds}", printer.name(pointer as i32));
-    explanation.notes.push((place.declaration(&rows, pointer), note_declared));
+    let message = format!("declared {when}: {} : {bounds}", printer.name(pointer as i32));
+    explanation.notes.push(Note { at: place.declaration(&rows, pointer), message });
     let mut variables = Vec::new();
     for (side, gap) in unshown(printer.table, moment, pointer) {
         variables.extend(side.variables());
-        explanation.notes.push((None, format!("note: {}", side.reason(&gap, place, moment, pointer))));
+        explanation.notes.push(Note::new(side.reason(&gap, place, moment, pointer)));
     }
-    explanation.notes.push((None, note(printer, &moment.facts, &variables)));
+    explanation.notes.push(note(printer, &moment.facts, &variables));
 }
 
 /// One of the two inequalities: its ends, and how many cells the integer of each counts.

@@ -15,7 +15,7 @@ pub fn explain(text: &Text, image: &Image, refusal: &Refusal) -> Explanation {
         12 => (entry(&printer, &image.lent, place), image.variables.get(place)),
         _ => (terminator(text, &image.lent, place), image.objects.get(place)),
     };
-    Explanation { at: at.copied(), sentence, notes: Vec::new() }
+    Explanation::new(at.copied(), sentence)
 }
 
 /// Cause 10, of a pair or of the memory.

@@ -1,5 +1,6 @@
 //! Known facts in the text's notation.
 
+use super::Note;
 use crate::printer::{plus, Printer};
 use oracle::facts::{Facts, GREATEST, ZERO};
 
@@ -74,6 +75,6 @@ fn between(printer: &Printer, facts: &Facts, x: i32, y: i32) -> Option<String> {
 }
 
 /// The note `known here: ..`.
-pub fn note(printer: &Printer, facts: &Facts, variables: &[i32]) -> String {
-    format!("note: known here: {}", known(printer, facts, variables))
+pub fn note(printer: &Printer, facts: &Facts, variables: &[i32]) -> Note {
+    Note::new(format!("known here: {}", known(printer, facts, variables)))
 }

@@ -1,6 +1,6 @@
 //! Causes 1 to 6: what is wrong with a table's form.
 
-use super::Explanation;
+use super::{Explanation, Note};
 use crate::diagnostics::Pos;
 use crate::form::{directory_reason, max_words, Form, MAX_OBJECTS, MAX_ROWS, MAX_STATEMENTS, MAX_VARIABLES};
 use crate::library::Refusal;
@@ -19,15 +19,15 @@ pub fn explain(program: &Program, refusal: &Refusal) -> Explanation {
             Some(bytes) => format!("the file's {bytes} bytes are no whole words"),
             None => format!("the table has {} words; it may have 6 to {}", words.len(), max_words(words)),
         };
-        return Explanation { at, sentence, notes: Vec::new() };
+        return Explanation::new(at, sentence);
     }
     let parts: Result<Vec<Table>, _> = program.tables.iter().map(|words| Table::split(words)).collect();
     let parts = match parts {
         Ok(parts) => parts,
         Err(fault) => {
             let directory = &words[..words.len().min(8)];
-            let notes = vec![(None, format!("note: the table begins with the words {}", listed(directory)))];
-            return Explanation { at, sentence: directory_reason(&fault), notes };
+            let note = Note::new(format!("the table begins with the words {}", listed(directory)));
+            return Explanation { notes: vec![note], ..Explanation::new(at, directory_reason(&fault)) };
         }
     };
     let canonical = Names::canonical(&parts);
@@ -36,8 +36,8 @@ pub fn explain(program: &Program, refusal: &Refusal) -> Explanation {
     let form = Form { map, ..Form::new(&parts, names, routine) };
     let (sentence, record) = reason(&form, refusal);
     let of_words = program.of_words && !record.is_empty();
-    let note = || (None, format!("note: the words of the record are {}", listed(&record)));
-    Explanation { at, sentence, notes: of_words.then(note).into_iter().collect() }
+    let note = || Note::new(format!("the words of the record are {}", listed(&record)));
+    Explanation { notes: of_words.then(note).into_iter().collect(), ..Explanation::new(at, sentence) }
 }
 
 fn listed(words: &[i32]) -> String {

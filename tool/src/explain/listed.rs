@@ -3,7 +3,7 @@
 use super::bounds::UNRELATED;
 use super::lost::{self, lost_at, Fact};
 use super::walk::{Unshown, Walk};
-use super::{advice, facts, Explanation, Place};
+use super::{facts, Explanation, Note, Place};
 use crate::form::list_fault;
 use crate::library::Refusal;
 use crate::names::Names;
@@ -23,9 +23,9 @@ pub fn form(program: &Program, refusal: &Refusal) -> Option<Explanation> {
     let words = program.facts.chunks(4).nth(entry).filter(|_| program.of_words);
     let note = words.map(|words| {
         let words: Vec<String> = words.iter().map(i32::to_string).collect();
-        (None, format!("note: the words of the entry are {}", words.join(" ")))
+        Note::new(format!("the words of the entry are {}", words.join(" ")))
     });
-    Some(Explanation { at, sentence, notes: note.into_iter().collect() })
+    Some(Explanation { notes: note.into_iter().collect(), ..Explanation::new(at, sentence) })
 }
 
 /// An entry whose fact is not shown before its loop, or again at the end of the body.
@@ -42,18 +42,14 @@ pub fn not_shown(place: &Place, seen: &Walk, refusal: &Refusal) -> Option<Explan
     let mut notes = Vec::new();
     let best = known.sum(entry.x, entry.y);
     if best.abs() <= UNRELATED && (entry.x, best) != (ZERO, 0) {
-        notes.push(format!("note: best: {}", printer.fact(x, y, best)));
+        notes.push(Note::new(format!("best: {}", printer.fact(x, y, best))));
     } else {
         let fact = Fact { x: entry.x, y: entry.y, k: entry.k };
         let lost = lost_at(&printer.table.words(), printer.facts, fact);
-        notes.extend(lost.map(|s| format!("note: {}", lost::note(place, s))));
+        notes.extend(lost.map(|s| Note::new(lost::note(place, s))));
     }
     notes.push(facts::note(printer, known, &[x, y]));
-    if *asked == Asked::BeforeLoop {
-        notes.extend(advice::for_entry(place, refusal.place));
-    }
-    let notes = notes.into_iter().map(|note| (None, note)).collect();
-    Some(Explanation { at: place.entry(refusal.place), sentence, notes })
+    Some(Explanation { notes, ..Explanation::new(place.entry(refusal.place), sentence) })
 }
 
 /// The word of a variable in an entry; zero is -1.

@@ -18,11 +18,13 @@ mod walk;
 
 use crate::diagnostics::{Pos, Source};
 use crate::image::Image;
-use crate::library::{steps, Checked, Lent, Outcome, Refusal, Verdict};
+use crate::library::{self, steps, Asked, Lent, Outcome, Refusal, Verdict};
 use crate::map::RoutineMap;
 use crate::printer::Printer;
 use crate::program::{Program, Text};
+use crate::repair::Repair;
 use crate::rows::InForce;
+use draft::Draft;
 use oracle::answer::{CheckAnswer, RunInput};
 use oracle::checker::Value;
 pub use report::report;
@@ -34,10 +36,33 @@ use walk::Walk;
 pub struct Explanation {
     /// Where in the text, if there is one.
     pub at: Option<Pos>,
-    /// `refused 8: the bounds of ..`.
+    /// The number of the refusal.
+    pub number: u32,
+    /// `the bounds of ..`.
     pub sentence: String,
-    /// `note: ..` and `help: ..`, some with a position of their own.
-    pub notes: Vec<(Option<Pos>, String)>,
+    pub notes: Vec<Note>,
+    /// Empty until it is asked for: each help takes several walks.
+    pub help: Vec<Help>,
+}
+
+/// What is said beside a refusal, some of it at a position of its own.
+#[derive(Debug)]
+pub struct Note {
+    pub at: Option<Pos>,
+    pub message: String,
+}
+
+impl Note {
+    fn new(message: String) -> Note {
+        Note { at: None, message }
+    }
+}
+
+/// What would repair a routine: for people, and as a change of the text where there is one.
+#[derive(Debug)]
+pub struct Help {
+    pub message: String,
+    pub repair: Option<Repair>,
 }
 
 impl Explanation {
@@ -47,7 +72,7 @@ impl Explanation {
 
     /// The same at the line of another file, an image.
     pub fn show_in(&self, name: &str, source: Option<Source>, short: bool) -> String {
-        let what = format!("error: {}", self.sentence);
+        let what = format!("error: {}", self.message());
         let mut shown = match (self.at, source) {
             (Some(at), Some(source)) => source.show(at, &what, short),
             _ => format!("{name}: {what}\n"),
@@ -55,18 +80,27 @@ impl Explanation {
         if short {
             return shown;
         }
-        for (at, note) in &self.notes {
-            match at {
-                Some(at) => shown.push_str(&format!("{name}:{at}: {note}\n")),
-                None => shown.push_str(&format!("{note}\n")),
-            }
+        for Note { at, message } in &self.notes {
+            let place = at.map_or_else(String::new, |at| format!("{name}:{at}: "));
+            shown.push_str(&format!("{place}note: {message}\n"));
+        }
+        for help in &self.help {
+            shown.push_str(&format!("help: {}\n", help.message));
         }
         shown
     }
 
-    /// With the number of the refusal before its sentence.
+    /// `refused 8: the bounds of ..`.
+    pub fn message(&self) -> String {
+        format!("refused {}: {}", self.number, self.sentence)
+    }
+
+    fn new(at: Option<Pos>, sentence: String) -> Explanation {
+        Explanation { at, sentence, ..Explanation::default() }
+    }
+
     fn numbered(self, refusal: &Refusal) -> Explanation {
-        Explanation { sentence: format!("refused {}: {}", refusal.number, self.sentence), ..self }
+        Explanation { number: refusal.number, ..self }
     }
 }
 
@@ -119,8 +153,56 @@ impl<'a> Place<'a> {
     }
 }
 
+/// The library's verdict on a program, and what is said of it.
+#[derive(Debug)]
+pub struct Checked {
+    pub verdict: Verdict,
+    /// Of an accepted routine the statements of the accesses that stop no run at check 2 or 3, ascending.
+    pub safe: Vec<u32>,
+    /// The second implementation's verdict, where that is another one: then nothing is explained.
+    pub other: Option<String>,
+    /// The reason for a refusal.
+    pub reason: Option<Explanation>,
+}
+
+pub fn check(program: &Program) -> Asked<Checked> {
+    let checked = library::check(&program.tables, &program.facts)?;
+    let second = Second::of(program, &checked.verdict);
+    let other = second.other_verdict(&checked);
+    let reason = match &checked.verdict {
+        Verdict::Refused(refusal) if other.is_none() => Some(second.explain(program, refusal)),
+        _ => None,
+    };
+    let library::Checked { verdict, safe } = checked;
+    Ok(Checked { verdict, safe, other, reason })
+}
+
+impl Checked {
+    /// `safe: 4 7`, where there are some.
+    pub fn safe_line(&self) -> Option<String> {
+        let listed: String = self.safe.iter().map(|statement| format!(" {statement}")).collect();
+        (!listed.is_empty()).then(|| format!("safe:{listed}"))
+    }
+}
+
+/// What would repair a refused program, tried out.
+pub fn help(program: &Program, refusal: &Refusal) -> Vec<Help> {
+    let routine = refusal.routine.unwrap_or(0);
+    let Some(place) = program.text.as_ref().and_then(|text| Place::new(program, text, routine)) else {
+        return Vec::new();
+    };
+    let help = match refusal.number {
+        8 => advice::for_bounds(&place, refusal.place),
+        9 => bounds::help_for_access(&place, &Draft::of(&place).walk(None), refusal),
+        13 => rows::help(&place, refusal),
+        17 => advice::for_entry(&place, refusal.place),
+        _ => None,
+    };
+    help.into_iter().collect()
+}
+
 /// The second implementation's view of a program: its verdict, and what it saw on the way to a refusal.
-pub struct Second {
+struct Second {
     routine: usize,
     /// None where it cannot be asked: for sets.
     seen: Option<Walk>,
@@ -130,7 +212,7 @@ pub struct Second {
 
 impl Second {
     /// Walks the routine that the library refuses, or the only one.
-    pub fn of(program: &Program, verdict: &Verdict) -> Second {
+    fn of(program: &Program, verdict: &Verdict) -> Second {
         let routine = match verdict {
             Verdict::Refused(refusal) => refusal.routine.unwrap_or(0),
             Verdict::Accepted => 0,
@@ -142,14 +224,14 @@ impl Second {
     }
 
     /// Its verdict and report, where they are others than the proved ones.
-    pub fn other_verdict(&self, checked: &Checked) -> Option<String> {
+    fn other_verdict(&self, checked: &library::Checked) -> Option<String> {
         let answer = &self.seen.as_ref()?.answer;
         let same = agree(&checked.verdict, answer) && checked.safe == self.safe;
         (!same).then(|| format!("{}, safe: {:?}", oracle::answer::show_check(answer), self.safe))
     }
 
     /// The reason for a refusal.
-    pub fn explain(&self, program: &Program, refusal: &Refusal) -> Explanation {
+    fn explain(&self, program: &Program, refusal: &Refusal) -> Explanation {
         let explanation = match refusal.number {
             1..=6 => form::explain(program, refusal),
             17 if self.seen.as_ref().is_none_or(|seen| seen.unshown.is_none()) => {
@@ -171,7 +253,7 @@ impl Second {
             17 => listed::not_shown(&place, seen, refusal)?,
             number => {
                 let sentence = format!("`mizzengrape explain {number}` tells what it means");
-                Explanation { at: place.statement(refusal.place), sentence, notes: Vec::new() }
+                Explanation::new(place.statement(refusal.place), sentence)
             }
         })
     }

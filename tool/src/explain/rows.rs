@@ -1,17 +1,14 @@
 //! Refusal 13: rows of different numbers are in force behind the two sides of an if, or at the head and at the end of a while's body.
 
 use super::advice::{self, Differing};
-use super::{Explanation, Place};
+use super::{Explanation, Help, Note, Place};
 use crate::library::Refusal;
 use crate::rows::InForce;
 
 pub fn differ(place: &Place, refusal: &Refusal) -> Explanation {
     let (table, s) = (place.printer.table, refusal.place);
     let sides = sides(place, s);
-    let rows =
-        |pointer| Differing { pointer, rows: [0, 1].map(|side: usize| sides[side].row(table, pointer)) };
-    let differing = (0..table.variables.len()).map(rows).filter(|one| one.rows[0] != one.rows[1]);
-    let differing: Vec<Differing> = differing.collect();
+    let differing = differing(place, &sides);
     let [first, others @ ..] = &differing[..] else { return Explanation::default() };
     let shown = |one: &Differing| {
         let [there, here] = bounds(place, &sides, one.pointer);
@@ -23,15 +20,27 @@ pub fn differ(place: &Place, refusal: &Refusal) -> Explanation {
     if sides[0].bounds(table, first.pointer) == sides[1].bounds(table, first.pointer) {
         let numbers =
             first.rows.map(|row| if row == -1 { "-1, its own".to_string() } else { row.to_string() });
-        notes.push(format!("note: they are two rows ({}), and rows count by number", numbers.join(" and ")));
+        notes.push(format!("they are two rows ({}), and rows count by number", numbers.join(" and ")));
     }
-    let further = others.iter().map(shown).map(|(name, both)| format!("note: so has `{name}`: {both}"));
-    notes.extend(further.chain(advice::same_rows(place, s, &differing)));
+    notes.extend(others.iter().map(shown).map(|(name, both)| format!("so has `{name}`: {both}")));
     Explanation {
-        at: place.statement(s),
-        sentence,
-        notes: notes.into_iter().map(|note| (None, note)).collect(),
+        notes: notes.into_iter().map(Note::new).collect(),
+        ..Explanation::new(place.statement(s), sentence)
     }
+}
+
+/// What would give both ways the same rows.
+pub fn help(place: &Place, refusal: &Refusal) -> Option<Help> {
+    let sides = sides(place, refusal.place);
+    advice::same_rows(place, refusal.place, &differing(place, &sides))
+}
+
+/// The pointers whose rows are not the same on both sides.
+fn differing(place: &Place, sides: &[InForce; 2]) -> Vec<Differing> {
+    let table = place.printer.table;
+    let rows =
+        |pointer| Differing { pointer, rows: [0, 1].map(|side: usize| sides[side].row(table, pointer)) };
+    (0..table.variables.len()).map(rows).filter(|one| one.rows[0] != one.rows[1]).collect()
 }
 
 /// What is in force behind the then and the else block, or at the end of the body and at the head.

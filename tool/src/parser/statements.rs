@@ -52,7 +52,7 @@ impl Parser<'_> {
                 plain
             }
         };
-        Ok(Statement { at, kind })
+        Ok(Statement { at, end: self.behind.unwrap_or(at), kind })
     }
 
     fn if_statement(&mut self, depth: usize) -> Fallible<StatementKind> {

@@ -104,6 +104,7 @@ fn routine(
         name: tree.name.at,
         variables: scope.variables.iter().map(|v| v.name.at).collect(),
         statements: body.positions,
+        ends: body.ends,
         rows: body.row_positions,
         facts: body.fact_positions,
     });

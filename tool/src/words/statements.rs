@@ -11,6 +11,10 @@ pub struct Body<'a> {
     pub(super) scope: &'a Scope<'a>,
     pub records: Vec<[i32; 7]>,
     pub positions: Vec<Pos>,
+    /// The positions behind the statements.
+    pub ends: Vec<Pos>,
+    /// Where the statement at hand ends.
+    end: Pos,
     pub rows: Vec<Ends>,
     pub row_positions: Vec<Pos>,
     /// Whether any statement declares bounds, so that the table has rows.
@@ -27,6 +31,8 @@ impl<'a> Body<'a> {
             scope,
             records: Vec::new(),
             positions: Vec::new(),
+            ends: Vec::new(),
+            end: Pos::default(),
             rows: named,
             row_positions: tree.named.iter().map(|named| named.name.at).collect(),
             has_where: false,
@@ -42,6 +48,7 @@ impl<'a> Body<'a> {
         record[..words.len()].copy_from_slice(words);
         self.records.push(record);
         self.positions.push(at);
+        self.ends.push(self.end);
         self.records.len() - 1
     }
 
@@ -65,6 +72,7 @@ impl<'a> Body<'a> {
 
     fn statement(&mut self, statement: &Statement, in_bundle: bool) -> Fallible<()> {
         let at = statement.at;
+        self.end = statement.end;
         match &statement.kind {
             StatementKind::Assign { target, value, wheres } => {
                 self.assign_where(at, target, value, wheres, in_bundle)?;
