@@ -15,6 +15,13 @@ impl std::fmt::Display for Pos {
     }
 }
 
+/// From a position up to another, that one not included.
+#[derive(Clone, Copy, Debug, Default, PartialEq, Eq)]
+pub struct Span {
+    pub from: Pos,
+    pub to: Pos,
+}
+
 /// An error or a warning, and where it stands.
 #[derive(Clone, Debug, PartialEq, Eq)]
 pub struct Diagnostic {

@@ -13,6 +13,7 @@ pub mod names;
 mod parser;
 pub mod printer;
 pub mod program;
+pub mod propose;
 pub mod repair;
 mod rows;
 pub mod table;

@@ -1,6 +1,6 @@
 //! Where in the text each numbered thing of the tables stands.
 
-use crate::diagnostics::Pos;
+use crate::diagnostics::{Pos, Span};
 
 #[derive(Clone, Debug, Default)]
 pub struct Map {
@@ -17,6 +17,8 @@ pub struct RoutineMap {
     pub ends: Vec<Pos>,
     pub rows: Vec<Pos>,
     pub facts: Vec<Pos>,
+    /// The whiles, and where behind their conditions loop facts stand or may stand.
+    pub loops: Vec<(usize, Span)>,
 }
 
 impl Map {

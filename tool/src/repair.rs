@@ -1,6 +1,6 @@
 //! A repair of a routine as a change of its text: what is written where, in the text's own lines and indentation.
 
-use crate::diagnostics::{Pos, Source};
+use crate::diagnostics::{Pos, Source, Span};
 use crate::map::RoutineMap;
 
 /// A repair, by the numbers of the statements that it is about.
@@ -18,6 +18,8 @@ pub enum Repair {
     Else { head: usize, written: String },
     /// A statement before another one, in place of where it stands.
     Move { statement: usize, before: usize },
+    /// These loop facts at a while, in place of those that it has.
+    Facts { head: usize, facts: Vec<String> },
 }
 
 /// A piece of a text, from one position up to another, in place of which something else is written.
@@ -67,6 +69,10 @@ pub fn edits(repair: &Repair, text: &str, map: &RoutineMap) -> Option<Vec<Edit>>
             edits.sort_by_key(|edit| edit.from);
             edits
         }
+        Repair::Facts { head, facts } => {
+            let (_, Span { from, to }) = *map.loops.iter().find(|(number, _)| number == head)?;
+            vec![Edit { from, to, text: layout.facts(at(*head)?, from, facts) }]
+        }
     })
 }
 
@@ -91,6 +97,9 @@ pub fn offset(text: &str, at: Pos) -> Option<usize> {
 fn between(text: &str, from: Pos, to: Pos) -> Option<&str> {
     text.get(offset(text, from)?..offset(text, to)?)
 }
+
+/// A line that is written is no longer, where it can be parted.
+const MOST_COLUMNS: usize = 100;
 
 /// How a text is laid out.
 struct Layout<'a> {
@@ -145,6 +154,20 @@ impl Layout<'_> {
         let last: String = last.iter().map(|statement| format!("{inside}{statement}")).collect();
         edits.push(Edit::insert(to, format!("{last}{outside}}}")));
         edits
+    }
+
+    /// Loop facts behind a condition: on its line where there is room, else on a line each.
+    fn facts(&self, head: Pos, behind: Pos, facts: &[String]) -> String {
+        let line = facts.join(" and ");
+        if facts.is_empty() {
+            return String::new();
+        }
+        if behind.column as usize + line.len() + " where  {".len() <= MOST_COLUMNS {
+            return format!(" where {line}");
+        }
+        let (_, inside) = self.block(head);
+        let joined = facts.join(&format!("{inside}  and "));
+        format!("{inside}where {joined}")
     }
 
     /// A statement taken out, with its lines where it fills them.

@@ -1,6 +1,6 @@
 //! A text as a tree, with a position at every node.
 
-use crate::diagnostics::Pos;
+use crate::diagnostics::{Pos, Span};
 
 #[derive(Clone, Debug)]
 pub struct Name {
@@ -217,7 +217,7 @@ pub enum StatementKind {
     Check(Condition),
     Call { result: Option<Name>, call: Call },
     If { condition: Condition, then: Vec<Statement>, otherwise: Vec<Statement> },
-    While { condition: Condition, facts: Vec<Fact>, body: Vec<Statement> },
+    While { condition: Condition, facts: Vec<Fact>, listed: Span, body: Vec<Statement> },
     Bundle(Vec<Statement>),
 }
 

@@ -95,6 +95,15 @@ fn a_name_is_copied_as_far_as_there_is_room() {
 }
 
 #[test]
+fn elapsed_times_are_summed_and_no_access_can_stop() {
+    assert_eq!(verdict(&routine("elapsed_times"), true).expect("a verdict").out, "accepted\nsafe: 4\n");
+    let image_name = "three_finishers.img";
+    let run = run_program(routine("elapsed_times"), image_name, image(image_name), false, false);
+    let expected = "done after 16 steps\ni: 0 -> 3\ntime: 0 -> 811\ntotal: 0 -> 2363\n";
+    assert_eq!(run.expect("a run").out, expected);
+}
+
+#[test]
 fn the_bounds_follow_the_block() {
     assert_eq!(second("two_blocks", "keelboat.img"), "done 10");
     let expected = "done after 10 steps\nrow: 0 -> 7\nrows: 0 -> 1\nkeelboats[2] (cell 6): 0 -> 77\n\

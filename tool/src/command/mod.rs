@@ -6,6 +6,7 @@ mod changes;
 mod check;
 mod dis;
 mod explain;
+mod facts;
 mod run;
 
 use crate::program::Program;
@@ -82,6 +83,7 @@ mizzengrape: routines for late entries and scoring, in Checked C
     mizzengrape trace FILE IMAGE      a run step by step
     mizzengrape explain NUMBER        what a refusal means and what repairs it; `explain stop NUMBER` for a stop
     mizzengrape explain FILE [LINE]   what is known before the statement of a line
+    mizzengrape facts FILE.c          a text with loop facts that make its accesses safe
 
 A FILE ending in .tbl is a table, .words a table in decimal words, all others are texts; - is standard input.
 `mizzengrape COMMAND --help` says more. Exit status: 0 accepted or done, 1 refused, 2 the text, the file or the call is
@@ -91,7 +93,7 @@ wrong, 3 stopped, 4 spent, 5 the two implementations differ.
 type Call = fn(&Arguments) -> Result<Output, String>;
 
 /// Each command with its usage.
-const COMMANDS: [(&str, &Usage, Call); 7] = [
+const COMMANDS: [(&str, &Usage, Call); 8] = [
     ("check", &check::USAGE, check::check),
     ("asm", &asm::USAGE, asm::asm),
     ("dis", &dis::DIS_USAGE, dis::dis),
@@ -99,6 +101,7 @@ const COMMANDS: [(&str, &Usage, Call); 7] = [
     ("run", &run::RUN_USAGE, run::run),
     ("trace", &run::TRACE_USAGE, run::trace),
     ("explain", &explain::USAGE, explain::explain),
+    ("facts", &facts::USAGE, facts::facts),
 ];
 
 /// The command with these arguments.

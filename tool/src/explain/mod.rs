@@ -27,7 +27,7 @@ use crate::rows::InForce;
 use draft::Draft;
 use oracle::answer::{CheckAnswer, RunInput};
 use oracle::checker::Value;
-pub use report::report;
+pub use report::{access, report};
 pub use state::state;
 use walk::Walk;
 

@@ -37,16 +37,21 @@ impl Observer for Accesses<'_> {
         if !matches!(record[0], 8 | 9) {
             return;
         }
-        let at = place.statement(statement).map_or(String::new(), |at| format!(":{at}"));
-        let (name, text) = (self.name, printer.statement(statement));
         let line = match self.safe.contains(&(statement as u32)) {
-            true => format!("{name}{at}: safe: {text}\n"),
+            true => access(place, self.name, statement, "safe"),
             false => {
-                format!("{name}{at}: may stop: {text}: {}\n", unknown(place, statement, facts).join(", "))
+                let line = access(place, self.name, statement, "may stop");
+                format!("{line}: {}", unknown(place, statement, facts).join(", "))
             }
         };
-        self.lines.push_str(&line);
+        self.lines.push_str(&format!("{line}\n"));
     }
+}
+
+/// `FILE:7:9: safe: x = row[i]`.
+pub fn access(place: &Place, name: &str, statement: usize, what: &str) -> String {
+    let at = place.statement(statement).map_or(String::new(), |at| format!(":{at}"));
+    format!("{name}{at}: {what}: {}", place.printer.statement(statement))
 }
 
 /// What is not known before an access that may stop.

@@ -2,7 +2,7 @@
 
 use super::values::{ONE_ACCESS, ONE_OPERATION};
 use super::{Parser, MAX_NESTING};
-use crate::diagnostics::{fail, Fallible, Pos};
+use crate::diagnostics::{fail, Fallible, Pos, Span};
 use crate::tokens::Kind;
 use crate::tree::*;
 
@@ -39,8 +39,11 @@ impl Parser<'_> {
             Kind::Word("while") => {
                 self.take();
                 let condition = self.condition()?;
+                let from = self.behind.unwrap_or(at);
                 let facts = self.facts()?;
-                StatementKind::While { condition, facts, body: self.block(depth, " after the condition")? }
+                let listed = Span { from, to: self.behind.unwrap_or(from) };
+                let body = self.block(depth, " after the condition")?;
+                StatementKind::While { condition, facts, listed, body }
             }
             Kind::Word("bundled") => {
                 self.take();

@@ -107,6 +107,7 @@ fn routine(
         ends: body.ends,
         rows: body.row_positions,
         facts: body.fact_positions,
+        loops: body.loops,
     });
     Ok(())
 }

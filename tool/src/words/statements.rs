@@ -2,7 +2,7 @@
 
 use super::bounds::{word, Address, Ends};
 use super::scope::{Global, Scope};
-use crate::diagnostics::{fail, Diagnostic, Fallible, Pos};
+use crate::diagnostics::{fail, Diagnostic, Fallible, Pos, Span};
 use crate::tree::*;
 
 /// The statements of a routine so far, and what they bring with them.
@@ -21,6 +21,8 @@ pub struct Body<'a> {
     pub has_where: bool,
     pub facts: Vec<i32>,
     pub fact_positions: Vec<Pos>,
+    /// The whiles, and where behind their conditions their facts stand.
+    pub loops: Vec<(usize, Span)>,
     pub warnings: Vec<Diagnostic>,
 }
 
@@ -38,6 +40,7 @@ impl<'a> Body<'a> {
             has_where: false,
             facts: Vec::new(),
             fact_positions: Vec::new(),
+            loops: Vec::new(),
             warnings: Vec::new(),
         }
     }
@@ -94,9 +97,10 @@ impl<'a> Body<'a> {
                 self.counted(head, 5, then, in_bundle)?;
                 self.counted(head, 6, otherwise, in_bundle)?;
             }
-            StatementKind::While { condition, facts, body } => {
+            StatementKind::While { condition, facts, listed, body } => {
                 let [a, b, c, d] = self.condition(condition)?;
                 let head = self.push(at, &[12, a, b, c, d]);
+                self.loops.push((head, *listed));
                 facts.iter().try_for_each(|fact| self.fact(head, fact))?;
                 self.counted(head, 5, body, in_bundle)?;
             }

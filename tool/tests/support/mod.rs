@@ -4,6 +4,8 @@
 
 pub mod damage;
 pub mod generate;
+pub mod loops;
+pub mod proposals;
 pub mod round_trip;
 
 /// Numbers from a seed (splitmix64).
