@@ -41,6 +41,20 @@ pub fn fail<T>(at: Pos, message: impl Into<String>) -> Fallible<T> {
     Err(Diagnostic::new(at, message))
 }
 
+/// A text as a terminal may be shown it: what would move the cursor, change colours or turn the writing round stands as one mark, so that a
+/// caret below stays under its column.
+pub fn without_controls(text: &str) -> String {
+    let shown = |c: char| match c {
+        '\n' | '\t' => c,
+        '\u{200e}' | '\u{200f}' | '\u{202a}'..='\u{202e}' | '\u{2066}'..='\u{2069}' => {
+            char::REPLACEMENT_CHARACTER
+        }
+        _ if c.is_control() => char::REPLACEMENT_CHARACTER,
+        _ => c,
+    };
+    text.chars().map(shown).collect()
+}
+
 /// The bytes of a line that is quoted; in a longer one nobody finds the caret.
 const MOST_QUOTED: usize = 1000;
 

@@ -1,6 +1,6 @@
 //! Files: each sort is read up to the length that it may have, and none is written over what it is made from.
 
-use crate::diagnostics::{Diagnostic, Pos, Source};
+use crate::diagnostics::{without_controls, Diagnostic, Pos, Source};
 use std::fs::{self, File};
 use std::io::Read;
 use std::path::{Path, PathBuf};
@@ -44,7 +44,11 @@ impl Sort {
 
 /// As messages name a file.
 pub fn shown_name(path: &str) -> String {
-    if path == "-" { "<standard input>" } else { path }.to_string()
+    if path == "-" {
+        "<standard input>".to_string()
+    } else {
+        without_controls(path)
+    }
 }
 
 /// The bytes of a file, or of standard input for `-`.

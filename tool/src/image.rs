@@ -143,8 +143,8 @@ impl Reader<'_> {
         let mut cells = Vec::new();
         while !self.parser.is("}") {
             cells.push(self.parser.number()?.value);
-            if !self.parser.is("}") {
-                self.parser.expect(",")?;
+            if !self.parser.accept(",") && !self.parser.is("}") {
+                return self.parser.unexpected("`,` or `}`");
             }
         }
         self.parser.expect("}")?;

@@ -6,6 +6,21 @@ use std::collections::{HashMap, VecDeque};
 
 type Wrong = (Pos, String);
 
+/// What is said of a character that no token has.
+fn no_token(c: char) -> String {
+    let name = match c {
+        '\0' => "a NUL",
+        '\u{b}' => "a vertical tab",
+        '\u{c}' => "a form feed",
+        '\u{1b}' => "an escape character",
+        _ if c.is_control() => "a control character",
+        '\u{feff}' => "a byte order mark",
+        '\u{a0}' => "a no-break space",
+        _ => return "only ASCII stands outside of comments".to_string(),
+    };
+    format!("{name} (U+{:04X}) stands here; blanks, tabs and line ends part tokens", c as u32)
+}
+
 /// Reads a text, token by token: an image may have millions of them.
 pub struct Lexer<'a> {
     text: &'a str,
@@ -237,7 +252,7 @@ impl<'a> Lexer<'a> {
         }
         let c = self.peek().expect("not at the end");
         if !c.is_ascii() || c.is_ascii_control() {
-            return Err((self.pos, "only ASCII stands outside of comments".to_string()));
+            return Err((self.pos, no_token(c)));
         }
         self.advance();
         Ok(Kind::Stray)

@@ -16,6 +16,7 @@ pub mod program;
 pub mod propose;
 pub mod repair;
 mod rows;
+mod suggest;
 pub mod table;
 pub mod tokens;
 mod tree;

@@ -7,6 +7,7 @@ use crate::map::Map;
 use crate::names::Names;
 use crate::printer::print;
 use crate::table::Table;
+use crate::tokens::cut;
 use crate::words::{assemble, Assembly};
 
 #[derive(Debug)]
@@ -151,10 +152,15 @@ fn read_words(path: &str, text: &str) -> Loaded<Words> {
     for (number, line) in text.lines().enumerate().filter(|(_, line)| !line.trim().is_empty()) {
         let wrong = || format!("{path}:{}: error: expected `table:` or `facts:` and words\n", number + 1);
         let (what, words) = line.split_once(':').ok_or_else(wrong)?;
-        let words: Result<Vec<i32>, _> = words.split_whitespace().map(str::parse).collect();
-        match (what.trim(), words) {
-            ("table", Ok(words)) => tables.push(words),
-            ("facts", Ok(words)) => facts = words,
+        let no_word = |word: &str| {
+            let range = "a word is -2147483648 to 2147483647";
+            format!("{path}:{}: error: `{}` is no word: {range}\n", number + 1, cut(word))
+        };
+        let word = |word: &str| word.parse().map_err(|_| no_word(word));
+        let words = || words.split_whitespace().map(word).collect::<Loaded<Vec<i32>>>();
+        match what.trim() {
+            "table" => tables.push(words()?),
+            "facts" => facts = words()?,
             _ => return Err(wrong()),
         }
     }

@@ -49,8 +49,22 @@ impl Token<'_> {
         match self.kind {
             Kind::End => "end of text".to_string(),
             Kind::LineEnd => "end of line".to_string(),
-            _ => format!("`{}`", self.text),
+            _ => format!("`{}`", cut(self.text)),
         }
+    }
+}
+
+/// A token of a text that is longer than this is quoted by its beginning.
+const MOST_QUOTED: usize = 40;
+
+/// A token as a message quotes it.
+pub fn cut(text: &str) -> String {
+    let mut characters = text.chars();
+    let quoted: String = characters.by_ref().take(MOST_QUOTED).collect();
+    if characters.next().is_none() {
+        quoted
+    } else {
+        quoted + ".."
     }
 }
 

@@ -96,8 +96,8 @@ fn entries_of_names() {
     refused("s = plain;", "1:1: error: refused 12: `s` is an nt_array_ptr and `plain` is not terminated");
     refused(
         "s = name; n = 4;",
-        "1:1: error: refused 12: the bounds of `s` are untrue at entry: its upper end s + n is cell 5 + 4 = 9, but `name` ends at 9 with \
-         its terminator at 8",
+        "1:1: error: refused 12: the bounds of `s` are untrue at entry: its upper end s + n is cell 5 + 4 = 9, beyond the \
+         terminator of `name` at cell 8: the bounds may end there at most",
     );
     refused(
         "\nname = \"Boat\";",

@@ -32,6 +32,10 @@ impl Arguments {
                 read.files.push(argument.clone());
             }
         }
+        let from_input = read.files.iter().chain(read.options.iter().map(|(_, value)| value));
+        if from_input.filter(|file| *file == "-").count() > 1 {
+            return Err("standard input can be read once: - is given twice".to_string());
+        }
         let count = read.files.len();
         if count < usage.least_files {
             return Err("a file is missing".to_string());

@@ -8,11 +8,11 @@ use crate::program::Program;
 
 pub const USAGE: Usage = Usage {
     help: "\
-mizzengrape explain NUMBER
-mizzengrape explain stop NUMBER
+mizzengrape explain NUMBER          mizzengrape explain refusals
+mizzengrape explain stop NUMBER     mizzengrape explain stops
 mizzengrape explain FILE [LINE] [--facts F]
 
-A number: the page of docs/FORMAT.md about that refusal, or that stop of a run. A file: the facts, the known and the declared bounds
+A number: the page of docs/FORMAT.md about that refusal, or that stop of a run; without one they are listed. A file: the facts, the known and the declared bounds
 before the statement that begins on that line (by default the refused one), of a while also its loop facts. A line of loop facts
 stands for its while.
 
@@ -28,6 +28,10 @@ pub fn explain(arguments: &Arguments) -> Result<Output, String> {
     let words: Vec<&str> = arguments.files.iter().map(String::as_str).collect();
     let heading = match words[..] {
         [number] if number.parse::<u32>().is_ok() => format!("Refusal {number}"),
+        ["stop" | "stops"] => return Ok(Output { out: pages::headings("Stop"), ..Output::default() }),
+        ["refusal" | "refusals"] => {
+            return Ok(Output { out: pages::headings("Refusal"), ..Output::default() })
+        }
         ["stop", number] => format!("Stop {number}"),
         _ => return at_line(arguments, words.get(1).copied()),
     };

@@ -9,6 +9,7 @@ mod explain;
 mod facts;
 mod run;
 
+use crate::diagnostics::without_controls;
 use crate::program::Program;
 use arguments::{Arguments, Usage};
 pub use check::verdict;
@@ -104,8 +105,16 @@ const COMMANDS: [(&str, &Usage, Call); 8] = [
     ("facts", &facts::USAGE, facts::facts),
 ];
 
-/// The command with these arguments.
+/// The command with these arguments. What it says of a text or a file is no more than text.
 pub fn call(arguments: &[String]) -> Output {
+    let mut output = answer(arguments);
+    for said in [&mut output.err, &mut output.end] {
+        *said = without_controls(said);
+    }
+    output
+}
+
+fn answer(arguments: &[String]) -> Output {
     let [name, rest @ ..] = arguments else { return Output::wrong(HELP.to_string()) };
     if matches!(name.as_str(), "--help" | "-h" | "help") {
         return Output::help(HELP);
@@ -120,7 +129,7 @@ pub fn call(arguments: &[String]) -> Output {
         return Output::help(usage.help);
     }
     match Arguments::read(rest, usage) {
-        Err(message) => Output::wrong(format!("error: {message}\n{}", usage.help)),
+        Err(message) => Output::wrong(format!("error: {message}; `mizzengrape {name} --help` tells more\n")),
         Ok(arguments) => command(&arguments).unwrap_or_else(Output::wrong),
     }
 }

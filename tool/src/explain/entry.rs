@@ -79,13 +79,13 @@ fn entry(printer: &Printer, lent: &Lent, variable: usize) -> String {
             lower.shown
         );
     }
-    let ends = if terminated {
-        format!("ends at {high} with its terminator at {}", high - 1)
-    } else {
-        format!("ends at {high}")
-    };
     let shown = printer.end([r, m], i64::from(j), size);
-    format!("{untrue} upper end {shown} is cell {}, but `{object_name}` {ends}", upper.shown)
+    let upper = format!("{untrue} upper end {shown} is cell {}", upper.shown);
+    if terminated {
+        let last = high - 1;
+        return format!("{upper}, beyond the terminator of `{object_name}` at cell {last}: the bounds may end there at most");
+    }
+    format!("{upper}, but `{object_name}` ends at {high}")
 }
 
 /// Cause 16.

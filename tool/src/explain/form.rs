@@ -17,7 +17,7 @@ pub fn explain(program: &Program, refusal: &Refusal) -> Explanation {
     if refusal.number == 1 {
         let sentence = match program.ragged {
             Some(bytes) => format!("the file's {bytes} bytes are no whole words"),
-            None => format!("the table has {} words; it may have 6 to {}", words.len(), max_words(words)),
+            None => too_long(words, !program.of_words),
         };
         return Explanation::new(at, sentence);
     }
@@ -38,6 +38,15 @@ pub fn explain(program: &Program, refusal: &Refusal) -> Explanation {
     let of_words = program.of_words && !record.is_empty();
     let note = || Note::new(format!("the words of the record are {}", listed(&record)));
     Explanation { notes: of_words.then(note).into_iter().collect(), ..Explanation::new(at, sentence) }
+}
+
+/// A table of a text is too long by its statements.
+fn too_long(words: &[i32], of_text: bool) -> String {
+    let statements = Table::split(words).map_or(0, |table| table.statements.len());
+    if of_text && statements > MAX_STATEMENTS {
+        return format!("the routine has {statements} statements; it may have at most 1,024");
+    }
+    format!("the table has {} words; it may have 6 to {}", words.len(), max_words(words))
 }
 
 fn listed(words: &[i32]) -> String {
@@ -77,6 +86,7 @@ fn position(map: &Map, routine: usize, refusal: &Refusal) -> Option<Pos> {
     let place = refusal.place;
     let RoutineMap { name, variables, statements, rows, .. } = map.routines.get(routine)?;
     let found = match refusal.number {
+        1 => statements.get(MAX_STATEMENTS),
         2 => {
             let counted = [(&map.objects, MAX_OBJECTS), (variables, MAX_VARIABLES)];
             let counted = counted.into_iter().chain([(statements, MAX_STATEMENTS), (rows, MAX_ROWS)]);

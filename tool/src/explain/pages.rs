@@ -20,3 +20,9 @@ pub fn page(heading: &str) -> Option<String> {
     }
     Some(page)
 }
+
+/// The headings of all pages of a sort, a line each: `Stop 1: a dynamic check is false`.
+pub fn headings(sort: &str) -> String {
+    let headings = MANUAL.lines().filter_map(|line| line.strip_prefix("### "));
+    headings.filter(|heading| heading.starts_with(sort)).map(|heading| format!("{heading}\n")).collect()
+}

@@ -16,6 +16,10 @@ impl Parser<'_> {
         Some(relation)
     }
 
+    pub(super) fn is_relation(&self) -> bool {
+        RELATIONS.iter().any(|(mark, _)| self.is(mark))
+    }
+
     /// `(condition)`.
     pub(super) fn condition(&mut self) -> Fallible<Condition> {
         self.expect("(")?;

@@ -124,6 +124,16 @@ impl<'a> Parser<'a> {
         Ok(Name { text: token.text.to_string(), at: token.at })
     }
 
+    /// A name where it is declared.
+    fn declared_name(&mut self) -> Fallible<Name> {
+        match self.peek().kind {
+            Kind::Foreign | Kind::Word(_) => {
+                self.wrong(format!("`{}` is a keyword and no name", self.peek().text))
+            }
+            _ => self.name(),
+        }
+    }
+
     pub(crate) fn accept_number(&mut self) -> Option<Number> {
         let &Kind::Number(value) = &self.peek().kind else { return None };
         Some(Number { value, at: self.take().at })
@@ -166,7 +176,7 @@ impl<'a> Parser<'a> {
             if !void {
                 self.unsigned("a routine")?;
             }
-            let name = self.name()?;
+            let name = self.declared_name()?;
             if !void && (self.is("checked") || self.is("nt_checked")) {
                 if !unit.routines.is_empty() {
                     return fail(name.at, "objects are declared before the routines");
@@ -309,7 +319,7 @@ impl<'a> Parser<'a> {
     }
 
     fn declarator(&mut self, shape: Type) -> Fallible<Variable> {
-        let name = self.name()?;
+        let name = self.declared_name()?;
         let bounds = match shape {
             Type::Integer if self.is(":") => return self.wrong("an integer has no bounds"),
             Type::Integer => None,

@@ -3,6 +3,7 @@
 use super::values::{ONE_ACCESS, ONE_OPERATION};
 use super::{Parser, MAX_NESTING};
 use crate::diagnostics::{fail, Fallible, Pos, Span};
+use crate::suggest::did_you_mean;
 use crate::tokens::Kind;
 use crate::tree::*;
 
@@ -191,6 +192,10 @@ impl Parser<'_> {
                 return self.wrong("a call has four arguments at most");
             }
             arguments.push(self.argument()?);
+            if let (true, Callee::Name(name)) = (self.is_relation(), &callee) {
+                let near = did_you_mean(&name.text, ["dynamic_check", "while"].into_iter());
+                return fail(name.at, format!("`{}` is no statement that has a condition{near}", name.text));
+            }
             if !self.is(")") {
                 self.expect(",")?;
                 if self.is(")") {

@@ -65,6 +65,11 @@ fn unit(unit: &Unit) -> Fallible<Assembly> {
 fn object(object: &Object) -> Fallible<i32> {
     let product =
         object.dimensions.iter().fold(1i64, |product, n| product.saturating_mul(i64::from(n.value)));
+    if product > i64::from(i32::MAX) {
+        let name = &object.name.text;
+        let at = object.dimensions[0].at;
+        return fail(at, format!("object `{name}` has {product} cells; an object has 1 to 1,000,000"));
+    }
     word(if object.terminated { -product } else { product }, object.dimensions[0].at)
 }
 

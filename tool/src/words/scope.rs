@@ -1,6 +1,7 @@
 //! What names stand for: objects, routines and named bounds of the file, variables of a routine.
 
 use crate::diagnostics::{fail, Fallible};
+use crate::suggest::did_you_mean;
 use crate::tree::{Name, Routine, Type, Unit, Variable};
 use std::collections::HashMap;
 
@@ -81,8 +82,14 @@ impl<'a> Scope<'a> {
         match (self.numbers.get(text.as_str()), self.globals.get(name)) {
             (Some(&number), _) => Ok(number),
             (None, Some(global)) => fail(*at, format!("`{text}` is {}; {due} is due here", what(global))),
-            (None, None) => fail(*at, format!("`{text}` is not declared")),
+            (None, None) => self.undeclared(name),
         }
+    }
+
+    /// A name that stands for nothing, and one that is near it.
+    fn undeclared<T>(&self, name: &Name) -> Fallible<T> {
+        let names = self.numbers.keys().chain(self.globals.0.keys()).copied();
+        fail(name.at, format!("`{}` is not declared{}", name.text, did_you_mean(&name.text, names)))
     }
 
     pub fn integer(&self, name: &Name) -> Fallible<i32> {
@@ -132,7 +139,7 @@ impl<'a> Scope<'a> {
             None if self.numbers.contains_key(text.as_str()) => {
                 fail(*at, format!("`{text}` is a variable; a named bound is due here"))
             }
-            None => fail(*at, format!("`{text}` is not declared")),
+            None => self.undeclared(name),
         }
     }
 }
