@@ -11,6 +11,8 @@ pub struct Map {
 #[derive(Clone, Debug, Default)]
 pub struct RoutineMap {
     pub name: Pos,
+    /// The position behind it.
+    pub end: Pos,
     pub variables: Vec<Pos>,
     pub statements: Vec<Pos>,
     /// The position behind each statement, with its blocks.

@@ -75,7 +75,7 @@ impl Program {
         }
     }
 
-    fn of_assembly(name: String, source: String, assembly: Assembly) -> Program {
+    pub fn of_assembly(name: String, source: String, assembly: Assembly) -> Program {
         let Assembly { tables, facts, map, names, warnings, first_comment } = assembly;
         let split = |words: &Vec<i32>| Table::split(words).expect("assembled sections fit");
         let parts: Vec<Table> = tables.iter().map(split).collect();
@@ -110,15 +110,19 @@ impl Program {
         self.text.as_ref().map(|text| Source { name: &self.name, text: &text.source })
     }
 
-    /// The error that the library cannot be asked this; of a text at the first thing that it has not.
+    /// The error that the library cannot be asked this.
     pub fn lacking(&self, lack: &str, short: bool) -> String {
         let message = format!("error: {lack}");
-        let text = self.text.as_ref().filter(|_| !self.of_words);
-        let at = text.and_then(|text| text.map.routines.get(1)).map(|second| second.name);
-        match (at, self.source()) {
+        match (self.lacking_at(), self.source()) {
             (Some(at), Some(source)) => source.show(at, &message, short),
             _ => format!("{}: {message}\n", self.name),
         }
+    }
+
+    /// Of a text the first thing that the library has not.
+    pub fn lacking_at(&self) -> Option<Pos> {
+        let text = self.text.as_ref().filter(|_| !self.of_words)?;
+        text.map.routines.get(1).map(|second| second.name)
     }
 
     pub fn warnings(&self, short: bool) -> String {

@@ -36,6 +36,8 @@ pub struct Object {
 #[derive(Debug)]
 pub struct Routine {
     pub name: Name,
+    /// The position behind it.
+    pub end: Pos,
     pub parameters: Vec<Variable>,
     pub locals: Vec<Variable>,
     pub named: Vec<NamedBounds>,

@@ -2,7 +2,7 @@
 
 use super::arguments::{Arguments, Usage};
 use super::{Output, REFUSED};
-use crate::diagnostics::Diagnostic;
+use crate::diagnostics::{fail, Diagnostic, Fallible};
 use crate::explain;
 use crate::files::{read_text, NAMES};
 use crate::form::list_fault;
@@ -91,10 +91,18 @@ pub fn fmt(arguments: &Arguments) -> Result<Output, String> {
     let short = arguments.is_short();
     let program = Program::load(&arguments.files, None, short)?;
     let (Some(source), Some(text)) = (program.source(), &program.text) else { return Err(no_text(&program)) };
-    if let Some(at) = program.first_comment.filter(|_| !arguments.flag("--drop-comments")) {
+    let out = match formatted(&program, text, arguments.flag("--drop-comments")) {
+        Ok(out) => out,
+        Err(wrong) => return Err(source.error(&wrong, short)),
+    };
+    Ok(Output { out, ..Output::default() })
+}
+
+/// A text in its canonical form.
+pub fn formatted(program: &Program, text: &Text, without_comments: bool) -> Fallible<String> {
+    if let Some(at) = program.first_comment.filter(|_| !without_comments) {
         let message = "the canonical form has no comments: --drop-comments takes the text without them";
-        return Err(source.error(&Diagnostic::new(at, message), short));
+        return fail(at, message);
     }
-    let Text { parts, names, .. } = text;
-    Ok(Output { out: print(parts, &program.facts, names), ..Output::default() })
+    Ok(print(&text.parts, &program.facts, &text.names))
 }

@@ -13,6 +13,7 @@ use crate::diagnostics::without_controls;
 use crate::program::Program;
 use arguments::{Arguments, Usage};
 pub use check::verdict;
+pub use dis::formatted;
 pub use run::run_program;
 use std::io::{self, Write};
 

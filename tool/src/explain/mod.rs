@@ -166,7 +166,11 @@ pub struct Checked {
 }
 
 pub fn check(program: &Program) -> Asked<Checked> {
-    let checked = library::check(&program.tables, &program.facts)?;
+    Ok(explained(program, library::check(&program.tables, &program.facts)?))
+}
+
+/// What is said of the library's verdict on a program, and of its report.
+pub fn explained(program: &Program, checked: library::Checked) -> Checked {
     let second = Second::of(program, &checked.verdict);
     let other = second.other_verdict(&checked);
     let reason = match &checked.verdict {
@@ -174,7 +178,7 @@ pub fn check(program: &Program) -> Asked<Checked> {
         _ => None,
     };
     let library::Checked { verdict, safe } = checked;
-    Ok(Checked { verdict, safe, other, reason })
+    Checked { verdict, safe, other, reason }
 }
 
 impl Checked {

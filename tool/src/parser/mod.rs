@@ -229,6 +229,7 @@ impl<'a> Parser<'a> {
         self.expect(")")?;
         self.expect("{")?;
         let mut routine = Routine {
+            end: name.at,
             name,
             parameters,
             locals: Vec::new(),
@@ -241,6 +242,7 @@ impl<'a> Parser<'a> {
         routine.body = self.statements(0)?;
         self.result(&mut routine, void)?;
         self.expect("}")?;
+        routine.end = self.behind.unwrap_or(routine.end);
         Ok(routine)
     }
 

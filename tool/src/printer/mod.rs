@@ -76,7 +76,7 @@ impl<'a> Printer<'a> {
     }
 
     /// `array_ptr<unsigned> p : count(n)`.
-    fn declaration(&self, v: usize) -> String {
+    pub fn declaration(&self, v: usize) -> String {
         let record = &self.table.variables[v];
         let name = self.name(v as i32);
         if record[0] == 0 {

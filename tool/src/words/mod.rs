@@ -107,6 +107,7 @@ fn routine(
     });
     assembly.map.routines.push(RoutineMap {
         name: tree.name.at,
+        end: tree.end,
         variables: scope.variables.iter().map(|v| v.name.at).collect(),
         statements: body.positions,
         ends: body.ends,
