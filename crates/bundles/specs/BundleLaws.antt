@@ -281,7 +281,8 @@ module _ {T : List ℤ} {h : Sections} {E : Environment} {head count : ℕ} {w�
           (ap (λ (z : Seen). accessSafe (seenAs z) f p) (k .inside) ∙ seen-safe (inForce E R) f p)) in
           let m : boundsAfter (effect E f p) K ≡ L = sym (l ∙ ap (λ (y : Effect). boundsAfter y K) x) in
           record {
-            blamed = line-here ∙ (pass _ _ (access-pass (accessIn E (stateOf f R) K p) at (sym (access-here (a .shown)))) ∙ (pass _ _ (nothing-asked E f K p at n)
+            blamed = line-here ∙ (pass _ _ (access-pass (accessIn E (stateOf f R) K p) at (sym (access-here (a .shown)))) ∙ (pass _ _
+                (nothing-asked E f K p at n)
                 ∙ ap₂ (lineFaults E head (at + 1) (simples (left - 1) T h (at + 1))) o m));
             left-state = state-here ∙ ap (bundleAfter (simples (left - 1) T h (at + 1))) o;
             marks = marks-here ∙ ap₂ (lineMarks E (at + 1) (simples (left - 1) T h (at + 1))) o u;

@@ -79,7 +79,8 @@ module _ (T : List ℤ) (h : Sections) (E : Environment) where
   unfolding lineMarks
   line-outside a [] w M l n d o = refl
   line-outside a (s ∷ ss) w M l n d o =
-      line-outside (a + 1) ss (stateAfter s w) (markedIf (safeIn E w s) M a) (marked-long M l a (omega arith) (safeIn E w s)) (omega arith) d (part o (omega arith) (omega arith))
+      line-outside (a + 1) ss (stateAfter s w) (markedIf (safeIn E w s) M a) (marked-long M l a (omega arith) (safeIn E w s)) (omega arith) d (part o
+      (omega arith) (omega arith))
       ∙ marked-other M l a (omega arith) (safeIn E w s) d (away o refl (omega arith))
 
   line-inside : (a : ℕ) (ss : List Simple) (w : State FactSet) (M : List ℕ) → length M ≡ 32 → a + length ss ≤ 1024 → ReadsLine T h a ss
@@ -99,7 +100,8 @@ module _ (T : List ℤ) (h : Sections) (E : Environment) where
       go true e ih =
           let q : d ≡ a = eqb-true d a e in
           let f : reported M a ≡ false = rw q at z in
-          line-outside (a + 1) ss (stateAfter s w) (markedIf (safeIn E w s) M a) (marked-long M l a (omega arith) (safeIn E w s)) (omega arith) d (under (omega arith))
+          line-outside (a + 1) ss (stateAfter s w) (markedIf (safeIn E w s) M a) (marked-long M l a (omega arith) (safeIn E w s)) (omega arith) d (under
+          (omega arith))
           ∙ (rw q (marked-same M l a (omega arith) (safeIn E w s) f) ∙ sym (ap (λ (k : StatementRead). readSafe store E k w) (ap (statementAt T h) q ∙ r .0)))
       go false e ih =
           let q : d ≢ a = eqb-false d a e in
@@ -125,7 +127,8 @@ module _ (T : List ℤ) (h : Sections) (E : Environment) (L : List ℤ) where
       block-long r (a + 1 + length ss) _ _ (n .1) (line-long T h E (a + 1) ss w M l (omega (arith, n .0))) (omega (arith, n .0))
   block-long (unread a) lo w M n l k = l
 
-  pub block-outside : (b : Block) (lo : ℕ) (w : State FactSet) (M : List ℕ) → Numbered b lo → length M ≡ 32 → lo + size b ≤ 1024 → (d : ℕ) → Outside lo (size b) d
+  pub block-outside : (b : Block) (lo : ℕ) (w : State FactSet) (M : List ℕ) → Numbered b lo → length M ≡ 32 → lo + size b ≤ 1024 → (d : ℕ) → Outside lo
+      (size b) d
       → reported (blockMarks E L b w M) d ≡ reported M d
   unfolding blockMarks size
   block-outside nil lo w M n l k d o = refl
@@ -183,7 +186,8 @@ module _ (T : List ℤ) (h : Sections) (E : Environment) (L : List ℤ) where
       go (eqb d a) refl (ltb d (a + 1 + size t)) refl (ltb d (a + 1 + size t + size e)) refl
       (λ i j. block-inside t (a + 1) (assumed w c) M (n .1) (r .1) l (omega (arith, n .0)) d (omega arith) j z)
       (λ i j. block-inside e (a + 1 + size t) (assumed w (negatedOf c)) m₁ (n .2) (r .2) p (omega (arith, n .0)) d i j (outside-t (over i) ∙ z))
-      (λ i. block-inside u (a + 1 + size t + size e) _ m₂ (n .3) (r .3) q (omega (arith, n .0)) d i (omega (arith, n .0)) (outside-e (over i) ∙ (outside-t (over (omega arith)) ∙ z)))
+      (λ i. block-inside u (a + 1 + size t + size e) _ m₂ (n .3) (r .3) q (omega (arith, n .0)) d i (omega (arith, n .0)) (outside-e (over i) ∙ (outside-t
+      (over (omega arith)) ∙ z)))
     where
       m₁ : List ℕ
       m₁ = blockMarks E L t (assumed w c) M

@@ -131,7 +131,8 @@ module _ (T : List ℤ) (h : Sections) (L : List ℤ) (laid : layout T h ≡ [])
 
 -- ---- cause 6, the list, then the walk
 
-first-refused : (xs : List Refusal) (ys : List Refusal) {r : Refusal} → verdict xs ≡ layout-variant.Refused r → (Refused r ≡ verdictOf (also xs ys)) × (also xs ys ≢ [])
+first-refused : (xs : List Refusal) (ys : List Refusal) {r : Refusal} → verdict xs ≡ layout-variant.Refused r → (Refused r ≡ verdictOf (also xs ys)) ×
+    (also xs ys ≢ [])
 unfolding verdict also verdictOf
 first-refused [] ys e = let z : _≡_ {A = ℕ} 0 1 = cc in absurd (omega arith)
 first-refused (x ∷ xs) ys e = (ap Refused (cc), λ q. let z : _≡_ {A = ℕ} 0 1 = cc in omega arith)
@@ -209,13 +210,15 @@ module _ (T : List ℤ) (h : Sections) (L : List ℤ) where
             record {
               verdict = v ∙ (sym e ∙ said);
               report = λ a l. ap (λ (N : List ℕ). reported N a) (u ∙ walked .marked clear)
-                  ∙ (bit a (ltb a (h .statements)) refl ∙ sym (ap (λ (fs : List Refusal). reportedIf fs (safeAt store T h L a)) (after-list ∙ clear) ∙ none-if (safeAt store T h L a)));
+                  ∙ (bit a (ltb a (h .statements)) refl ∙ sym (ap (λ (fs : List Refusal). reportedIf fs (safeAt store T h L a)) (after-list ∙ clear)
+                  ∙ none-if (safeAt store T h L a)));
             }
           where
             none-refused-walk : r .verdict ≡ Accepted → blockFaults (environmentOf T h) L (tree T h) newState ≡ []
             none-refused-walk e = accepted-clear (blockFaults (environmentOf T h) L (tree T h) newState) (walked .said) e
 
-            bit : (a : ℕ) (b : Bool) → ltb a (h .statements) ≡ b → reported (blockMarks (environmentOf T h) L (tree T h) newState noWords) a ≡ safeAt store T h L a
+            bit : (a : ℕ) (b : Bool) → ltb a (h .statements) ≡ b → reported (blockMarks (environmentOf T h) L
+                (tree T h) newState noWords) a ≡ safeAt store T h L a
             bit a true i = inside-safe T h L laid a (ltb-true _ _ i) few
             bit a false i = outside-safe T h L laid a (ltb-false _ _ i) few
 
@@ -248,7 +251,8 @@ module _ (T L : List ℤ) {f : Form} (e : f ≡ formOf T) where
       let k = formed-sections T h (sym e ∙ p) in (
         judged T L (c .verdict) (q .verdict ∙ ap verdictOf (sym d)),
         reported-stored T L (c .report .words) (λ a l. q .report a l
-            ∙ (ap (λ (fs : List Refusal). reportedIf fs (safeAt store T h L a)) (sym d) ∙ ap (λ (g : Sections). reportedIf (faults T L) (safeAt store T g L a)) k)),
+            ∙ (ap (λ (fs : List Refusal). reportedIf fs (safeAt store T h L a)) (sym d) ∙ ap (λ (g : Sections). reportedIf (faults T L)
+            (safeAt store T g L a)) k)),
       )
 
 pub form-formed : (T : List ℤ) {f : Form} → f ≡ formOf T → {h : Sections} → f ≡ form.WellFormed h → Formed T h

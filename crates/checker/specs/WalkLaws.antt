@@ -80,10 +80,17 @@ pub record Kept (T : List ℤ) (h : Sections) (E : Environment) (L : List ℤ) (
   pub less : left ≤ allowed
   pub in-place : InPlace T h at (parse left T h at end)
 
-pub kept-none : (T : List ℤ) (h : Sections) (E : Environment) (L : List ℤ) (first end allowed : ℕ) (f : FactSet) (F : Force) (M : List ℕ) → Forced E (F .rows .each) F
+pub kept-none : (T : List ℤ) (h : Sections) (E : Environment) (L : List ℤ) (first end allowed : ℕ) (f : FactSet) (F : Force) (M : List ℕ) → Forced E
+    (F .rows .each) F
     → InPlace T h first (parse allowed T h first end)
     → Kept T h E L end allowed (parse allowed T h first end) (stateOf f (F .rows .each)) M first allowed f F M
-kept-none T h E L first end allowed f F M o p = record { same = record { blamed = refl; left = refl; marks = refl }; forced = o; less = omega arith; in-place = p }
+kept-none T h E L first end allowed f F M o p = record {
+  same = record
+      { blamed = refl; left = refl; marks = refl };
+  forced = o;
+  less = omega arith;
+  in-place = p;
+}
 
 nil-passes : (E : Environment) (L : List ℤ) (b : Block) (v : State FactSet) (M : List ℕ) {w : Walked} → b ≡ nil → w .verdict ≡ Accepted
     → stateOf (w .facts) (w .rows .each) ≡ v → w .report .words ≡ M → Walks E L b v M w
@@ -274,7 +281,8 @@ module _ {T : List ℤ} {h : Sections} {E : Environment} {L : List ℤ} {end all
     whole-marks = u .so-far .same .marks ∙ (ap (λ (x : Block). blockMarks E L x (stateOf f (F .rows .each)) M)
         (parse-some left T h at end _ (u .some) (u .within) (u .read)) ∙ marks-here T h E L at left end (stateOf f (F .rows .each)) s M)
 
-  pub at-node : {s : Statement} → Turn T h E L end allowed b w₀ M₀ at left f F M s → InPlace T h at (at-statement T h E L at left end (stateOf f (F .rows .each)) s)
+  pub at-node : {s : Statement} → Turn T h E L end allowed b w₀ M₀ at left f F M s → InPlace T h at (at-statement T h E L at left end (stateOf f
+      (F .rows .each)) s)
   at-node u = let e = parse-some left T h at end _ (u .some) (u .within) (u .read) in rw e at (u .so-far .in-place)
 
   -- The next turn.
@@ -368,7 +376,8 @@ module _ {T : List ℤ} {h : Sections} {E : Environment} {L : List ℤ} {end all
         let o = z .kept x in
         next u (row-here ∙ pass _ _ (none-refused _ (z .said) x)) (whole-after (Plain p) u ∙ ap (blockAfter E L (rest T h left (at + 1) end)) row-after)
         (whole-marks (Plain p) u ∙ ap₂ (blockMarks E L (rest T h left (at + 1) end)) row-after
-        (ap (λ (q : Simple). markedIf (safeIn E (stateOf f (F .rows .each)) q) M at) (row-named p y r n) ∙ declare-unmarked E (stateOf f (F .rows .each)) y r M at))
+        (ap (λ (q : Simple). markedIf (safeIn E (stateOf f (F .rows .each)) q) M at) (row-named p y r n) ∙ declare-unmarked E (stateOf f
+        (F .rows .each)) y r M at))
         (ap (stateOf f) (o .rows)) (after-plain (at-node u)) (forced-own o)
 
   module _ {c : Condition} {n m : ℕ} (u : Turn T h E L end allowed b w₀ M₀ at left f F M (If c n m))
@@ -409,7 +418,8 @@ module _ {T : List ℤ} {h : Sections} {E : Environment} {L : List ℤ} {end all
         sides-marked =
             ap₂ (blockMarks E L (rest T h left (at + 1 + n + m) end))
             (ap₂ (λ (v w : State FactSet). sidesJoined E v w) (sym (then-walk .kept then-clear)) (sym (else-walk .kept else-clear)))
-            (sym (else-walk .marked else-clear ∙ ap (blockMarks E L (rest T h left (at + 1 + n) (at + 1 + n + m)) (assumed (stateOf f (F .rows .each)) (negatedOf c)))
+            (sym (else-walk .marked else-clear ∙ ap (blockMarks E L (rest T h left (at + 1 + n) (at + 1 + n + m)) (assumed (stateOf f (F .rows .each))
+            (negatedOf c)))
             (then-walk .marked then-clear)))
 
         pub turn-if : {y : FactSet} {G : Force} → s ≡ true → {P : List Bool} → P ≡ E .pointers → y ≡ joined (λ v. getD P v false) (r .facts) (o .facts)

@@ -38,8 +38,8 @@ ghost use Rattle.rules.specs.Ranges.{Measured};
 ghost use Rattle.declared.specs.Force.{stateOf, Framed, Forced};
 ghost use Rattle.checker.specs.Walk.{InPlace, Walks};
 
-// The block of `first` to `end` - 1, which cause 6 does not refuse, from the facts `given`, what is in force, `begun`, and the report so far. `listed` is the list
-// of loop facts. `allowed` is at least the number of the block's statements; it falls at each.
+// The block of `first` to `end` - 1, which cause 6 does not refuse, from the facts `given`, what is in force, `begun`, and the report so far. `listed` is the
+// list of loop facts. `allowed` is at least the number of the block's statements; it falls at each.
 // The fact set is changed in place by its own methods alone: a function in between would copy it in and out. Its frame stands on the stack once for each depth,
 // and each local has a place of its own there: `now` is the state of this block, `side` what a nested one is walked from and then what it leaves; nothing else
 // is large.

@@ -180,7 +180,8 @@ module _ (E : Environment) (f : FactSet) (K : List Bounds) (s : Simple) {a : Acc
   pub nothing-needed : a ≡ Nothing → true ≡ accessShown E f K s
   nothing-needed n = sym (ap (needed E f K) (sym e ∙ n)) ∙ access-needs E f K s
 
-  pub pointer-needed : {p i k : ℕ} {n d : Bounds} {b : Bool} → a ≡ Through p i k → n ≡ known K p → d ≡ declared E p → b ≡ boundsShown f p n d → b ≡ accessShown E f K s
+  pub pointer-needed : {p i k : ℕ} {n d : Bounds} {b : Bool} → a ≡ Through p i k → n ≡ known K p → d ≡ declared E p → b ≡ boundsShown f p n d
+      → b ≡ accessShown E f K s
   pointer-needed t n d b = rw (n, d) at b ∙ (sym (ap (needed E f K) (sym e ∙ t)) ∙ access-needs E f K s)
 
 -- ---- rows

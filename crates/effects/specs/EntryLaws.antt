@@ -81,7 +81,8 @@ module _ {L : List ℤ} {a n : ℕ} {f₀ : FactSet} {e : ℕ} {f : FactSet} (i 
       let k : n - e ≡ suc (n - (e + 1)) = omega arith in
       record {
         within = omega arith;
-        so-far = i .so-far ∙ (ap (λ (m : ℕ). entryFacts (entriesFrom L a e m) f) k ∙ (next (n - (e + 1)) ∙ ap (entryFacts (entriesFrom L a (e + 1) (n - (e + 1)))) (sym q)));
+        so-far = i .so-far ∙ (ap (λ (m : ℕ). entryFacts (entriesFrom L a e m) f) k ∙ (next (n - (e + 1)) ∙ ap (entryFacts (entriesFrom L a (e + 1) (n -
+            (e + 1)))) (sym q)));
       }
 
   pub assumed-all : n ≤ e → n ≡ entryCount L → f ≡ entryFacts (entriesOf L a) f₀

@@ -41,7 +41,8 @@ answerWords (spent n a) w = putFour w 1 n (wordOf a) 0
 answerWords (stopped n a k) w = putFour w 2 n (wordOf a) k
 answerWords (refused n a p) w = putFour w 3 n (wordOf a) (wordOf p)
 
--- Where there is room for an answer, the words of what the first fault of the table, with the list L of loop facts, reads as, by the paper's chains; else nothing is written.
+-- Where there is room for an answer, the words of what the first fault of the table, with the list L of loop facts, reads as, by the paper's chains; else
+-- nothing is written.
 abbrev pub checkedIf : Bool → List ℤ → List ℤ → List ℕ → List ℕ → Type 0
 checkedIf true T L w w′ = Decided T (λ d. w′ ≡ verdictWords (firstReads (chainFaults d T L)) w)
 checkedIf false T L w w′ = w′ ≡ w

@@ -134,7 +134,8 @@ entry-refused T h L D cs vs os limit r f e q = rw (entry-only T h L D cs vs os f
     go [] q = let z : _≡_ {A = ℕ} 0 1 = cc in absurd (omega arith)
     go (x ∷ rs) q = record { answer = let e : r ≡ x = cc in ap (λ (y : Refusal). reads (outcome.Refused y)) e; values = refl; cells = refl }
 
-pub begun-ran : (T : List ℤ) (h : Sections) (L : List ℤ) (D cs vs os : List ℕ) (limit : ℕ) (r : Outcome) (vs′ cs′ : List ℕ) → formOf T ≡ WellFormed h → faults T L ≡ []
+pub begun-ran : (T : List ℤ) (h : Sections) (L : List ℤ) (D cs vs os : List ℕ) (limit : ℕ) (r : Outcome) (vs′ cs′ : List ℕ) → formOf T ≡ WellFormed h
+    → faults T L ≡ []
     → entryRefusals h (environmentOf T h) D cs vs os ≡ [] → Ran (lends T L D cs vs os) (sectionsOf T) limit (leaves r vs′ cs′)
     → RunAnswer (runFaults store (lends T L D cs vs os)) (lends T L D cs vs os) limit (leaves r vs′ cs′)
 unfolding RunAnswer
@@ -180,7 +181,8 @@ module _ {T : List ℤ} {h : Sections} {L : List ℤ} {D cs vs os W S : List ℕ
       → RunAnswer (runFaults store (lends T L D cs vs os)) (lends T L D cs vs os) limit (leaves r vs′ cs′)
   launched-ran {r} {W′} {vs′} {cs′} e =
       begun-ran T h L D cs vs os limit r vs′ cs′ (begins .formed) (begins .accepts) (begins .none)
-      (run-claim T h L (begins .formed) (begins .accepts) D cs vs os (begins .small) (begins .none) (begins .slice) (begins .room) limit r W′ vs′ cs′ (rw (begins .ends, begins .successors) at e))
+      (run-claim T h L (begins .formed) (begins .accepts) D cs vs os (begins .small) (begins .none) (begins .slice) (begins .room) limit r W′ vs′ cs′ (rw
+      (begins .ends, begins .successors) at e))
 
 -- ---- the paper's facts
 
@@ -200,7 +202,8 @@ unfolding RunJudged runFaults
 run-judged T L D cs vs os limit r vs′ cs′ a =
     decided _ _ (λ d c.
     same-run (runFaults store (lends T L D cs vs os)) (runFaults (byChains d) (lends T L D cs vs os)) T L D cs vs os limit r vs′ cs′
-    (same-also (faults T L) (verdictRules.faults (byChains d) T L) _ _ (faults-agree T L d c) (λ z. same-self (entryFaults (formOf T) (lends T L D cs vs os)))) a)
+    (same-also (faults T L) (verdictRules.faults (byChains d) T L) _ _ (faults-agree T L d c) (λ z. same-self (entryFaults (formOf T)
+    (lends T L D cs vs os)))) a)
 
 -- ---- the whole run
 

@@ -103,7 +103,8 @@ fn run_accepted(
     }
 }
 
-// Checks the routine with its list of loop facts and what is lent, then runs it, `limit` steps at most. Cells and values are changed in place; a refusal changes nothing.
+// Checks the routine with its list of loop facts and what is lent, then runs it, `limit` steps at most. Cells and values are changed in place; a refusal
+// changes nothing.
 pub fn run(
     table: &[i32],
     listed: &[i32],

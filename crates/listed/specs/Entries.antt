@@ -1,5 +1,5 @@
--- The list of loop facts that is lent beside a routine (document 02, point 9): "at most 256 entries (while statement, x, y, k), sorted by statement, each meaning
--- x <= y + k at every test; -1 stands for zero." Four words an entry.
+-- The list of loop facts that is lent beside a routine (document 02, point 9): "at most 256 entries (while statement, x, y, k), sorted by statement, each
+-- meaning x <= y + k at every test; -1 stands for zero." Four words an entry.
 use Prim.Native.Nat.{ℕ, zero, suc, _+_, _*_, _/_, _≤_}
 use mathlib.Core.Bool.{Bool, true, false}
 use mathlib.Core.List.{List, [], _∷_}

@@ -1,5 +1,5 @@
--- Cause 17 by form (document 02, point 9): "when one is cut short, unsorted, or names no while, no variable (-1 twice too), two of different kinds or a k beyond
--- 65,536 either way (found after 6, before the walk)".
+-- Cause 17 by form (document 02, point 9): "when one is cut short, unsorted, or names no while, no variable (-1 twice too), two of different kinds or a k
+-- beyond 65,536 either way (found after 6, before the walk)".
 use Prim.Native.Nat.{ℕ, _+_, _-_, _*_}
 use mathlib.Core.Bool.{Bool, true, false, _&&_, _||_, cond}
 use mathlib.Core.List.{List, [], _∷_}

@@ -43,12 +43,14 @@ module _ (T : List ℤ) (h : Sections) (L : List ℤ) where
 
   pub entries-few : listFaults T h L ≡ [] → length L ≤ 1024
   unfolding listFaults
-  entries-few e = ltb-false 1024 (length L) (faultless (ltb 1024 (length L)) (ltb (lowestEntry T h L) (entryCount L)) (LoopFact 256) (LoopFact (lowestEntry T h L)) e .0)
+  entries-few e = ltb-false 1024 (length L) (faultless (ltb 1024 (length L)) (ltb (lowestEntry T h L) (entryCount L)) (LoopFact 256) (LoopFact
+      (lowestEntry T h L)) e .0)
 
   pub each-right : listFaults T h L ≡ [] → (k : ℕ) → k < entryCount L → entryRight T h L k ≡ true
   unfolding listFaults lowestEntry
   each-right e k l =
-      holds-below (entryRight T h L) (entryCount L) (ltb-false _ _ (faultless (ltb 1024 (length L)) (ltb (lowestEntry T h L) (entryCount L)) (LoopFact 256) (LoopFact (lowestEntry T h L)) e .1)) k l
+      holds-below (entryRight T h L) (entryCount L) (ltb-false _ _ (faultless (ltb 1024 (length L)) (ltb (lowestEntry T h L) (entryCount L)) (LoopFact 256)
+      (LoopFact (lowestEntry T h L)) e .1)) k l
 
 -- The list of a well-formed verdict.
 pub form-clear : (xs : List Refusal) {l : ListForm} → l ≡ listForm xs → l ≡ form.Right → xs ≡ []

@@ -1,5 +1,5 @@
--- The facts before a statement that is due. What point 11 rests on: they do not contradict, since they are true of some values. What the report of point 9 rests
--- on: before a statement that is no head of a block they are true of the values now.
+-- The facts before a statement that is due. What point 11 rests on: they do not contradict, since they are true of some values. What the report of point 9
+-- rests on: before a statement that is no head of a block they are true of the values now.
 use Prim.Native.Nat.{ℕ, _+_, _≤_, _<_}
 use mathlib.Core.Path.{_≡_, ap, _∙_}
 use mathlib.Core.Logic.{inl, inr}
@@ -101,7 +101,12 @@ module _ (T : List ℤ) (h : Sections) (E : Environment) (D : List ℕ) (room : 
   -- Before a loop the facts were true of some values, though these may be others by now.
   before-due (loop a c t r) lo W d m n r₀ (inl (w, inl i)) =
       let read : statementAt T h d ≡ Read (While c (size t)) = ap (statementAt T h) (i .0 .0) ∙ r₀ .0 in
-      rw (eq-eqb d a (i .0 .0)) (record { consistent = holds-clear _ _ (w .held); facts = λ s e. let z : _≡_ {A = ℕ} 0 1 = cc in absurd (omega arith); rows = λ s e. let z : _≡_ {A = ℕ} 0 1 = cc in absurd (omega arith) })
+      rw (eq-eqb d a (i .0 .0)) (record {
+        consistent = holds-clear _ _ (w .held);
+        facts = λ s e. let z : _≡_ {A = ℕ} 0 1 = cc in absurd
+            (omega arith);
+        rows = λ s e. let z : _≡_ {A = ℕ} 0 1 = cc in absurd (omega arith);
+      })
   before-due (loop a c t r) lo W d m n r₀ (inl (w, inr i)) =
       let x = at-range t (a + 1) _ d m (n .1) i in
       rw (ne-eqb d a (λ (e : d ≡ a). omega (arith, x .0)), lt-ltb d (a + 1 + size t) (x .1)) (before-due t (a + 1) _ d m (n .1) (r₀ .1) i)

@@ -170,7 +170,8 @@ module _ (T : List ℤ) (h : Sections) (E : Environment) (D : List ℕ) (room : 
           inl (
             (
               e,
-              with-facts h E D room F (atHead (entriesOf L a) A F) (declaredIn E F) m g refl (framed-head (entriesOf L a) A (F .facts) m w (g .steady .range) v),
+              with-facts h E D room F (atHead (entriesOf L a) A F) (declaredIn E F) m g refl (framed-head (entriesOf L a) A (F .facts) m w
+                  (g .steady .range) v),
             ),
             v,
           ),
@@ -410,12 +411,17 @@ module _ (T : List ℤ) (h : Sections) (E : Environment) (D : List ℕ) (room : 
         let shown = bounds-passed a _ (no-first _ _ (no-rest _ _ q)) in
         rw (step-at P a _ _ (i .0) (l .0) (l .1))
         (leads next (memoryOf P) (
-          bundle-out a ss r F after next (memoryOf P) (l .3) (no-rest _ _ (no-rest _ _ q)) shown (enter-line (a + 1) ss F (declaredIn E F) (entry r after) next (memoryOf P) refl (i .1)),
+          bundle-out a ss r F after next (memoryOf P) (l .3) (no-rest _ _ (no-rest _ _ q)) shown (enter-line (a + 1) ss F (declaredIn E F)
+              (entry r after) next (memoryOf P) refl (i .1)),
           λ z u. refl,
         ))
     block-step (bundle a ss r) F after P l q (inr (inl i)) =
         let shown = bounds-passed a _ (no-first _ _ (no-rest _ _ q)) in
-        fine-map (λ d n w. (bundle-out a ss r F after d n (l .3) (no-rest _ _ (no-rest _ _ q)) shown (w .0), λ z u. w .1 z (among-left z (targets ss) (assigned r) u)))
+        fine-map (λ d n w. (
+          bundle-out a ss r F after d n (l .3) (no-rest _ _ (no-rest _ _ q)) shown (w .0),
+          λ z u. w .1 z (among-left z (targets ss)
+              (assigned r) u),
+        ))
         (line-step (a + 1) ss F (declaredIn E F) (entry r after) P (l .2) (no-first _ _ q) i)
     block-step (bundle a ss r) F after P l q (inr (inr i)) =
         fine-map (λ d n w. (into (into (w .0)), λ z u. w .1 z (among-right z (targets ss) (assigned r) u)))

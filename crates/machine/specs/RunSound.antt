@@ -226,7 +226,8 @@ module _ (T : List ℤ) (h : Sections) (E : Environment) (D : List ℕ) (room : 
     listed-of P (inl w) c n e = w .listed c n e
     listed-of P (inr w) c n e = absurd (omega (arith, w .0, read-within T h (P .due) (While c n) e))
 
-    before-of : (P : Point) → Invariant P → P .due < h .statements → Before T h E D room L (stateBefore store E L (tree T h) newState (P .due)) (P .due) (memoryOf P)
+    before-of : (P : Point) → Invariant P → P .due < h .statements → Before T h E D room L (stateBefore store E L (tree T h) newState (P .due)) (P .due)
+        (memoryOf P)
     before-of P i l = go (i .place)
       where
         go : At h E D room L (tree T h) newState (P .due) (memoryOf P)
@@ -271,7 +272,8 @@ module _ (T : List ℤ) (h : Sections) (E : Environment) (D : List ℕ) (room : 
         let w = somewhere P i in
         let b = before-of P i (read-within T h (P .due) (Plain s) r) in
         let q = b .rows s r in
-        simple-safe s (memoryOf P) (stateBefore store E L (tree T h) newState (P .due) .facts) (read-typed T h (P .due) (Plain s) r) (steady-of P w) (named-of P w)
+        simple-safe s (memoryOf P) (stateBefore store E L (tree T h) newState (P .due) .facts) (read-typed T h (P .due) (Plain s) r) (steady-of P w)
+        (named-of P w)
         (b .facts s r) (rw q e)
 
     pub invariant-sound : (P : Point) → Invariant P → Sound T h E D room L P
@@ -322,7 +324,8 @@ module _ (T : List ℤ) (h : Sections) (L : List ℤ) (formed : formOf T ≡ Wel
 
   -- The invariant holds at the start.
   pub begun-invariant : Invariant T h (environmentOf T h) D (length cs) L (start T h (environmentOf T h) D cs vs os)
-  begun-invariant = start-kept T h (environmentOf T h) D (length cs) L begun-setting begun-walked cs vs os (begun-good T h (environmentOf T h) D cs vs os declares begun)
+  begun-invariant = start-kept T h (environmentOf T h) D (length cs) L begun-setting begun-walked cs vs os (begun-good T h
+      (environmentOf T h) D cs vs os declares begun)
 
   -- Of a table that the checker accepts and a run that is begun, the claim holds at every point: after any number t of steps.
   pub sound : (t : ℕ) → Sound T h (environmentOf T h) D (length cs) L (pointAfter T h (environmentOf T h) D t (start T h (environmentOf T h) D cs vs os))
@@ -348,7 +351,8 @@ module _ (T : List ℤ) (h : Sections) (L : List ℤ) (formed : formOf T ≡ Wel
       → Contradiction (known vars (stateBefore (byChains d) E L (tree T h) (walkRules.newState (byChains d)) (point t .due) .facts)) → ⊥
   never-due d decides t l c =
       let w = well-formed T h formed .limits in
-      let r = before-represented T h w L (entries-right T h w L (clear T h L formed accepts .listed)) d (decides h w formed) (tree T h) (point t .due) (table-laid T h (begun-setting .laid) .reads)
+      let r = before-represented T h w L (entries-right T h w L (clear T h L formed accepts .listed)) d (decides h w formed) (tree T h) (point t .due)
+      (table-laid T h (begun-setting .laid) .reads)
       (new-represented vars d) in
       let m = contradicts-exactly vars (stateBefore (byChains d) E L (tree T h) (walkRules.newState (byChains d)) (point t .due) .facts)
       (r .represents .legal) .1 c in

@@ -144,10 +144,12 @@ module _ (T : List ℤ) (h : Sections) (E : Environment) (D : List ℕ) (room : 
         → Standing b d m
     unfolding walkRules.blockFaults inBundle
     standing nil F after d m l q i = absurd i
-    standing (plain a s r) F after d m l q (inl i) = standing-here (plain a s r) a d (Plain s) F m (l .0) (i .0) (λ c n u. let z : _≡_ {A = ℕ} 0 1 = cc in absurd (omega arith)) (i .1)
+    standing (plain a s r) F after d m l q (inl i) = standing-here (plain a s r) a d (Plain s) F m (l .0) (i .0) (λ c n u. let z : _≡_
+        {A = ℕ} 0 1 = cc in absurd (omega arith)) (i .1)
     standing (plain a s r) F after d m l q (inr i) =
         widened r (plain a s r) d m (λ e. e) (standing r (stateAfter s F) after d m (l .2) (no-rest _ _ (no-rest _ _ q)) i)
-    standing (branch a c t e r) F after d m l q (inl i) = standing-here (branch a c t e r) a d (If c (size t) (size e)) F m (l .0) (i .0) (λ c n u. let z : _≡_ {A = ℕ} 0 1 = cc in absurd (omega arith)) (i .1)
+    standing (branch a c t e r) F after d m l q (inl i) = standing-here (branch a c t e r) a d (If c (size t) (size e)) F m (l .0) (i .0)
+        (λ c n u. let z : _≡_ {A = ℕ} 0 1 = cc in absurd (omega arith)) (i .1)
     standing (branch a c t e r) F after d m l q (inr (inl i)) =
         widened t (branch a c t e r) d m (λ u. neither (inBundle t d) (inBundle e d || inBundle r d) u .0)
         (standing t (assumed F c) (entry r after) d m (l .2) (no-first _ _ q) i)
@@ -165,8 +167,10 @@ module _ (T : List ℤ) (h : Sections) (E : Environment) (D : List ℕ) (room : 
         (standing t (assumed (atHead (entriesOf L a) (assigned t) F) c) a d m (l .2) (no-first _ _ (no-rest _ _ q)) i)
     standing (loop a c t r) F after d m l q (inr i) =
         widened r (loop a c t r) d m (λ u. neither (inBundle t d) (inBundle r d) u .1)
-        (standing r (assumed (atHead (entriesOf L a) (assigned t) F) (negatedOf c)) after d m (l .3) (no-rest _ _ (no-rest _ _ (no-rest _ _ (no-rest _ _ q)))) i)
-    standing (bundle a ss r) F after d m l q (inl i) = standing-here (bundle a ss r) a d (Bundle (length ss)) F m (l .0) (i .0) (λ c n u. let z : _≡_ {A = ℕ} 0 1 = cc in absurd (omega arith)) (i .1)
+        (standing r (assumed (atHead (entriesOf L a) (assigned t) F) (negatedOf c)) after d m (l .3) (no-rest _ _ (no-rest _ _ (no-rest _ _
+        (no-rest _ _ q)))) i)
+    standing (bundle a ss r) F after d m l q (inl i) = standing-here (bundle a ss r) a d (Bundle (length ss)) F m (l .0) (i .0) (λ c n u. let z : _≡_
+        {A = ℕ} 0 1 = cc in absurd (omega arith)) (i .1)
     standing (bundle a ss r) F after d m l q (inr (inl i)) =
         standing-inside a ss r d m (standing-line (a + 1) ss F (declaredIn E F) (entry r after) d m (l .2) (no-first _ _ q) i)
     standing (bundle a ss r) F after d m l q (inr (inr i)) =

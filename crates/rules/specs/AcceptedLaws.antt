@@ -41,7 +41,8 @@ formed-sections T h e =
     let o = kept-second (ltb (lowestObject T g) (g .objects)) (ObjectLength (lowestObject T g)) _ h a in
     let v = kept-second (ltb (lowestVariable T g) (g .variables)) (VariableRecord (lowestVariable T g)) _ h o in
     let w = kept-second (ltb (lowestRow T g) (g .rows)) (VariableRecord (g .variables + lowestRow T g)) _ h v in
-    let b : form.WellFormed g ≡ form.WellFormed h = kept-second (ltb (lowestStatement T g) (g .statements)) (StatementRecord (lowestStatement T g)) (form.WellFormed g) h w in
+    let b : form.WellFormed g ≡ form.WellFormed h = kept-second (ltb (lowestStatement T g) (g .statements)) (StatementRecord (lowestStatement T g))
+    (form.WellFormed g) h w in
     cc
 
 -- ---- accepted tables

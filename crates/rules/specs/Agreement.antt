@@ -341,7 +341,8 @@ module _ (T : List ℤ) (h : Sections) (w : Formed T h) (q : Decider) (right : D
 
     bundle-agrees : (a : ℕ) (ss : List Simple) (r : Block) {U : State History} {W : State FactSet} → length ss ≤ 16
         → LineAgrees 0 (a + 1) ss U W (declaredIn store E W) → StateRepresents vars U W
-        → (StateRepresents vars (bundleAfter (byChains q) ss U) (bundleAfter store ss W) → BlockAgrees r (bundleAfter (byChains q) ss U) (bundleAfter store ss W))
+        → (StateRepresents vars (bundleAfter (byChains q) ss U) (bundleAfter store ss W) → BlockAgrees r (bundleAfter (byChains q) ss U)
+        (bundleAfter store ss W))
         → BlockAgrees (bundle a ss r) U W
     unfolding blockFaults blockAfter
     bundle-agrees a ss r {U} {W} l i t rest =
@@ -411,7 +412,8 @@ section-agrees T h w L q right =
     same-also _ _ _ _ (same-self (layout T h))
     (λ z. same-also _ _ _ _ (same-self (listFaults T h L)) (λ y.
     let l = table-laid T h z in
-    block-agrees T h w q right L (entries-right T h (w .limits) L y) 0 (tree T h) (l .formed) (l .reads) (new-represented (variables T h (w .limits)) q) .faults))
+    block-agrees T h w q right L (entries-right T h (w .limits) L y) 0 (tree T h) (l .formed) (l .reads) (new-represented (variables T h
+    (w .limits)) q) .faults))
 
 pub faults-agree : (T L : List ℤ) (q : Decider) → DecidesTable T q → SameFirst (faults store T L) (faults (byChains q) T L)
 unfolding faults

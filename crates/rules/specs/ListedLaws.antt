@@ -1,5 +1,5 @@
--- Entries of a list without a fault of form compare variables of one kind, or one and zero; what is asked of them is asked by chains; and what is true where they
--- are shown.
+-- Entries of a list without a fault of form compare variables of one kind, or one and zero; what is asked of them is asked by chains; and what is true where
+-- they are shown.
 use Prim.Native.Nat.{ℕ, zero, suc, _+_, _-_, _<_, _≤_}
 use mathlib.Core.Path.{_≡_, refl, ap₂}
 use mathlib.Core.Logic.{_⊎_, inl, inr, ⊎-elim}

@@ -1,5 +1,5 @@
--- The report (document 02, point 9): "The checker then reports, lowest statement first, exactly the accesses for which the facts before them show p >= 1, the lower
--- end at most the address, and the address plus 1 at most the upper end, by the rule for ends."
+-- The report (document 02, point 9): "The checker then reports, lowest statement first, exactly the accesses for which the facts before them show p >= 1, the
+-- lower end at most the address, and the address plus 1 at most the upper end, by the rule for ends."
 use Prim.Native.Nat.{ℕ}
 use mathlib.Core.Bool.{Bool, false}
 use mathlib.Core.List.{List, [], _∷_}

@@ -33,7 +33,8 @@ use Rattle.rules.specs.StateRepresentation.{new-represented}
 use Rattle.rules.specs.BeforeLaws.{before-represented}
 use Rattle.rules.specs.Agreement.{SameFirst, safe-agrees, faults-agree}
 
-module _ (T : List ℤ) (h : Sections) (L : List ℤ) (formed : formOf T ≡ form.WellFormed h) (laid : layout T h ≡ []) (listed : listFaults T h L ≡ []) (q : Decider)
+module _ (T : List ℤ) (h : Sections) (L : List ℤ) (formed : formOf T ≡ form.WellFormed h) (laid : layout T h ≡ []) (listed : listFaults T h L ≡ [])
+    (q : Decider)
     (decides : DecidesTable T q) where
   pub safe-represented : (d : ℕ) → safeAt store T h L d ≡ safeAt (byChains q) T h L d
   unfolding safeAt

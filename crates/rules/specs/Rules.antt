@@ -120,8 +120,8 @@ module _ (S : FactSets) where
     blockAfter (unread a) w = w
 
     -- The faults of a block, "statements in table order": 9, then the statement, then 8. Point 11: "A statement whose facts contradict is now walked like any
-    -- other, with every fact shown." Point 2: "13 comes after all inside the blocks". Point 9: an entry "not shown before the loop (found before the body) or at
-    -- the body's end (before 13)".
+    -- other, with every fact shown." Point 2: "13 comes after all inside the blocks". Point 9: an entry "not shown before the loop (found before the body) or
+    -- at the body's end (before 13)".
     unfoldable pub blockFaults : Block → State Facts → List Refusal
     blockFaults nil w = []
     blockFaults (plain a s r) w =
