@@ -23,7 +23,7 @@ pub struct Condition {
 }
 
 // Form 0: two variables of one kind. Integers come first, as most are, so that two words are read of them and not six.
-pub fn same_kind(table: &[i32], sections: Sections, v: u64, w: u64) -> bool
+fn same_kind(table: &[i32], sections: Sections, v: u64, w: u64) -> bool
     ensures { λ r. ⌜ r ≡ sameKind (now (table .entry)) sections v w ⌝ }
 {
     if names_integer(table, sections, v) & names_integer(table, sections, w) {

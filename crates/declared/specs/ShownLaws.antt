@@ -8,7 +8,7 @@ use native.Mathlib.Omega.{arith}
 use native.Mathlib.Numerals.{sub-one}
 use borrow.Author.Tests.{eqb-true, eq-eqb}
 use lib.Dec.{eqb}
-use lib.ListN.{length}
+use lib.ListN.{length, List·getD-eq-default}
 use Rattle.sums.specs.Numbers.{bias, zeroVar}
 use Rattle.facts.specs.Store.{shown, endShown}
 use Rattle.facts.specs.declared.FactSet.{FactSet}
@@ -17,7 +17,7 @@ use Rattle.words.specs.SectionsLaws.{both}
 use Rattle.statements.specs.declared.Simple.{Simple}
 use Rattle.statements.specs.declared.Simple.the-variants.{Literal, AddConstant, Arithmetic, Null, Address}
 use Rattle.statements.specs.declared.Simple.the-variants.{PointerOffset, PointerIndex, Load, Store, Check, Declare}
-use Rattle.rules.specs.BoundsRules.{isPointer, declared, known, consIf, rowBound, rowsAfter}
+use Rattle.rules.specs.BoundsRules.{nothingKnown, isPointer, declared, known, consIf, rowBound, rowsAfter}
 use Rattle.rules.specs.Stored.{endAtMost, knownAtMost, boundsShown, unshownFrom, unshown, accessShown, rowUnshown, addressSafe, accessSafe}
 use Rattle.rules.specs.Ranges.{InRange}
 use Rattle.rules.specs.Rules.{boundsAt}
@@ -303,6 +303,14 @@ pub unreported : (E : Environment) (f : FactSet) (s : Simple) → isAccess s ≡
 unfolding isAccess
 unreported E f s e = sym (ap (safeBy E f) (no-access (accessOf s) e)) ∙ access-safe E f s
 
+nowhere-safe : (f : FactSet) (p i k : ℕ) → addressSafe f p i k nothingKnown ≡ false
+unfolding boundsRules.addressSafe boundsRules.knownAtMost
+nowhere-safe f p i k = go (shown f zeroVar p (bias - 1))
+  where
+    go : (b : Bool) → (b && false) ≡ false
+    go true = refl
+    go false = refl
+
 -- An access in range has a constant in range.
 pub access-short : (s : Simple) {p i k : ℕ} → InRange s → accessOf s ≡ Through p i k → k < 2 ^ 34
 access-short (Literal x j) r e = let z : _≡_ {A = ℕ} 0 1 = cc in absurd (omega arith)
@@ -321,8 +329,16 @@ module _ (E : Environment) (f : FactSet) (s : Simple) {a : Access} (e : a ≡ ac
   pub nothing-safe : a ≡ Nothing → false ≡ accessSafe E f s
   nothing-safe n = sym (ap (safeBy E f) (sym e ∙ n)) ∙ access-safe E f s
 
-  pub address-asked : {p i k : ℕ} {d : Bounds} {b : Bool} → a ≡ Through p i k → d ≡ declared E p → b ≡ addressSafe f p i k d → b ≡ accessSafe E f s
-  address-asked t d b = rw d at b ∙ (sym (ap (safeBy E f) (sym e ∙ t)) ∙ access-safe E f s)
+  -- No variable has such a number, and no bounds are known of it.
+  pub none-declared : {p i k : ℕ} → a ≡ Through p i k → length (E .declared) ≡ 16 → 16 ≤ p → false ≡ accessSafe E f s
+  none-declared {p} {i} {k} t l m =
+      let d : declared E p ≡ nothingKnown = List·getD-eq-default (E .declared) nothingKnown (omega (arith, l)) in
+      sym (ap (addressSafe f p i k) d ∙ nowhere-safe f p i k) ∙ (sym (ap (safeBy E f) (sym e ∙ t)) ∙ access-safe E f s)
+
+  pub address-asked : {p i k : ℕ} {b : Bool} → a ≡ Through p i k → p < length (E .declared) → b ≡ addressSafe f p i k (stored (E .declared) p)
+      → b ≡ accessSafe E f s
+  address-asked {p} {i} {k} t l b =
+      b ∙ (ap (addressSafe f p i k) (stored-known (E .declared) p l) ∙ (sym (ap (safeBy E f) (sym e ∙ t)) ∙ access-safe E f s))
 
 pub seen-safe : (E : Environment) (f : FactSet) (s : Simple) → accessSafe (seenAs (seenOf E)) f s ≡ accessSafe E f s
 seen-safe E f s = sym (access-safe (seenAs (seenOf E)) f s) ∙ (go (accessOf s) ∙ access-safe E f s)

@@ -165,14 +165,11 @@ pub fn access_safe(environment: Seen, facts: FactSet, simple: Simple) -> bool
     else {
         return false;
     };
-    let declared = environment.declared;
-    address_safe(
-        facts,
-        pointer,
-        index,
-        constant,
-        bounds_at(declared, pointer),
-    )
+    if pointer >= 16 {
+        return false;
+    }
+    let declared = environment.declared[pointer];
+    address_safe(facts, pointer, index, constant, declared)
 }
 
 // The pointer and the row that a kind 14 names.

@@ -11,7 +11,9 @@ use lib.Dec.{leb, ltb}
 use Rattle.answers.specs.declared.refusals.Refusal.{Refusal}
 use Rattle.answers.specs.declared.refusals.Refusal.the-variants.{LoopFact}
 use Rattle.words.specs.declared.sections.Sections.{Sections}
-use Rattle.words.specs.Fields.{plain}
+use Rattle.words.specs.Fields.{plain, isBelow}
+use Rattle.words.specs.declared.Fields.{Fields}
+use Rattle.conditions.specs.Conditions.{sameKind, conditionRight}
 use Rattle.sums.specs.Numbers.{bias}
 use Rattle.statements.specs.Statements.{statementAt}
 use Rattle.statements.specs.declared.StatementRead.{StatementRead}
@@ -20,6 +22,16 @@ use Rattle.listed.specs.Entries.{entryCount}
 use Rattle.listed.specs.ListForm.{isWhile, namesWhile, entryRight, lowestEntry, listFaults, listForm}
 use Rattle.listed.specs.declared.ListForm.{ListForm}
 use Rattle.listed.specs.declared.ListForm.the-variants as form
+
+-- The condition x < y is right exactly where x and y are of one kind.
+pub less-right : (T : List ℤ) (h : Sections) (f : Fields) → f .second ≡ bias → f .third ≡ bias → conditionRight T h f ≡ sameKind T h (f .first) (f .fourth)
+unfolding conditionRight isBelow
+less-right T h f s t =
+    rw (s, t) (go (sameKind T h (f .first) (f .fourth)))
+  where
+    go : (b : Bool) → (b || false) ≡ b
+    go true = refl
+    go false = refl
 
 module _ (T : List ℤ) (h : Sections) (L : List ℤ) where
   pub list-long : 1024 < length L → form.Refused (LoopFact 256) ≡ listForm (listFaults T h L)

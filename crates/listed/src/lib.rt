@@ -1,10 +1,11 @@
 // The list of loop facts that is lent beside a routine (document 02, point 9), four words an entry: its entries, and cause 17 by form.
 use answers::refusals::Refusal;
-use conditions::same_kind;
+use conditions::condition_right;
 use statements::Statement;
 use statements::StatementRead;
 use statements::read_statement;
 use sums::BIAS;
+use words::Fields;
 use words::field::index_of;
 use words::field::is_constant;
 use words::field::plain;
@@ -15,6 +16,7 @@ use words::word;
 ghost use mathlib.Core.Path.{_≡_};
 ghost use Prim.Native.Nat.{_^_, _<_, _≤_};
 ghost use lib.ListN.{length};
+ghost use Rattle.conditions.specs.Conditions.{sameKind};
 ghost use Rattle.listed.specs.Entries.{entryCount, entryAt, belongs};
 ghost use Rattle.listed.specs.ListForm.{namesWhile, namesVariable, sidesRight, inOrder, entryRight, lowestEntry, listFaults, listForm};
 
@@ -86,6 +88,22 @@ fn names_variable(table: &[i32], sections: Sections, w: u64) -> bool
     ensures { λ r. ⌜ r ≡ namesVariable (now (table .entry)) sections w ⌝ }
 {
     names_integer(table, sections, w) | names_pointer(table, sections, w)
+}
+
+// Two variables of one kind: the condition x < y is right.
+fn same_kind(table: &[i32], sections: Sections, x: u64, y: u64) -> bool
+    ensures { λ r. ⌜ r ≡ sameKind (now (table .entry)) sections x y ⌝ }
+{
+    let less = Fields {
+        kind: BIAS,
+        first: x,
+        second: BIAS,
+        third: BIAS,
+        fourth: y,
+        fifth: BIAS,
+        sixth: BIAS,
+    };
+    condition_right(table, sections, less)
 }
 
 // Two variables of one kind, or one and -1.
