@@ -45,6 +45,8 @@ use Rattle.interpreter.specs.PointLaws.{never, lends, leaves, point, uns
 use Rattle.entry.specs.Entered.{entered}
 use Rattle.entry.specs.declared.EntryVerdict.{EntryVerdict}
 use Rattle.entry.specs.declared.EntryVerdict.the-variants as entry
+use Rattle.interpreter.specs.declared.Start.{Start}
+use Rattle.interpreter.specs.declared.Start.the-variants as begin
 use Rattle.answers.specs.declared.stops.Outcome.the-variants as outcome
 use Rattle.answers.specs.declared.stops.Outcome.{Outcome}
 
@@ -57,7 +59,7 @@ pub record Small (cs vs : List ℕ) : Type 0 where
 
 module _ (T : List ℤ) (h : Sections) (L : List ℤ) (formed : formOf T ≡ WellFormed h) (accepts : faults T L ≡ []) (D cs vs os : List ℕ) (small : Small cs vs)
     (none : entryRefusals h (environmentOf T h) D cs vs os ≡ []) where
-  begun : Begun h (environmentOf T h) D cs vs os
+  pub begun : Begun h (environmentOf T h) D cs vs os
   begun = entry-begun h (environmentOf T h) D cs vs os (admitted h (environmentOf T h) D cs vs os none) (small .values-small) (small .cells-small)
       (environment-declares T h (well-formed T h formed) .below)
 
@@ -92,29 +94,14 @@ module _ (T : List ℤ) (h : Sections) (L : List ℤ) (formed : formOf T ≡ Wel
         every-point = λ t l. at-point T h L formed accepts D cs vs os begun limit t (reads r) answered l;
       })
 
--- What the functions below `run` promise: the same by the store's facts.
-abbrev pub RunStored : Lent → ℕ → Leaves → Type 0
-RunStored l limit m = RunAnswer (runFaults store l) l limit m
-
 -- ---- refusals of a run
-
--- The verdict was a refusal.
-pub check-refused : (T L : List ℤ) (D cs vs os : List ℕ) (limit : ℕ) (r : Refusal) → verdict.Refused r ≡ verdictOf (faults T L)
-    → RunAnswer (runFaults store (lends T L D cs vs os)) (lends T L D cs vs os) limit (leaves (outcome.Refused r) vs cs)
-unfolding runFaults RunAnswer also verdictOf
-check-refused T L D cs vs os limit r a = go (faults T L) a
-  where
-    go : (fs : List Refusal) → verdict.Refused r ≡ verdictOf fs
-        → RunAnswer (also fs (entryFaults (formOf T) (lends T L D cs vs os))) (lends T L D cs vs os) limit (leaves (outcome.Refused r) vs cs)
-    go [] a = let z : _≡_ {A = ℕ} 0 1 = cc in absurd (omega arith)
-    go (f ∷ fs) a = record { answer = let e : r ≡ f = cc in ap (λ (x : Refusal). reads (outcome.Refused x)) e; values = refl; cells = refl }
 
 -- A table with no fault is well formed.
 pub no-form-refused : (T L : List ℤ) (r : Refusal) → faults T L ≡ [] → formOf T ≡ Refused r → ⊥
 no-form-refused T L r e f = let p = faults-clear T L e in let q = p .1 .form in let z : _≡_ {A = ℕ} 0 1 = cc in omega arith
 
 -- Of an accepted table the faults of a run are those of the entry.
-entry-only : (T : List ℤ) (h : Sections) (L : List ℤ) (D cs vs os : List ℕ) → formOf T ≡ WellFormed h → faults T L ≡ []
+pub entry-only : (T : List ℤ) (h : Sections) (L : List ℤ) (D cs vs os : List ℕ) → formOf T ≡ WellFormed h → faults T L ≡ []
     → runFaults store (lends T L D cs vs os) ≡ entryRefusals h (environmentOf T h) D cs vs os
 unfolding runFaults also
 entry-only T h L D cs vs os f e = rw (e, f)
@@ -124,18 +111,7 @@ unfolding entered
 entered-none [] e = refl
 entered-none (r ∷ rs) e = cc
 
-pub entry-refused : (T : List ℤ) (h : Sections) (L : List ℤ) (D cs vs os : List ℕ) (limit : ℕ) (r : Refusal) → formOf T ≡ WellFormed h → faults T L ≡ []
-    → entered (entryRefusals h (environmentOf T h) D cs vs os) ≡ entry.Refused r
-    → RunAnswer (runFaults store (lends T L D cs vs os)) (lends T L D cs vs os) limit (leaves (outcome.Refused r) vs cs)
-unfolding RunAnswer entered
-entry-refused T h L D cs vs os limit r f e q = rw (entry-only T h L D cs vs os f e) (go (entryRefusals h (environmentOf T h) D cs vs os) q)
-  where
-    go : (rs : List Refusal) → entered rs ≡ entry.Refused r → RunAnswer rs (lends T L D cs vs os) limit (leaves (outcome.Refused r) vs cs)
-    go [] q = let z : _≡_ {A = ℕ} 0 1 = cc in absurd (omega arith)
-    go (x ∷ rs) q = record { answer = let e : r ≡ x = cc in ap (λ (y : Refusal). reads (outcome.Refused y)) e; values = refl; cells = refl }
-
-pub begun-ran : (T : List ℤ) (h : Sections) (L : List ℤ) (D cs vs os : List ℕ) (limit : ℕ) (r : Outcome) (vs′ cs′ : List ℕ) → formOf T ≡ WellFormed h
-    → faults T L ≡ []
+pub begun-ran : (T : List ℤ) (h : Sections) (L : List ℤ) (D cs vs os : List ℕ) (limit : ℕ) (r : Outcome) (vs′ cs′ : List ℕ) → formOf T ≡ WellFormed h → faults T L ≡ []
     → entryRefusals h (environmentOf T h) D cs vs os ≡ [] → Ran (lends T L D cs vs os) (sectionsOf T) limit (leaves r vs′ cs′)
     → RunAnswer (runFaults store (lends T L D cs vs os)) (lends T L D cs vs os) limit (leaves r vs′ cs′)
 unfolding RunAnswer
@@ -177,12 +153,59 @@ module _ {T : List ℤ} {h : Sections} {L : List ℤ} {D cs vs os W S : List ℕ
     run-safe T h L (begins .formed) (begins .accepts) D cs vs os (begins .small) (begins .none) (begins .slice) (begins .room) limit,
   )
 
-  pub launched-ran : {r : Outcome} {W′ vs′ cs′ : List ℕ} → Ends (bareRun T h W D S limit 0 0 vs cs) r W′ vs′ cs′
+  pub launched-ran : {r : Outcome} {W′ vs′ cs′ : List ℕ} → Ends (bareRun T h W D S (limit - 0) 0 0 vs cs) r W′ vs′ cs′
       → RunAnswer (runFaults store (lends T L D cs vs os)) (lends T L D cs vs os) limit (leaves r vs′ cs′)
   launched-ran {r} {W′} {vs′} {cs′} e =
+      let z : limit - 0 ≡ limit = omega arith in
       begun-ran T h L D cs vs os limit r vs′ cs′ (begins .formed) (begins .accepts) (begins .none)
-      (run-claim T h L (begins .formed) (begins .accepts) D cs vs os (begins .small) (begins .none) (begins .slice) (begins .room) limit r W′ vs′ cs′ (rw
-      (begins .ends, begins .successors) at e))
+      (run-claim T h L (begins .formed) (begins .accepts) D cs vs os (begins .small) (begins .none) (begins .slice) (begins .room) limit r W′ vs′ cs′ (rw (z, begins .ends, begins .successors) at e))
+
+-- ---- what a run begins with
+
+-- The first fault is r.
+abbrev pub First : List Refusal → Refusal → Type 0
+First fs r = (rest : List Refusal) × (fs ≡ r ∷ rest)
+
+-- What `prepare` promises, by the store's facts: the first fault, or what the loop begins with is laid out.
+abbrev pub Starts : Start → Lent → List ℕ → List ℕ → Type 0
+Starts (begin.Refused r) l W S = First (runFaults store l) r
+Starts (begin.Begun h) l W S = Launched (l .table) h (l .listed) (l .directory) (l .cells) (l .values) (l .origins) W S
+
+-- The verdict was a refusal.
+pub check-refused : (T L : List ℤ) (D cs vs os : List ℕ) (r : Refusal) → verdict.Refused r ≡ verdictOf (faults T L) → First (runFaults store (lends T L D cs vs os)) r
+unfolding runFaults also verdictOf
+check-refused T L D cs vs os r a = go (faults T L) a
+  where
+    go : (fs : List Refusal) → verdict.Refused r ≡ verdictOf fs → First (also fs (entryFaults (formOf T) (lends T L D cs vs os))) r
+    go [] a = let z : _≡_ {A = ℕ} 0 1 = cc in absurd (omega arith)
+    go (f ∷ fs) a = let e : f ≡ r = cc in (
+      also fs (entryFaults (formOf T) (lends T L D cs vs os)),
+      ap (λ (x : Refusal). x ∷ also fs (entryFaults (formOf T)
+          (lends T L D cs vs os))) e,
+    )
+
+-- The entry refuses.
+pub entry-refused : (T : List ℤ) (h : Sections) (L : List ℤ) (D cs vs os : List ℕ) (r : Refusal) → formOf T ≡ WellFormed h → faults T L ≡ []
+    → entered (entryRefusals h (environmentOf T h) D cs vs os) ≡ entry.Refused r → First (runFaults store (lends T L D cs vs os)) r
+unfolding entered
+entry-refused T h L D cs vs os r f e q = rw (entry-only T h L D cs vs os f e) (go (entryRefusals h (environmentOf T h) D cs vs os) q)
+  where
+    go : (rs : List Refusal) → entered rs ≡ entry.Refused r → First rs r
+    go [] q = let z : _≡_ {A = ℕ} 0 1 = cc in absurd (omega arith)
+    go (x ∷ rs) q = let e : x ≡ r = cc in (rs, ap (λ (y : Refusal). y ∷ rs) e)
+
+-- A refused run changes nothing.
+pub first-refused : (l : Lent) (limit : ℕ) (r : Refusal) → First (runFaults store l) r
+    → RunAnswer (runFaults store l) l limit (leaves (outcome.Refused r) (l .values) (l .cells))
+unfolding RunAnswer
+first-refused l limit r (rest, e) = rw e (record { answer = refl; values = refl; cells = refl })
+
+pub started-refused : (s : Start) (l : Lent) (W S : List ℕ) (r : Refusal) → s ≡ begin.Refused r → Starts s l W S → First (runFaults store l) r
+started-refused s l W S r e x = rw e at x
+
+pub started-launched : {s : Start} {h : Sections} (l : Lent) (W S : List ℕ) → s ≡ begin.Begun h → Starts s l W S
+    → Launched (l .table) h (l .listed) (l .directory) (l .cells) (l .values) (l .origins) W S
+started-launched l W S e x = rw e at x
 
 -- ---- the paper's facts
 
@@ -202,8 +225,7 @@ unfolding RunJudged runFaults
 run-judged T L D cs vs os limit r vs′ cs′ a =
     decided _ _ (λ d c.
     same-run (runFaults store (lends T L D cs vs os)) (runFaults (byChains d) (lends T L D cs vs os)) T L D cs vs os limit r vs′ cs′
-    (same-also (faults T L) (verdictRules.faults (byChains d) T L) _ _ (faults-agree T L d c) (λ z. same-self (entryFaults (formOf T)
-    (lends T L D cs vs os)))) a)
+    (same-also (faults T L) (verdictRules.faults (byChains d) T L) _ _ (faults-agree T L d c) (λ z. same-self (entryFaults (formOf T) (lends T L D cs vs os)))) a)
 
 -- ---- the whole run
 

@@ -8,6 +8,7 @@ pub mod AgreementLaws
 pub mod StartLaws
 pub mod NumberLaws
 pub mod Claim
+pub mod StartsLaws
 pub mod StepLaws
 pub mod PointLaws
 pub mod ClaimLaws

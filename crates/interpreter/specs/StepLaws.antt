@@ -187,3 +187,32 @@ module _ (T : List ℤ) (h : Sections) (E : Environment) (D : List ℕ) where
       -- A run that takes its step counts it in the end.
       pub counts-on : (t d : ℕ) → point t .status ≡ going → point t .due < h .statements → point t .steps < point (t + 1 + d) .steps
       counts-on t d g l = omega (arith, step-counted t g l, steps-grow-on (t + 1) d)
+
+      -- A run makes no more steps than it is allowed, and stands where it stood after those that it made.
+      pub record StepsMade (t : ℕ) : Type 0 where
+        pub at-most : point t .steps ≤ t
+        pub same : point (point t .steps) ≡ point t
+
+      pub steps-made : P₀ .steps ≡ 0 → (t : ℕ) → StepsMade t
+      unfolding pointAfter
+      steps-made z zero = record { at-most = omega arith; same = ap point z }
+      steps-made z (suc t) = rw (add-one t) at (by-status (steps-made z t) (point t .status) refl)
+        where
+          stayed : StepsMade t → point (t + 1) ≡ point t → StepsMade (t + 1)
+          stayed m e =
+              let q : point (t + 1) .steps ≡ point t .steps = ap (λ (Q : Point). Q .steps) e in
+              record { at-most = omega (arith, m .at-most); same = ap point q ∙ m .same ∙ sym e }
+
+          stepped : point t .status ≡ going → point t .due < h .statements → StepsMade (t + 1)
+          stepped g l =
+              let q : point (t + 1) .steps ≡ t + 1 = omega (arith, step-counted t g l, steps-counted z t g l) in
+              record { at-most = omega arith; same = ap point q }
+
+          by-due : StepsMade t → point t .status ≡ going → (b : Bool) → ltb (point t .due) (h .statements) ≡ b → StepsMade (t + 1)
+          by-due m g true q = stepped g (ltb-true (point t .due) (h .statements) q)
+          by-due m g false q = stayed m (stays-done t g (ltb-false (point t .due) (h .statements) q))
+
+          by-status : StepsMade t → (s : Status) → point t .status ≡ s → StepsMade (t + 1)
+          by-status m going e = by-due m e (ltb (point t .due) (h .statements)) refl
+          by-status m (stopped k) e = stayed m (stays-stopped t k e)
+          by-status m stuck e = absurd (unstuck t e)

@@ -1,6 +1,7 @@
 // The interpreter: the run of an accepted routine.
-mod runs; // runs.rt: the run: steps from a statement on, up to a limit
+pub mod runs; // runs.rt: the run: steps from a statement on, up to a limit
 
+use answers::refusals::Refusal;
 use answers::stops::Outcome;
 use blocks::flow::write_successors;
 use checker::check;
@@ -15,81 +16,93 @@ use table::read_form;
 use words::sections::Sections;
 ghost use mathlib.Core.Path.{_≡_};
 ghost use mathlib.Core.List.{[]};
+ghost use lib.ListN.{length};
 ghost use Rattle.table.specs.Form.{formOf};
 ghost use Rattle.table.specs.declared.Form.the-variants.{WellFormed};
 ghost use Rattle.rules.specs.Stored.{faults};
 ghost use Rattle.interpreter.specs.Claim.{RunJudged};
-ghost use Rattle.interpreter.specs.ClaimLaws.{RunStored};
+ghost use Rattle.interpreter.specs.ClaimLaws.{Starts};
 
-// A run of an accepted table of these sections: causes 10 to 12 and 16, then the steps.
-fn run_sections(
+// What a run begins with: a refusal, or the sections of its table.
+pub enum Start {
+    Refused(Refusal),
+    Begun(Sections),
+}
+
+// What is laid out, into the slice that is lent for it.
+fn copy_ends(laid: [u64; 512], ends: &mut [u64])
+    requires { ⌜ length (now ends) ≡ 512 ⌝ }
+    ensures { λ _. ⌜ now (ends .exit) ≡ laid ⌝ }
+{
+    let mut i = 0;
+    while i < 512 {
+        ends[i] = laid[i];
+        i += 1;
+    }
+}
+
+// Of an accepted table of these sections: causes 10 to 12 and 16, then what the loop needs.
+fn prepare_sections(
     table: &[i32],
     sections: Sections,
     listed: &[i32],
     directory: &[u32],
-    cells: &mut [u32],
-    values: &mut [u32],
+    cells: &[u32],
+    values: &[u32],
     origins: &[u32],
-    limit: u32,
-) -> Outcome
+    ends: &mut [u64],
+    successors: &mut [u32],
+) -> Start
     requires { ⌜ (formOf (now table) ≡ WellFormed sections) × (faults (now table) (now listed) ≡ []) ⌝ }
-    ensures { λ r. ⌜ RunStored (record {
+    requires { ⌜ (length (now ends) ≡ 512) × (length (now successors) ≡ 2048) ⌝ }
+    ensures { λ r. ⌜ Starts r (record {
       table = now (table .entry);
       listed = now (listed .entry);
       directory = now (directory .entry);
       cells = now (cells .entry);
       values = now (values .entry);
       origins = now (origins .entry);
-    }) limit (record { answer = r; values = now (values .exit); cells = now (cells .exit) }) ⌝ }
+    }) (now (ends .exit)) (now (successors .exit)) ⌝ }
 {
     let environment = read_environment(table, sections);
     let entry = enter(sections, environment, directory, cells, values, origins);
     match entry {
-        EntryVerdict::Refused(refusal) => Outcome::Refused(refusal),
+        EntryVerdict::Refused(refusal) => Start::Refused(refusal),
         EntryVerdict::Begun => {
-            let mut ends = lay_ends(environment);
-            let mut successors = [0u32; 2048];
-            write_successors(table, sections, &mut successors);
-            resume(
-                table,
-                sections,
-                &mut ends,
-                directory,
-                &successors,
-                0,
-                values,
-                cells,
-                limit,
-            )
+            copy_ends(lay_ends(environment), ends);
+            write_successors(table, sections, successors);
+            Start::Begun(sections)
         }
     }
 }
 
-// A run of an accepted table. (Its form is right, so the first arm is never taken; it answers what it would mean.)
-fn run_accepted(
+// Of an accepted table. (Its form is right, so the first arm is never taken; it answers what it would mean.)
+fn prepare_accepted(
     table: &[i32],
     listed: &[i32],
     directory: &[u32],
-    cells: &mut [u32],
-    values: &mut [u32],
+    cells: &[u32],
+    values: &[u32],
     origins: &[u32],
-    limit: u32,
-) -> Outcome
+    ends: &mut [u64],
+    successors: &mut [u32],
+) -> Start
     requires { ⌜ faults (now table) (now listed) ≡ [] ⌝ }
-    ensures { λ r. ⌜ RunStored (record {
+    requires { ⌜ (length (now ends) ≡ 512) × (length (now successors) ≡ 2048) ⌝ }
+    ensures { λ r. ⌜ Starts r (record {
       table = now (table .entry);
       listed = now (listed .entry);
       directory = now (directory .entry);
       cells = now (cells .entry);
       values = now (values .entry);
       origins = now (origins .entry);
-    }) limit (record { answer = r; values = now (values .exit); cells = now (cells .exit) }) ⌝ }
+    }) (now (ends .exit)) (now (successors .exit)) ⌝ }
 {
     let form = read_form(table);
     match form {
-        Form::Refused(refusal) => Outcome::Refused(refusal),
+        Form::Refused(refusal) => Start::Refused(refusal),
         Form::WellFormed(sections) => {
-            run_sections(
+            prepare_sections(
                 table,
                 sections,
                 listed,
@@ -97,7 +110,48 @@ fn run_accepted(
                 cells,
                 values,
                 origins,
-                limit,
+                ends,
+                successors,
+            )
+        }
+    }
+}
+
+// Checks the routine with its list of loop facts and what is lent, and lays out what the loop needs, in slices of 512 and 2,048 numbers.
+pub fn prepare(
+    table: &[i32],
+    listed: &[i32],
+    directory: &[u32],
+    cells: &[u32],
+    values: &[u32],
+    origins: &[u32],
+    ends: &mut [u64],
+    successors: &mut [u32],
+) -> Start
+    requires { ⌜ (length (now ends) ≡ 512) × (length (now successors) ≡ 2048) ⌝ }
+    ensures { λ r. ⌜ Starts r (record {
+      table = now (table .entry);
+      listed = now (listed .entry);
+      directory = now (directory .entry);
+      cells = now (cells .entry);
+      values = now (values .entry);
+      origins = now (origins .entry);
+    }) (now (ends .exit)) (now (successors .exit)) ⌝ }
+{
+    let checked = check(table, listed);
+    let verdict = checked.verdict;
+    match verdict {
+        Verdict::Refused(refusal) => Start::Refused(refusal),
+        Verdict::Accepted => {
+            prepare_accepted(
+                table,
+                listed,
+                directory,
+                cells,
+                values,
+                origins,
+                ends,
+                successors,
             )
         }
     }
@@ -123,10 +177,33 @@ pub fn run(
       origins = now (origins .entry);
     }) limit (record { answer = r; values = now (values .exit); cells = now (cells .exit) }) ⌝ }
 {
-    let checked = check(table, listed);
-    let verdict = checked.verdict;
-    match verdict {
-        Verdict::Refused(refusal) => Outcome::Refused(refusal),
-        Verdict::Accepted => run_accepted(table, listed, directory, cells, values, origins, limit),
+    let mut ends = [0u64; 512];
+    let mut successors = [0u32; 2048];
+    let start = prepare(
+        table,
+        listed,
+        directory,
+        cells,
+        values,
+        origins,
+        &mut ends,
+        &mut successors,
+    );
+    match start {
+        Start::Refused(refusal) => Outcome::Refused(refusal),
+        Start::Begun(sections) => {
+            resume(
+                table,
+                sections,
+                &mut ends,
+                directory,
+                &successors,
+                0usize,
+                0,
+                values,
+                cells,
+                limit,
+            )
+        }
     }
 }

@@ -3,28 +3,32 @@ use answers::stops::Outcome;
 use checks::Step;
 use steps::advance;
 use words::sections::Sections;
+ghost use Prim.Native.Nat.{_-_, _≤_};
 ghost use Rattle.steps.specs.Bare.{Prepared};
 ghost use Rattle.interpreter.specs.BareRun.{SafeRun, bareRun, Ends};
 
-// Steps from the statement `first`, `limit` at most, with the values and cells as they are. A run that is spent goes on from the statement that it gives.
-pub(crate) fn resume(
+// Goes on from the statement `first` with `made` steps made, up to `limit` of them, with the ends, values and cells as they are.
+// A run that is spent goes on from the statement that it gives.
+pub fn resume(
     table: &[i32],
     sections: Sections,
     ends: &mut [u64],
     directory: &[u32],
     successors: &[u32],
     first: usize,
+    made: u32,
     values: &mut [u32],
     cells: &mut [u32],
     limit: u32,
 ) -> Outcome
     requires { ⌜ Prepared (now table) sections (now ends) (now directory) (now successors) (now values) ⌝ }
-    requires { ⌜ SafeRun (now table) sections (now ends) (now directory) (now successors) limit first (now values) (now cells) ⌝ }
-    ensures { λ r. ⌜ Ends (bareRun (now (table .entry)) sections (now (ends .entry)) (now (directory .entry)) (now (successors .entry)) limit 0 first
-        (now (values .entry)) (now (cells .entry))) r (now (ends .exit)) (now (values .exit)) (now (cells .exit)) ⌝ }
+    requires { ⌜ made ≤ limit ⌝ }
+    requires { ⌜ SafeRun (now table) sections (now ends) (now directory) (now successors) (limit - made) first (now values) (now cells) ⌝ }
+    ensures { λ r. ⌜ Ends (bareRun (now (table .entry)) sections (now (ends .entry)) (now (directory .entry)) (now (successors .entry)) (limit - made) made
+        first (now (values .entry)) (now (cells .entry))) r (now (ends .exit)) (now (values .exit)) (now (cells .exit)) ⌝ }
 {
     let mut at = first;
-    let mut steps: u32 = 0;
+    let mut steps = made;
     while at < sections.statements {
         if steps >= limit {
             return Outcome::Spent {

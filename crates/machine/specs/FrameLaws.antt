@@ -259,6 +259,33 @@ module _ (T : List ℤ) (h : Sections) (E : Environment) (D : List ℕ) (R : ℕ
   run-alike zero P Q r a = a
   run-alike (suc t) P Q r a = next-alike (pointAfter T h E D t P) (pointAfter T h E D t Q) (run-framed t P r .origins) (run-alike t P Q r a)
 
+-- ---- a run that is continued, and turns
+
+pub same-cells : (D : List ℕ) (R : ℕ → Type 0) (cs : List ℕ) → SameCells D R cs cs
+same-cells D R cs = record { long = refl; cells = λ i c. refl }
+
+pub same-trans : (D : List ℕ) (R : ℕ → Type 0) (cs ds es : List ℕ) → SameCells D R cs ds → SameCells D R ds es → SameCells D R cs es
+same-trans D R cs ds es a b = record { long = a .long ∙ b .long; cells = λ i c. a .cells i c ∙ b .cells i c }
+
+pub continued : (T : List ℤ) (h : Sections) (E : Environment) (D : List ℕ) (a b : ℕ) (P : Point)
+    → pointAfter T h E D (a + b) P ≡ pointAfter T h E D b (pointAfter T h E D a P)
+unfolding pointAfter
+continued T h E D a zero P = let q : a + 0 ≡ a = omega arith in ap (λ (n : ℕ). pointAfter T h E D n P) q
+continued T h E D a (suc b) P =
+    let q : a + suc b ≡ suc (a + b) = omega arith in
+    ap (λ (n : ℕ). pointAfter T h E D n P) q ∙ ap (λ (Q : Point). nextPoint T h E D (Q .status) Q) (continued T h E D a b P)
+
+module _ (T : List ℤ) (h : Sections) (E : Environment) (D : List ℕ) (R : ℕ → Type 0) (names : Names T h R) (P : Point) (origins : Origins R (P .origins)) where
+  -- One turn of n steps, from a point alike to where the run by itself stands after t steps.
+  pub turn-alike : (t n : ℕ) (Q : Point) → Alike D R (pointAfter T h E D t P) Q → Alike D R (pointAfter T h E D (t + n) P) (pointAfter T h E D n Q)
+  turn-alike t n Q a =
+      rw (continued T h E D t n P) (run-alike T h E D R names n (pointAfter T h E D t P) Q (run-framed T h E D R names t P origins .origins) a)
+
+  -- Such a turn touches no cell elsewhere: the others' cells are as they were.
+  pub turn-framed : (t n : ℕ) (Q : Point) → Alike D R (pointAfter T h E D t P) Q → Framed D R Q (pointAfter T h E D n Q)
+  turn-framed t n Q a =
+      run-framed T h E D R names n Q (subst (λ (X : Point). Origins R (X .origins)) (a .rest) (run-framed T h E D R names t P origins .origins))
+
 -- ---- two sets that hold all that a run can reach
 
 -- The reachable objects.

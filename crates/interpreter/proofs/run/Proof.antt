@@ -1,8 +1,7 @@
--- `interpreter::run` meets its contract: the verdict refuses, or the accepted table is run.
+-- `interpreter::run` meets its contract: it is refused, or the loop runs from what is laid out.
 use borrow.Author.Needs.{needs}
-use Rattle.rules.specs.AcceptedLaws.{accepted-clear}
-use Rattle.rules.specs.Decidable.{stored-verdict}
-use Rattle.interpreter.specs.ClaimLaws.{check-refused, run-judged}
+use native.Mathlib.Omega.{arith}
+use Rattle.interpreter.specs.ClaimLaws.{first-refused, run-judged, started-refused, started-launched, launched-ready, launched-ran}
 use Rattle.interpreter.proofs.run.Statement.{statement}
 use Rattle.interpreter.proofs.run.Tie as tie
 
@@ -10,7 +9,25 @@ pub run-spec : {M : Type 1} → statement M
 run-spec =
     tie.close
     (tie.spec
-    (λ c κs. search needs) (λ c. search needs) (λ c. search needs)
-    (λ c κs. accepted-clear _ (stored-verdict _ _ _ (c .before .before .before .before .check .ensures .0)) (c .before .before .enum-told .given .1))
-    (λ c. run-judged _ _ _ _ _ _ _ _ _ _ (check-refused _ _ _ _ _ _ _ _ (stored-verdict _ _ _ (rw (c .before .verdict .given .1) at (c .before .before .before .check .ensures .0)))))
-    (λ c. search needs) (λ c. search needs) (λ c. search (needs, run-judged)))
+    (λ c. search needs)
+    (λ c. search needs)
+    (λ c κs. search needs)
+    (λ c. search needs)
+    (λ c. search needs)
+    (λ c. search needs)
+    (λ c. search needs)
+    (λ c κs. (
+      launched-ready (started-launched _ _ _ (c .before .before .before .before .before .start2 .given .1) (c .before .before .before .before .before .before .before .before .before .prepare .ensures)) 0 .0,
+      (
+        omega arith,
+        launched-ready (started-launched _ _ _
+            (c .before .before .before .before .before .start2 .given .1) (c .before .before .before .before .before .before .before .before .before .prepare .ensures)) _ .1,
+      ),
+    ))
+    (λ c. search needs)
+    (λ c. search needs)
+    (λ c. run-judged _ _ _ _ _ _ _ _ _ _ (first-refused _ _ _ (started-refused _ _ _ _ _ (c .before .start .given .1) (c .before .before .before .before .before .prepare .ensures))))
+    (λ c. search needs)
+    (λ c. search needs)
+    (λ c. run-judged _ _ _ _ _ _ _ _ _ _ (launched-ran (started-launched _ _ _ (c .before .before .before .before .before .before .before .before .before .before .before .start2 .given .1)
+    (c .before .before .before .before .before .before .before .before .before .before .before .before .before .before .before .prepare .ensures)) _ (c .before .before .before .before .before .resume .ensures))))

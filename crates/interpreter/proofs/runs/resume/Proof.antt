@@ -12,8 +12,8 @@ use Rattle.interpreter.proofs.runs.resume.Statement.{statement}
 use Rattle.interpreter.proofs.runs.resume.Tie as tie
 
 abbrev Inv-loop : tie.InvT-loop
-Inv-loop table sections ends₀ directory successors first values₀ cells₀ limit at₀ steps₀ ends values cells at steps =
-    (bareRun table sections ends₀ directory successors limit 0 first values₀ cells₀ ≡ bareRun table sections ends directory successors (limit - steps) steps at values cells)
+Inv-loop table sections ends₀ directory successors first made values₀ cells₀ limit at₀ steps₀ ends values cells at steps =
+    (bareRun table sections ends₀ directory successors (limit - made) made first values₀ cells₀ ≡ bareRun table sections ends directory successors (limit - steps) steps at values cells)
     × (steps ≤ limit)
     × SafeRun table sections ends directory successors (limit - steps) at values cells
     × Prepared table sections ends directory successors values
@@ -22,14 +22,14 @@ Inv-loop table sections ends₀ directory successors first values₀ cells₀ li
     × (length cells ≡ length cells₀)
 
 abbrev μ-loop : tie.MeasureT-loop
-μ-loop table sections ends₀ directory successors first values₀ cells₀ limit at₀ steps₀ ends values cells at steps = limit - steps
+μ-loop table sections ends₀ directory successors first made values₀ cells₀ limit at₀ steps₀ ends values cells at steps = limit - steps
 
 pub resume-spec : {M : Type 1} → statement M
 resume-spec =
     tie.close
     (tie.spec
     Inv-loop μ-loop
-    (λ c. let z : c .before .before .before .before .before .args .limit - 0 ≡ c .before .before .before .before .before .args .limit = omega arith in (rw z, omega arith, rw z (c .before .before .before .before .before .pre .1), c .before .before .before .before .before .pre .0, refl, refl, refl))
+    (λ c. (refl, c .before .before .before .before .before .pre .1 .0, c .before .before .before .before .before .pre .1 .1, c .before .before .before .before .before .pre .0, refl, refl, refl))
     (λ c. search needs) (λ c. search needs) (λ c. search needs)
     (λ c. carry (c .before .before .before .loop .inv .0) (run-spent _ _ _ _ _ _ _ _ _ _ (c .before .if1 .taken) (omega (arith, c .if2 .taken))))
     (λ c. search needs)

@@ -1,0 +1,209 @@
+-- Document 02, point 5, "Several routines in turn": what a call of `dispatch` is lent, what refuses it, and what it promises.
+use Prim.Native.Nat.{ℕ, zero, suc, _+_, _*_, _/_, _%_, _≤_, _<_, min, max}
+use mathlib.Core.Path.{_≡_}
+use mathlib.Core.Bool.{Bool, true, false, not, _&&_, cond}
+use mathlib.Core.List.{List}
+use lib.Dec.{ltb, leb, eqb}
+use lib.IntN.{ℤ}
+use lib.ListN.{length, getD, drop}
+use Rattle.answers.specs.Answers.{Answer, done, spent, stopped, refused, reads}
+use Rattle.answers.specs.Refusals.{number, place, pointer}
+use Rattle.answers.specs.declared.refusals.Refusal.{Refusal}
+use Rattle.answers.specs.declared.stops.Outcome.{Outcome}
+use Rattle.answers.specs.declared.stops.Outcome.the-variants as outcome
+use Rattle.words.specs.declared.sections.Sections.{Sections}
+use Rattle.table.specs.Form.{sectionsOf, lowestFrom}
+use Rattle.rules.specs.Verdict.{environmentOf}
+use Rattle.machine.specs.Machine.{low, high, Point, pointAfter}
+use Rattle.machine.specs.Points.{Outside}
+use Rattle.machine.specs.Frame.{SameCells, Own, Alike, withCells}
+use Rattle.interpreter.specs.Claim.{Lent, RunJudged, Begins, pointOf, answerAt}
+use Rattle.turns.specs.Turns.{Routines, received, after, granted, ServedAgain, AllServed}
+use Rattle.dispatcher.specs.Parts.{tableKind, listedKind, directoryKind, valuesKind, originsKind, partOf, startAt}
+use Rattle.dispatcher.specs.declared.Said.{Said}
+use Rattle.dispatcher.specs.declared.Said.the-variants as said
+
+-- ---- what is lent
+
+-- "1 to 8 accepted routines with separate values and one lent memory": the parts of all routines one after the other, and five lengths a routine.
+pub record Lends : Type 0 where
+  pub tables : List ℤ
+  -- "Each may have a list of loop facts (9), empty ones included."
+  pub listed : List ℤ
+  pub directories : List ℕ
+  pub cells : List ℕ
+  pub values : List ℕ
+  pub origins : List ℕ
+  pub lengths : List ℕ
+
+-- What routine r is lent: its parts, and the one memory.
+abbrev pub lentTo : Lends → ℕ → Lent
+lentTo l r = record {
+  table = partOf (l .lengths) tableKind r (l .tables);
+  listed = partOf (l .lengths) listedKind r (l .listed);
+  directory = partOf (l .lengths) directoryKind r (l .directories);
+  cells = l .cells;
+  values = partOf (l .lengths) valuesKind r (l .values);
+  origins = partOf (l .lengths) originsKind r (l .origins);
+}
+
+abbrev pub sectionsAt : Lends → ℕ → Sections
+sectionsAt l r = sectionsOf (lentTo l r .table)
+
+abbrev pub countOf : Lends → ℕ
+countOf l = length (l .lengths) / 5
+
+-- ---- what refuses a call
+
+-- "It refuses with 15, place 0 and before all else, when the count of routines or Q is out of range": 1 to 8 of five lengths each, and 1 to 1,000.
+unfoldable pub countRight : Lends → ℕ → Bool
+countRight l quantum = eqb (length (l .lengths) % 5) 0 && leb 1 (countOf l) && leb (countOf l) 8 && leb 1 quantum && leb quantum 1000
+
+-- The lent scratch has room for eight routines.
+unfoldable pub roomRight : List ℕ → List ℕ → Bool
+roomRight ends successors = eqb (length ends) 4096 && eqb (length successors) 16384
+
+-- Objects o of the directory D and k of F share a cell; "touching is no overlap".
+abbrev pub shareCell : List ℕ → ℕ → List ℕ → ℕ → Bool
+shareCell D o F k = ltb (max (low D o) (low F k)) (min (high D o) (high F k))
+
+-- The lowest of n numbers of which something is so, or n.
+abbrev pub lowest : (ℕ → Bool) → ℕ → ℕ
+lowest f n = lowestFrom (λ i. not (f i)) 0 n
+
+-- Something is so of a number below n.
+abbrev pub some : (ℕ → Bool) → ℕ → Bool
+some f n = ltb (lowest f n) n
+
+-- Objects of the directories D and F, n and m of them, overlap.
+unfoldable pub overlap : List ℕ → ℕ → List ℕ → ℕ → Bool
+overlap D n F m = some (λ o. some (λ k. shareCell D o F k) m) n
+
+-- "objects overlap an earlier one's"
+unfoldable pub overlapsEarlier : Lends → ℕ → Bool
+overlapsEarlier l r =
+    some (λ e. overlap (lentTo l r .directory) (sectionsAt l r .objects) (lentTo l e .directory) (sectionsAt l e .objects)) r
+
+-- "14 comes last and names the first routine whose objects overlap an earlier one's"; the count of routines where there is none.
+unfoldable pub firstOverlap : Lends → ℕ
+firstOverlap l = lowest (overlapsEarlier l) (countOf l)
+
+-- ---- the turns
+
+-- "skips those that ended": a run that is spent has not ended.
+abbrev pub isSpent : Answer → Bool
+isSpent (done n) = false
+isSpent (spent n s) = true
+isSpent (stopped n s k) = false
+isSpent (refused n p q) = false
+
+abbrev pub stepsOf : Answer → ℕ
+stepsOf (done n) = n
+stepsOf (spent n s) = n
+stepsOf (stopped n s k) = n
+stepsOf (refused n p q) = 0
+
+-- The routines, by what a run of each by itself answers with an allowance, lent the memory as it is at the start.
+abbrev pub routinesOf : Lends → Routines
+routinesOf l = record {
+  count = countOf l;
+  waits = λ r t. isSpent (answerAt (lentTo l r) (sectionsAt l r) t);
+  made = λ r t. stepsOf (answerAt (lentTo l r) (sectionsAt l r) t);
+}
+
+-- The steps that routine r receives.
+abbrev pub receivedBy : Lends → ℕ → ℕ → ℕ → ℕ
+receivedBy l quantum total r = getD (received (routinesOf l) quantum total) r 0
+
+-- ---- the shared memory: "one lent memory", in which each routine goes on in its turns
+
+module _ (l : Lends) (quantum total : ℕ) where
+  -- The steps that each has received after k turns, and whose turn is next.
+  abbrev pub stepsAfter : ℕ → ℕ → ℕ
+  stepsAfter k r = getD (after (routinesOf l) quantum total k .received) r 0
+
+  abbrev pub nextAfter : ℕ → ℕ
+  nextAfter k = after (routinesOf l) quantum total k .next
+
+  -- The plain machine of routine r after s steps more from where it stands by itself after t steps, but in the memory M.
+  abbrev pub goesOn : ℕ → ℕ → ℕ → List ℕ → Point
+  goesOn r t s M =
+      pointAfter (lentTo l r .table) (sectionsAt l r) (environmentOf (lentTo l r .table) (sectionsAt l r)) (lentTo l r .directory) s
+      (withCells (pointOf (lentTo l r) (sectionsAt l r) t) M)
+
+  -- The memory after k turns: a turn leaves what the plain machine leaves that goes on in it; one that ended is skipped.
+  unfoldable pub memoryAfter : ℕ → List ℕ
+  memoryAfter zero = l .cells
+  memoryAfter (suc k) =
+      cond (routinesOf l .waits (nextAfter k) (stepsAfter k (nextAfter k)))
+      (goesOn (nextAfter k) (stepsAfter k (nextAfter k)) (granted (routinesOf l) quantum total (after (routinesOf l) quantum total k .received))
+      (memoryAfter k) .cells)
+      (memoryAfter k)
+
+  -- "What the mission says of a run holds for each of them": at each of its points in the shared memory, s steps into the turn that follows k turns, a routine
+  -- stands where its run by itself stands after as many steps, but for cells of others; for that run demand 3 is in `AsAlone`.
+  abbrev pub EachPoint : Type 0
+  EachPoint = (k s : ℕ) → Alike (lentTo l (nextAfter k) .directory) (Own (sectionsAt l (nextAfter k)))
+      (pointOf (lentTo l (nextAfter k)) (sectionsAt l (nextAfter k)) (stepsAfter k (nextAfter k) + s))
+      (goesOn (nextAfter k) (stepsAfter k (nextAfter k)) s (memoryAfter k))
+
+-- ---- the promise
+
+-- "Each routine's answer, values and own cells are those of a run by itself with the steps it received. What the mission says of a run holds for each of
+-- them": t steps of routine r, which answers o and leaves the values vs; cs is the memory then.
+pub record AsAlone (l : Lends) (r t : ℕ) (o : Outcome) (vs cs : List ℕ) : Type 0 where
+  pub alone : List ℕ
+  pub run : RunJudged (lentTo l r) t (record { answer = o; values = vs; cells = alone })
+  pub own-cells : SameCells (lentTo l r .directory) (Own (sectionsAt l r)) alone cs
+
+-- Nothing refuses the call: all routines run.
+pub record AllRan (l : Lends) (quantum total : ℕ) (outcomes : ℕ → Outcome) (vs cs : List ℕ) : Type 0 where
+  pub begin : (r : ℕ) → r < countOf l → Begins (lentTo l r)
+  pub apart : firstOverlap l ≡ countOf l
+  pub as-alone : (r : ℕ) → r < countOf l → AsAlone l r (receivedBy l quantum total r) (outcomes r) (partOf (l .lengths) valuesKind r vs) cs
+  pub memory : cs ≡ memoryAfter l quantum total (countOf l * total)
+  pub each-point : EachPoint l quantum total
+  -- "one that waits is served again after at most (n - 1) times Q steps of the others, unless the total runs out"; in the end nobody waits, or it has run out.
+  pub served-again : (k r : ℕ) → r < countOf l → ServedAgain (routinesOf l) quantum total k r
+  pub all-served : AllServed (routinesOf l) quantum total
+  -- Cells of nobody's objects, and values behind all parts, are as they were.
+  pub nobodys-cells : (i : ℕ) → ((r : ℕ) → r < countOf l → Outside (lentTo l r .directory) (sectionsAt l r .objects) i) → getD cs i 0 ≡ getD (l .cells) i 0
+  pub nobodys-values : drop (startAt (l .lengths) valuesKind (countOf l)) vs ≡ drop (startAt (l .lengths) valuesKind (countOf l)) (l .values)
+  pub cells-long : length cs ≡ length (l .cells)
+  pub values-long : length vs ≡ length (l .values)
+
+pub record Unchanged (l : Lends) (vs cs : List ℕ) : Type 0 where
+  pub values : vs ≡ l .values
+  pub cells : cs ≡ l .cells
+
+-- "the first that does not is named with its refusal": all before it pass what their runs alone check, and its run alone, with whatever allowance, is refused
+-- so.
+pub record FirstRefused (l : Lends) (r : ℕ) (f : Refusal) : Type 0 where
+  pub within : r < countOf l
+  pub earlier : (k : ℕ) → k < r → Begins (lentTo l k)
+  pub refuses : (limit : ℕ) → RunJudged (lentTo l r) limit (record { answer = outcome.Refused f; values = lentTo l r .values; cells = l .cells })
+
+-- THE PROMISE OF `dispatch`, by what it says.
+-- (Where the lent scratch has another length than 4,096 and 16,384 numbers, nothing is done: `NoRoom`.)
+abbrev pub Promised : Bool → Lends → ℕ → ℕ → Said → (ℕ → Outcome) → List ℕ → List ℕ → Type 0
+Promised room l quantum total said.NoRoom outcomes vs cs = (room ≡ false) × Unchanged l vs cs
+Promised room l quantum total said.WrongCount outcomes vs cs = (room ≡ true) × (countRight l quantum ≡ false) × Unchanged l vs cs
+Promised room l quantum total (said.Refused r f) outcomes vs cs = (room ≡ true) × (countRight l quantum ≡ true) × FirstRefused l r f × Unchanged l vs cs
+Promised room l quantum total (said.Overlaps r) outcomes vs cs =
+    (room ≡ true) × (countRight l quantum ≡ true) × ((k : ℕ) → k < countOf l → Begins (lentTo l k)) × (r < countOf l) × (r ≡ firstOverlap l) × Unchanged l vs cs
+Promised room l quantum total said.Ran outcomes vs cs = (room ≡ true) × (countRight l quantum ≡ true) × AllRan l quantum total outcomes vs cs
+
+-- What the answer reads as, in the paper's numbers: number, place (a routine's for 14), and of a refused routine its number, the refusal's number, place and
+-- pointer.
+pub data Reading : Type 0 where
+  refused-call : ℕ → ℕ → Reading
+  refused-routine : ℕ → ℕ → ℕ → ℕ → Reading
+  ran : Reading
+  no-room : Reading
+
+abbrev pub saidReads : Said → Reading
+saidReads said.WrongCount = refused-call 15 0
+saidReads (said.Refused r f) = refused-routine r (number f) (place f) (pointer f)
+saidReads (said.Overlaps r) = refused-call 14 r
+saidReads said.Ran = ran
+saidReads said.NoRoom = no-room

@@ -1,0 +1,15 @@
+pub mod Parts
+pub mod PartsLaws
+pub mod Dispatch
+pub mod InTurn
+pub mod InTurnLaws
+pub mod Standing
+pub mod StandingLaws
+pub mod SharedLaws
+pub mod TurnLaws
+pub mod LoopLaws
+pub mod Overlaps
+pub mod OverlapLaws
+pub mod Seats
+pub mod SeatsLaws
+pub mod DispatchLaws

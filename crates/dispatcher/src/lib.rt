@@ -1,0 +1,290 @@
+// The dispatcher: several routines in turn in one lent memory.
+mod overlaps; // overlaps.rt: cause 14
+mod parts; // parts.rt: where each routine's part lies
+mod seats; // seats.rt: each routine is checked and laid out
+mod turn; // turn.rt: one turn
+mod rounds; // rounds.rt: the turns, round by number
+
+use answers::refusals::Refusal;
+use answers::stops::Outcome;
+use overlaps::first_overlap;
+use rounds::take_turns;
+use seats::AllSeated;
+use seats::no_seat;
+use seats::seat_all;
+use words::sections::Sections;
+ghost use mathlib.Core.Path.{_≡_};
+ghost use mathlib.Core.Bool.{true, _&&_};
+ghost use Prim.Native.Nat.{_/_, _%_};
+ghost use lib.Dec.{eqb, leb};
+ghost use lib.ListN.{length};
+ghost use Rattle.dispatcher.specs.Dispatch.{Promised, countOf, countRight, roomRight};
+ghost use Rattle.dispatcher.specs.Seats.{ReadyTo};
+ghost use Rattle.dispatcher.specs.Standing.{seatAt};
+
+// A part of a lent slice: the elements start to end - 1.
+pub struct Span {
+    pub start: usize,
+    pub end: usize,
+}
+
+// Where a routine's parts lie.
+pub struct Places {
+    pub table: Span,
+    pub directory: Span,
+    pub values: Span,
+}
+
+// A routine that is served: the sections of its table, its parts, and where it stands: what a run by itself with the steps that it has received answers.
+pub struct Seat {
+    pub sections: Sections,
+    pub places: Places,
+    pub outcome: Outcome,
+}
+
+// What a call says.
+pub enum Said {
+    // the scratch has another length
+    NoRoom,
+    // 15: the count of routines or the quantum is out of range
+    WrongCount,
+    // the first routine that its run alone refuses, with that refusal
+    Refused { routine: usize, refusal: Refusal },
+    // 14: the first routine whose objects overlap an earlier one's
+    Overlaps(usize),
+    Ran,
+}
+
+// What a call answers: what it says, and, where they ran, each routine's answer.
+pub struct Dispatched {
+    pub said: Said,
+    pub seats: [Seat; 8],
+}
+
+// The lent scratch has room for eight routines.
+fn room_right(ends: usize, successors: usize) -> bool
+    ensures { λ r. ⌜ r ≡ (eqb ends 4096 && eqb successors 16384) ⌝ }
+{
+    (ends == 4096) & (successors == 16384)
+}
+
+// Five lengths a routine, 1 to 8 routines, and a quantum of 1 to 1,000.
+fn count_right(lengths: usize, quantum: u32) -> bool
+    ensures { λ r. ⌜ r ≡ (eqb (lengths % 5) 0 && leb 1 (lengths / 5) && leb (lengths / 5) 8 && leb 1 quantum && leb quantum 1000) ⌝ }
+{
+    let count = lengths / 5;
+    (lengths % 5 == 0) & (1 <= count) & (count <= 8) & (1 <= quantum) & (quantum <= 1000)
+}
+
+// An answer with seats of nobody.
+fn only(said: Said) -> Dispatched
+    ensures { λ r. ⌜ r .said ≡ said ⌝ }
+{
+    let seat = no_seat();
+    Dispatched {
+        said: said,
+        seats: [seat; 8],
+    }
+}
+
+// All routines are ready: cause 14, then the turns.
+fn run_ready(
+    tables: &[i32],
+    listed: &[i32],
+    directories: &[u32],
+    cells: &mut [u32],
+    values: &mut [u32],
+    origins: &[u32],
+    lengths: &[u32],
+    ends: &mut [u64],
+    successors: &[u32],
+    seats: [Seat; 8],
+    count: usize,
+    quantum: u32,
+    total: u32,
+) -> Dispatched
+    requires { ⌜ (countRight (record {
+      tables = now tables;
+      listed = now listed;
+      directories = now directories;
+      cells = now cells;
+      values = now values;
+      origins = now origins;
+      lengths = now lengths;
+    }) quantum ≡ true) × (count ≡ countOf (record {
+      tables = now tables;
+      listed = now listed;
+      directories = now directories;
+      cells = now cells;
+      values = now values;
+      origins = now origins;
+      lengths = now lengths;
+    }))
+        × ReadyTo (record {
+          tables = now tables;
+          listed = now listed;
+          directories = now directories;
+          cells = now cells;
+          values = now values;
+          origins = now origins;
+          lengths = now lengths;
+        }) count seats (now ends) (now successors) ⌝ }
+    ensures { λ r. ⌜ Promised true (record {
+      tables = now (tables .entry);
+      listed = now (listed .entry);
+      directories = now (directories .entry);
+      cells = now (cells .entry);
+      values = now (values .entry);
+      origins = now (origins .entry);
+      lengths = now (lengths .entry);
+    }) quantum total (r .said) (λ i. seatAt (r .seats) i .outcome) (now (values .exit)) (now (cells .exit)) ⌝ }
+{
+    let first = first_overlap(directories, seats, count);
+    if first < count {
+        return Dispatched {
+            said: Said::Overlaps(first),
+            seats: seats,
+        };
+    }
+    let after = take_turns(
+        tables,
+        listed,
+        directories,
+        cells,
+        values,
+        origins,
+        lengths,
+        ends,
+        successors,
+        seats,
+        count,
+        quantum,
+        total,
+    );
+    Dispatched {
+        said: Said::Ran,
+        seats: after,
+    }
+}
+
+// The count and the scratch are right: the routines by number, cause 14, then the turns.
+fn dispatch_counted(
+    tables: &[i32],
+    listed: &[i32],
+    directories: &[u32],
+    cells: &mut [u32],
+    values: &mut [u32],
+    origins: &[u32],
+    lengths: &[u32],
+    ends: &mut [u64],
+    successors: &mut [u32],
+    quantum: u32,
+    total: u32,
+) -> Dispatched
+    requires { ⌜ (countRight (record {
+      tables = now tables;
+      listed = now listed;
+      directories = now directories;
+      cells = now cells;
+      values = now values;
+      origins = now origins;
+      lengths = now lengths;
+    }) quantum ≡ true) × (roomRight (now ends) (now successors) ≡ true) ⌝ }
+    ensures { λ r. ⌜ Promised true (record {
+      tables = now (tables .entry);
+      listed = now (listed .entry);
+      directories = now (directories .entry);
+      cells = now (cells .entry);
+      values = now (values .entry);
+      origins = now (origins .entry);
+      lengths = now (lengths .entry);
+    }) quantum total (r .said) (λ i. seatAt (r .seats) i .outcome) (now (values .exit)) (now (cells .exit)) ⌝ }
+{
+    let count = lengths.len() / 5;
+    let prepared = seat_all(
+        tables,
+        listed,
+        directories,
+        cells,
+        values,
+        origins,
+        lengths,
+        ends,
+        successors,
+        count,
+    );
+    let seated = prepared.seated;
+    let seats = prepared.seats;
+    match seated {
+        AllSeated::Refused { routine, refusal } => Dispatched {
+            said: Said::Refused {
+                routine: routine,
+                refusal: refusal,
+            },
+            seats: seats,
+        },
+        AllSeated::Ready => {
+            run_ready(
+                tables,
+                listed,
+                directories,
+                cells,
+                values,
+                origins,
+                lengths,
+                ends,
+                successors,
+                seats,
+                count,
+                quantum,
+                total,
+            )
+        }
+    }
+}
+
+// Runs several routines in turn, `quantum` steps a turn, `total` steps in all. Their parts come one after the other in the lent slices, with five lengths a
+// routine: table, list of loop facts, directory, values, origins. The scratch has 4,096 and 16,384 numbers. Cells and values are changed in place; a refusal changes nothing.
+pub fn dispatch(
+    tables: &[i32],
+    listed: &[i32],
+    directories: &[u32],
+    cells: &mut [u32],
+    values: &mut [u32],
+    origins: &[u32],
+    lengths: &[u32],
+    quantum: u32,
+    total: u32,
+    ends: &mut [u64],
+    successors: &mut [u32],
+) -> Dispatched
+    ensures { λ r. ⌜ Promised (roomRight (now (ends .entry)) (now (successors .entry))) (record {
+      tables = now (tables .entry);
+      listed = now (listed .entry);
+      directories = now (directories .entry);
+      cells = now (cells .entry);
+      values = now (values .entry);
+      origins = now (origins .entry);
+      lengths = now (lengths .entry);
+    }) quantum total (r .said) (λ i. seatAt (r .seats) i .outcome) (now (values .exit)) (now (cells .exit)) ⌝ }
+{
+    if !room_right(ends.len(), successors.len()) {
+        return only(Said::NoRoom);
+    }
+    if !count_right(lengths.len(), quantum) {
+        return only(Said::WrongCount);
+    }
+    dispatch_counted(
+        tables,
+        listed,
+        directories,
+        cells,
+        values,
+        origins,
+        lengths,
+        ends,
+        successors,
+        quantum,
+        total,
+    )
+}
