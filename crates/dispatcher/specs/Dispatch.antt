@@ -1,57 +1,25 @@
 -- Document 02, point 5, "Several routines in turn": what a call of `dispatch` is lent, what refuses it, and what it promises.
-use Prim.Native.Nat.{ℕ, zero, suc, _+_, _*_, _/_, _%_, _≤_, _<_, min, max}
+use Prim.Native.Nat.{ℕ, zero, suc, _+_, _*_, _%_, _<_}
 use mathlib.Core.Path.{_≡_}
-use mathlib.Core.Bool.{Bool, true, false, not, _&&_, cond}
+use mathlib.Core.Bool.{Bool, true, false, _&&_, cond}
 use mathlib.Core.List.{List}
-use lib.Dec.{ltb, leb, eqb}
-use lib.IntN.{ℤ}
+use lib.Dec.{leb, eqb}
 use lib.ListN.{length, getD, drop}
-use Rattle.answers.specs.Answers.{Answer, done, spent, stopped, refused, reads}
-use Rattle.answers.specs.Refusals.{number, place, pointer}
+use Rattle.answers.specs.Answers.{Answer, done, spent, stopped, refused}
 use Rattle.answers.specs.declared.refusals.Refusal.{Refusal}
 use Rattle.answers.specs.declared.stops.Outcome.{Outcome}
 use Rattle.answers.specs.declared.stops.Outcome.the-variants as outcome
-use Rattle.words.specs.declared.sections.Sections.{Sections}
-use Rattle.table.specs.Form.{sectionsOf, lowestFrom}
 use Rattle.rules.specs.Verdict.{environmentOf}
-use Rattle.machine.specs.Machine.{low, high, Point, pointAfter}
+use Rattle.machine.specs.Machine.{Point, pointAfter}
 use Rattle.machine.specs.Points.{Outside}
 use Rattle.machine.specs.Frame.{SameCells, Own, Alike, withCells}
-use Rattle.interpreter.specs.Claim.{Lent, RunJudged, Begins, pointOf, answerAt}
+use Rattle.interpreter.specs.Claim.{RunJudged, Begins, pointOf, answerAt}
 use Rattle.turns.specs.Turns.{Routines, received, after, granted, ServedAgain, AllServed}
-use Rattle.dispatcher.specs.Parts.{tableKind, listedKind, directoryKind, valuesKind, originsKind, partOf, startAt}
+use Rattle.seats.specs.Lends.{Lends, lentTo, sectionsAt, countOf}
+use Rattle.seats.specs.Overlaps.{firstOverlap}
+use Rattle.seats.specs.Parts.{valuesKind, partOf, startAt}
 use Rattle.dispatcher.specs.declared.Said.{Said}
 use Rattle.dispatcher.specs.declared.Said.the-variants as said
-
--- ---- what is lent
-
--- "1 to 8 accepted routines with separate values and one lent memory": the parts of all routines one after the other, and five lengths a routine.
-pub record Lends : Type 0 where
-  pub tables : List ℤ
-  -- "Each may have a list of loop facts (9), empty ones included."
-  pub listed : List ℤ
-  pub directories : List ℕ
-  pub cells : List ℕ
-  pub values : List ℕ
-  pub origins : List ℕ
-  pub lengths : List ℕ
-
--- What routine r is lent: its parts, and the one memory.
-abbrev pub lentTo : Lends → ℕ → Lent
-lentTo l r = record {
-  table = partOf (l .lengths) tableKind r (l .tables);
-  listed = partOf (l .lengths) listedKind r (l .listed);
-  directory = partOf (l .lengths) directoryKind r (l .directories);
-  cells = l .cells;
-  values = partOf (l .lengths) valuesKind r (l .values);
-  origins = partOf (l .lengths) originsKind r (l .origins);
-}
-
-abbrev pub sectionsAt : Lends → ℕ → Sections
-sectionsAt l r = sectionsOf (lentTo l r .table)
-
-abbrev pub countOf : Lends → ℕ
-countOf l = length (l .lengths) / 5
 
 -- ---- what refuses a call
 
@@ -59,34 +27,9 @@ countOf l = length (l .lengths) / 5
 unfoldable pub countRight : Lends → ℕ → Bool
 countRight l quantum = eqb (length (l .lengths) % 5) 0 && leb 1 (countOf l) && leb (countOf l) 8 && leb 1 quantum && leb quantum 1000
 
--- The lent scratch has room for eight routines.
+-- The room that is lent for the set-up of eight routines is large enough.
 unfoldable pub roomRight : List ℕ → List ℕ → Bool
-roomRight ends successors = eqb (length ends) 4096 && eqb (length successors) 16384
-
--- Objects o of the directory D and k of F share a cell; "touching is no overlap".
-abbrev pub shareCell : List ℕ → ℕ → List ℕ → ℕ → Bool
-shareCell D o F k = ltb (max (low D o) (low F k)) (min (high D o) (high F k))
-
--- The lowest of n numbers of which something is so, or n.
-abbrev pub lowest : (ℕ → Bool) → ℕ → ℕ
-lowest f n = lowestFrom (λ i. not (f i)) 0 n
-
--- Something is so of a number below n.
-abbrev pub some : (ℕ → Bool) → ℕ → Bool
-some f n = ltb (lowest f n) n
-
--- Objects of the directories D and F, n and m of them, overlap.
-unfoldable pub overlap : List ℕ → ℕ → List ℕ → ℕ → Bool
-overlap D n F m = some (λ o. some (λ k. shareCell D o F k) m) n
-
--- "objects overlap an earlier one's"
-unfoldable pub overlapsEarlier : Lends → ℕ → Bool
-overlapsEarlier l r =
-    some (λ e. overlap (lentTo l r .directory) (sectionsAt l r .objects) (lentTo l e .directory) (sectionsAt l e .objects)) r
-
--- "14 comes last and names the first routine whose objects overlap an earlier one's"; the count of routines where there is none.
-unfoldable pub firstOverlap : Lends → ℕ
-firstOverlap l = lowest (overlapsEarlier l) (countOf l)
+roomRight ends successors = leb 4096 (length ends) && leb 16384 (length successors)
 
 -- ---- the turns
 
@@ -183,8 +126,7 @@ pub record FirstRefused (l : Lends) (r : ℕ) (f : Refusal) : Type 0 where
   pub earlier : (k : ℕ) → k < r → Begins (lentTo l k)
   pub refuses : (limit : ℕ) → RunJudged (lentTo l r) limit (record { answer = outcome.Refused f; values = lentTo l r .values; cells = l .cells })
 
--- THE PROMISE OF `dispatch`, by what it says.
--- (Where the lent scratch has another length than 4,096 and 16,384 numbers, nothing is done: `NoRoom`.)
+-- THE PROMISE OF `dispatch`, by what it says. (Where less room is lent than the set-up takes, nothing is done: `NoRoom`.)
 abbrev pub Promised : Bool → Lends → ℕ → ℕ → Said → (ℕ → Outcome) → List ℕ → List ℕ → Type 0
 Promised room l quantum total said.NoRoom outcomes vs cs = (room ≡ false) × Unchanged l vs cs
 Promised room l quantum total said.WrongCount outcomes vs cs = (room ≡ true) × (countRight l quantum ≡ false) × Unchanged l vs cs
@@ -192,18 +134,3 @@ Promised room l quantum total (said.Refused r f) outcomes vs cs = (room ≡ true
 Promised room l quantum total (said.Overlaps r) outcomes vs cs =
     (room ≡ true) × (countRight l quantum ≡ true) × ((k : ℕ) → k < countOf l → Begins (lentTo l k)) × (r < countOf l) × (r ≡ firstOverlap l) × Unchanged l vs cs
 Promised room l quantum total said.Ran outcomes vs cs = (room ≡ true) × (countRight l quantum ≡ true) × AllRan l quantum total outcomes vs cs
-
--- What the answer reads as, in the paper's numbers: number, place (a routine's for 14), and of a refused routine its number, the refusal's number, place and
--- pointer.
-pub data Reading : Type 0 where
-  refused-call : ℕ → ℕ → Reading
-  refused-routine : ℕ → ℕ → ℕ → ℕ → Reading
-  ran : Reading
-  no-room : Reading
-
-abbrev pub saidReads : Said → Reading
-saidReads said.WrongCount = refused-call 15 0
-saidReads (said.Refused r f) = refused-routine r (number f) (place f) (pointer f)
-saidReads (said.Overlaps r) = refused-call 14 r
-saidReads said.Ran = ran
-saidReads said.NoRoom = no-room

@@ -1,34 +1,32 @@
 -- Laws of the whole call.
-use Prim.Native.Nat.{ℕ, _+_, _*_, _/_, _%_, _^_, _≤_, _<_}
-use mathlib.Core.Path.{_≡_, refl, sym, ap, subst, _∙_}
+use Prim.Native.Nat.{ℕ, _/_, _%_, _≤_, _<_}
+use mathlib.Core.Path.{_≡_, refl, sym, ap, _∙_}
 use mathlib.Core.Bool.{Bool, true, false, not, _&&_}
 use mathlib.Core.List.{List}
 use native.Mathlib.Omega.{arith}
-use borrow.Author.Tests.{leb-true, eqb-true}
-use lib.Dec.{leb, ltb, eqb}
+use borrow.Author.Tests.{leb-true}
+use lib.Dec.{leb, eqb}
 use lib.ListN.{length, getD, getD-replicate}
 use Rattle.answers.specs.declared.refusals.Refusal.{Refusal}
 use Rattle.answers.specs.declared.stops.Outcome.{Outcome}
 use Rattle.answers.specs.declared.stops.Outcome.the-variants.{Done}
 use Rattle.words.specs.SectionsLaws.{both}
 use Rattle.table.specs.FormLaws.{well-formed}
-use Rattle.machine.specs.Machine.{going}
-use Rattle.interpreter.specs.Outcomes.{outcomeShown}
-use Rattle.turns.specs.Turns.{Schedule, Runs, after}
+use Rattle.turns.specs.Turns.{Schedule, after}
 use Rattle.turns.specs.TurnsLaws.{after-start}
-use Rattle.dispatcher.specs.Dispatch.{Lends, lentTo, sectionsAt, countOf, countRight, roomRight, routinesOf, lowest, firstOverlap, AllRan, Unchanged}
-use Rattle.dispatcher.specs.Dispatch.{FirstRefused, Promised, memoryAfter}
-use Rattle.dispatcher.specs.Overlaps.{SeatRight, SeatsRight, seatOverlaps}
-use Rattle.dispatcher.specs.OverlapLaws.{overlaps-lent, lowest-most}
-use Rattle.dispatcher.specs.InTurn.{InTurn}
-use Rattle.dispatcher.specs.InTurnLaws.{launched-begins, turn-begins, relaid, refused-alone}
-use Rattle.dispatcher.specs.Standing.{seatAt, placesOf, endsAt, successorsAt, AllLaunched, Standing, TurnsAsk}
+use Rattle.seats.specs.Lends.{Lends, lentTo, countOf}
+use Rattle.dispatcher.specs.Dispatch.{countRight, roomRight, routinesOf, Promised, memoryAfter}
+use Rattle.seats.specs.Overlaps.{lowest, firstOverlap}
+use Rattle.seats.specs.SeatOverlaps.{SeatsRight, seatOverlaps}
+use Rattle.seats.specs.OverlapLaws.{overlaps-lent, lowest-most}
+use Rattle.interpreter.specs.ClaimLaws.{launched-begins, refused-alone}
+use Rattle.dispatcher.specs.InTurnLaws.{turn-begins, relaid}
+use Rattle.seats.specs.Seats.{seatAt, startSeat, Ready, ReadyTo, RefusedAt, AllSeatedAs, CountIs}
+use Rattle.dispatcher.specs.Standing.{AllLaunched, Standing, TurnsAsk}
 use Rattle.dispatcher.specs.StandingLaws.{routines-run}
-use Rattle.dispatcher.specs.Seats.{startSeat, Ready, ReadyTo, RefusedAt, AllSeatedAs}
-use Rattle.dispatcher.specs.declared.seats.AllSeated.{AllSeated}
-use Rattle.dispatcher.specs.declared.seats.AllSeated.the-variants as all
-use Rattle.dispatcher.specs.SeatsLaws.{CountIs}
-use Rattle.dispatcher.specs.declared.Seat.{Seat}
+use Rattle.seats.specs.declared.AllSeated.{AllSeated}
+use Rattle.seats.specs.declared.AllSeated.the-variants as all
+use Rattle.seats.specs.declared.Seat.{Seat}
 use Rattle.dispatcher.specs.declared.Said.{Said}
 use Rattle.dispatcher.specs.declared.Said.the-variants as said
 
@@ -48,9 +46,9 @@ count-facts l quantum e =
     let d = both (eqb (length (l .lengths) % 5) 0) (leb 1 (countOf l)) (c .0) in
     record { some = leb-true _ _ (d .1); few = leb-true _ _ (c .1); quanta = leb-true _ _ (b .1) }
 
-pub room-facts : (ends S : List ℕ) → roomRight ends S ≡ true → (length ends ≡ 4096) × (length S ≡ 16384)
+room-facts : (ends S : List ℕ) → roomRight ends S ≡ true → (4096 ≤ length ends) × (16384 ≤ length S)
 unfolding roomRight
-room-facts ends S e = let a = both (eqb (length ends) 4096) (eqb (length S) 16384) e in (eqb-true _ _ (a .0), eqb-true _ _ (a .1))
+room-facts ends S e = let a = both (leb 4096 (length ends)) (leb 16384 (length S)) e in (leb-true _ _ (a .0), leb-true _ _ (a .1))
 
 -- ---- all routines are ready
 
@@ -174,9 +172,14 @@ pub answers-count : (l : Lends) (ends S : List ℕ) (quantum total : ℕ) (s : S
     → s ≡ said.WrongCount → Promised (roomRight ends S) l quantum total s outcomes (l .values) (l .cells)
 answers-count l ends S quantum total s outcomes r e f = rw f (r, e, record { values = refl; cells = refl })
 
-pub room-is : (ends S : List ℕ) (b : Bool) → b ≡ (eqb (length ends) 4096 && eqb (length S) 16384) → b ≡ roomRight ends S
+pub room-is : (ends S : List ℕ) (b : Bool) → b ≡ (leb 4096 (length ends) && leb 16384 (length S)) → b ≡ roomRight ends S
 unfolding roomRight
 room-is ends S b e = e
+
+-- Where the code goes on, there is room: it lends the part that the set-up takes.
+pub room-cut : (ends S : List ℕ) (b : Bool) → b ≡ (leb 4096 (length ends) && leb 16384 (length S)) → not b ≡ false
+    → (4096 ≤ length ends) × (16384 ≤ length S)
+room-cut ends S b e t = room-facts ends S (sym (room-is ends S b e) ∙ was-true b t)
 
 pub count-test : (l : Lends) (quantum : ℕ) (b : Bool)
     → b ≡ (eqb (length (l .lengths) % 5) 0 && leb 1 (length (l .lengths) / 5) && leb (length (l .lengths) / 5) 8 && leb 1 quantum && leb quantum 1000)

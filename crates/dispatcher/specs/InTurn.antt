@@ -2,7 +2,6 @@
 use Prim.Native.Nat.{ℕ}
 use mathlib.Core.Path.{_≡_}
 use mathlib.Core.List.{List}
-use lib.IntN.{ℤ}
 use lib.ListN.{length, getD}
 use Rattle.words.specs.declared.sections.Sections.{Sections}
 use Rattle.rules.specs.Verdict.{environmentOf}

@@ -1,34 +1,24 @@
 -- Runs in turns: what the code's loop needs at a turn, what the turn leaves, and the claim of point 5 about each routine.
-use Prim.Native.Nat.{ℕ, zero, suc, _+_, _-_, _*_, _<_, _≤_}
+use Prim.Native.Nat.{ℕ, zero, suc, _+_, _-_, _<_, _≤_}
 use mathlib.Core.Path.{_≡_, refl, sym, ap, subst, _∙_}
 use mathlib.Core.Logic.{_≢_}
 use mathlib.Core.Bool.{Bool, true, false, cond}
-use mathlib.Core.List.{List, [], _∷_}
+use mathlib.Core.List.{List}
 use native.Mathlib.Omega.{arith}
-use borrow.Author.Tests.{ltb-true, ltb-false}
+use borrow.Author.Tests.{ltb-true}
 use lib.Dec.{ltb}
 use lib.IntN.{ℤ}
 use lib.ListN.{length, getD}
-use Rattle.answers.specs.Answers.{Answer, reads}
+use Rattle.answers.specs.Answers.{reads}
 use Rattle.answers.specs.Answers as says
-use Rattle.answers.specs.declared.refusals.Refusal.{Refusal}
 use Rattle.answers.specs.declared.stops.Outcome.{Outcome}
-use Rattle.answers.specs.declared.stops.Outcome.the-variants.{Spent, Done, Stopped}
+use Rattle.answers.specs.declared.stops.Outcome.the-variants.{Spent, Done}
 use Rattle.answers.specs.declared.stops.Outcome.the-variants as outcome
 use Rattle.words.specs.declared.sections.Sections.{Sections}
-use Rattle.table.specs.Form.{sectionsOf, formOf}
 use Rattle.table.specs.FormLaws.{well-formed}
-use Rattle.table.specs.declared.Form.the-variants.{WellFormed}
-use Rattle.blocks.specs.Flow.{tableFlow}
-use Rattle.blocks.specs.Written.{written}
-use Rattle.blocks.specs.Layout.{also}
 use Rattle.rules.specs.AcceptedLaws.{clear, formed-sections}
-use Rattle.rules.specs.Stored.{faults, store}
 use Rattle.rules.specs.Verdict.{environmentOf}
 use Rattle.rules.specs.Verdict as verdictRules
-use Rattle.rules.specs.ByChains.{byChains}
-use Rattle.rules.specs.Decidable.{decided}
-use Rattle.rules.specs.Agreement.{SameFirst, same-self, same-also, faults-agree}
 use Rattle.rules.specs.BoundsRules.{ownRows}
 use Rattle.rules.specs.declared.Environment.{Environment}
 use Rattle.machine.specs.Machine.{Status, going, stopped, stuck, Point, start, pointAfter}
@@ -36,19 +26,19 @@ use Rattle.machine.specs.Points.{CellOf}
 use Rattle.machine.specs.Soundness.{Begun}
 use Rattle.machine.specs.RunSound.{sound}
 use Rattle.machine.specs.Frame.{Elsewhere, Origins, SameCells, withCells, Alike, Own}
-use Rattle.machine.specs.FrameLaws.{alike-with, same-cells, same-trans, own-names, own-origins, run-framed, turn-alike, turn-framed}
+use Rattle.machine.specs.FrameLaws.{alike-with, same-trans, own-names, own-origins, run-framed, turn-alike, turn-framed}
 use Rattle.entry.specs.Ends.{endsOf}
-use Rattle.entry.specs.Entry.{entryRefusals}
 use Rattle.steps.specs.Bare.{Prepared}
 use Rattle.interpreter.specs.BareRun.{Result, Ends, bareRun, SafeRun}
 use Rattle.interpreter.specs.Agreement.{resultShown, Runnable}
 use Rattle.interpreter.specs.AgreementLaws.{safe-run, run-agrees}
 use Rattle.interpreter.specs.EndsLaws.{ends-long, ends-small, ends-sizes}
 use Rattle.interpreter.specs.StartLaws.{Admitted, admitted, start-runnable, first-due, start-prepared}
-use Rattle.interpreter.specs.StepLaws.{StepsMade, steps-made, steps-counted, counts-on}
+use Rattle.interpreter.specs.StepLaws.{steps-made, steps-counted, counts-on}
 use Rattle.interpreter.specs.PointLaws.{lends, leaves, unstuck, rows-long, reads-at, at-point, never}
-use Rattle.interpreter.specs.ClaimLaws.{begun, Launched, First, first-refused, run-judged, begun-ran, entry-only}
-use Rattle.interpreter.specs.Claim.{Lent, Leaves, pointOf, answerOf, answerAt, Begins, RunJudged, Ran, runFaults, entryFaults}
+use Rattle.interpreter.specs.ClaimLaws.{begun, run-judged, begun-ran}
+use Rattle.interpreter.specs.Starts.{Launched}
+use Rattle.interpreter.specs.Claim.{Lent, pointOf, answerOf, answerAt, RunJudged, Ran}
 use Rattle.interpreter.specs.Outcomes.{outcomeShown}
 use Rattle.dispatcher.specs.Dispatch.{isSpent, stepsOf}
 use Rattle.dispatcher.specs.InTurn.{InTurn, LeftOthers}
@@ -82,16 +72,6 @@ shown-spent h going m d n a e = go (ltb d (h .statements)) refl e
     go false q e = let z : _≡_ {A = ℕ} 0 1 = cc in never z
 shown-spent h (stopped k) m d n a e = let z : _≡_ {A = ℕ} 0 1 = cc in never z
 shown-spent h stuck m d n a e = let z : _≡_ {A = ℕ} 0 1 = cc in never z
-
--- ---- a refused routine
-
-pub refused-alone : (l : Lent) (r : Refusal) → First (runFaults store l) r → (limit : ℕ) → RunJudged l limit (leaves (outcome.Refused r) (l .values) (l .cells))
-refused-alone l r f limit = run-judged (l .table) (l .listed) (l .directory) (l .cells) (l .values) (l .origins) limit _ _ _ (first-refused l limit r f)
-
-none-same : (fs gs : List Refusal) → fs ≡ [] → SameFirst fs gs → gs ≡ []
-none-same [] [] e s = refl
-none-same [] (g ∷ gs) e s = absurd s
-none-same (f ∷ fs) gs e s = let z : _≡_ {A = ℕ} 0 1 = cc in never z
 
 origin-below : (n k : ℕ) → ((o : ℕ) → n ≡ suc o → o < k) → n ≤ k
 origin-below zero k f = omega arith
@@ -134,11 +114,6 @@ module _ {T : List ℤ} {h : Sections} {listed : List ℤ} {D cs vs os W₀ S : 
   first-own : Origins (Own h) (first .origins)
   unfolding start
   first-own = own-origins h os (launched-begun .origins)
-
-  pub launched-begins : Begins l
-  unfolding runFaults
-  launched-begins = decided T _ (λ d c. none-same (runFaults store l) (runFaults (byChains d) l) (entry-only T h listed D cs vs os (L .formed) (L .accepts) ∙ L .none)
-      (same-also (faults T listed) (verdictRules.faults (byChains d) T listed) _ _ (faults-agree T listed d c) (λ z. same-self (entryFaults (formOf T) l))))
 
   -- ---- the steps that it makes
 

@@ -1,5 +1,3 @@
-pub mod Parts
-pub mod PartsLaws
 pub mod Dispatch
 pub mod InTurn
 pub mod InTurnLaws
@@ -8,8 +6,4 @@ pub mod StandingLaws
 pub mod SharedLaws
 pub mod TurnLaws
 pub mod LoopLaws
-pub mod Overlaps
-pub mod OverlapLaws
-pub mod Seats
-pub mod SeatsLaws
 pub mod DispatchLaws

@@ -13,16 +13,15 @@ use Rattle.answers.specs.Answers.{reads}
 use Rattle.answers.specs.declared.stops.Outcome.{Outcome}
 use Rattle.turns.specs.Turns.{Routines, Runs, Schedule, sum, following, granted, after, received, Idle}
 use Rattle.turns.specs.TurnsLaws.{after-start, after-next, after-received, after-within, after-long, served-both, sum-step, sum-within, sum-zeros, idle-none}
-use Rattle.turns.specs.TurnsLaws.{idle-more, idle-ends, turns-end, by-order}
-use Rattle.dispatcher.specs.Dispatch.{Lends, countOf, routinesOf, stepsOf, AllRan, firstOverlap}
-use Rattle.dispatcher.specs.Standing.{seatAt, nobody, seated, AllLaunched, AllApart, Standing, InPlace, MayTurn, Turned, TurnsAsk, Looping}
-use Rattle.dispatcher.specs.StandingLaws.{all-apart, routines-run, in-place, may-turn, one-turn, seat-steps}
+use Rattle.turns.specs.TurnsLaws.{idle-more, idle-ends, turns-end}
+use Rattle.seats.specs.Lends.{Lends, countOf}
+use Rattle.dispatcher.specs.Dispatch.{routinesOf, stepsOf, AllRan}
+use Rattle.seats.specs.Seats.{seatAt, nobody}
+use Rattle.dispatcher.specs.Standing.{seated, Standing, InPlace, MayTurn, Turned, TurnsAsk, Looping, idleAfter}
+use Rattle.seats.specs.OverlapLaws.{AllApart, all-apart}
+use Rattle.dispatcher.specs.StandingLaws.{routines-run, in-place, may-turn, one-turn, seat-steps}
 use Rattle.dispatcher.specs.SharedLaws.{standing-ran}
-use Rattle.dispatcher.specs.declared.Seat.{Seat}
-
--- The turns in a row that gave nothing, after one more.
-abbrev pub idleAfter : ℕ → ℕ → ℕ
-idleAfter idle made = cond (eqb made 0) (idle + 1) 0
+use Rattle.seats.specs.declared.Seat.{Seat}
 
 -- The steps of a turn.
 abbrev pub madeIn : Outcome → Outcome → ℕ

@@ -1,28 +1,31 @@
 -- The shared memory: at each point a routine stands as its run by itself does; and the end of the turns.
 use Prim.Native.Nat.{ℕ, zero, suc, _+_, _-_, _*_, _≤_, _<_}
-use mathlib.Core.Path.{_≡_, refl, sym, ap, subst, _∙_}
+use mathlib.Core.Path.{_≡_, refl, sym, ap, _∙_}
 use mathlib.Core.Logic.{_≢_}
 use mathlib.Core.Bool.{Bool, true, false}
 use mathlib.Core.List.{List}
 use native.Mathlib.Omega.{arith}
 use native.Mathlib.Numerals.{add-one}
 use native.Mathlib.Decide.{ℕ-discrete}
-use lib.ListN.{length, getD, set, getD-replicate}
+use lib.ListN.{getD, set, getD-replicate}
 use lib.Seq.{getD-set-same, getD-set-other}
-use Rattle.machine.specs.Machine.{Point, start, pointAfter}
-use Rattle.machine.specs.Frame.{Own, SameCells, withCells}
+use Rattle.machine.specs.Machine.{start, pointAfter}
+use Rattle.machine.specs.Frame.{Own, SameCells}
 use Rattle.machine.specs.FrameLaws.{same-trans}
 use Rattle.interpreter.specs.Claim.{pointOf, answerAt}
 use Rattle.turns.specs.Turns.{Routines, Runs, Schedule, sum, granted, after, received}
 use Rattle.turns.specs.TurnsLaws.{after-start, after-received, after-within, after-long, sum-set, sum-grows, sum-step, served-waiting, served-ended}
-use Rattle.turns.specs.TurnsLaws.{served-none, served-again, all-served}
-use Rattle.dispatcher.specs.Dispatch.{Lends, lentTo, sectionsAt, countOf, routinesOf, stepsOf, firstOverlap, AllRan, stepsAfter, nextAfter, goesOn}
-use Rattle.dispatcher.specs.Dispatch.{memoryAfter, EachPoint}
-use Rattle.dispatcher.specs.InTurn.{LeftOthers}
-use Rattle.dispatcher.specs.InTurnLaws.{launched-begins, in-turns, goes-alike, goes-leaves, made-same, others-same}
-use Rattle.dispatcher.specs.Standing.{seatAt, AllLaunched, AllApart, Standing}
+use Rattle.turns.specs.TurnsLaws.{served-again, all-served}
+use Rattle.seats.specs.Lends.{Lends, lentTo, sectionsAt, countOf}
+use Rattle.dispatcher.specs.Dispatch.{routinesOf, stepsOf, AllRan, goesOn, memoryAfter, EachPoint}
+use Rattle.seats.specs.Overlaps.{firstOverlap}
+use Rattle.interpreter.specs.ClaimLaws.{launched-begins}
+use Rattle.dispatcher.specs.InTurnLaws.{in-turns, goes-alike, goes-leaves, made-same, others-same}
+use Rattle.seats.specs.Seats.{seatAt}
+use Rattle.dispatcher.specs.Standing.{AllLaunched, Standing}
+use Rattle.seats.specs.OverlapLaws.{AllApart}
 use Rattle.dispatcher.specs.StandingLaws.{routines-run, memory-gone, memory-skipped}
-use Rattle.dispatcher.specs.declared.Seat.{Seat}
+use Rattle.seats.specs.declared.Seat.{Seat}
 
 module _ (l : Lends) (S : List ℕ) (L : AllLaunched l S) (apart : AllApart l) (quantum total : ℕ) (count : 0 < countOf l) (few : countOf l ≤ 8) where
   abbrev R : Routines

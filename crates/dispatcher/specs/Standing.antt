@@ -1,60 +1,32 @@
 -- Where all routines stand after k turns: what the dispatcher's loop keeps.
-use Prim.Native.Nat.{ℕ, _+_, _*_, _-_, _^_, _<_, _≤_, min}
+use Prim.Native.Nat.{ℕ, _+_, _*_, _-_, _^_, _<_, _≤_}
 use mathlib.Core.Path.{_≡_}
-use mathlib.Core.Logic.{_≢_}
-use mathlib.Core.Bool.{Bool, false}
+use mathlib.Core.Bool.{cond}
+use lib.Dec.{eqb}
 use mathlib.Core.List.{List}
 use lib.IntN.{ℤ}
 use lib.ListN.{length, getD, drop}
-use Rattle.answers.specs.declared.refusals.Refusal.the-variants.{Length}
 use Rattle.answers.specs.declared.stops.Outcome.{Outcome}
 use Rattle.answers.specs.declared.stops.Outcome.the-variants.{Spent, Done, Stopped, Refused}
-use Rattle.words.specs.declared.sections.Sections.{Sections}
 use Rattle.rules.specs.Verdict.{environmentOf}
 use Rattle.rules.specs.BoundsRules.{ownRows}
-use Rattle.machine.specs.Points.{CellOf, Outside}
-use Rattle.machine.specs.Frame.{Elsewhere, Own}
+use Rattle.machine.specs.Points.{Outside}
 use Rattle.entry.specs.Ends.{endsOf}
 use Rattle.steps.specs.Bare.{Prepared}
 use Rattle.interpreter.specs.BareRun.{Ends, bareRun, SafeRun}
-use Rattle.interpreter.specs.ClaimLaws.{Launched}
+use Rattle.interpreter.specs.Starts.{Launched}
 use Rattle.turns.specs.Turns.{after, sum, Idle}
-use Rattle.dispatcher.specs.Parts.{valuesKind, tableKind, directoryKind, window, partOf, startAt, lengthAt, spanOf, between, Replaced}
-use Rattle.dispatcher.specs.Dispatch.{Lends, lentTo, sectionsAt, countOf, routinesOf, firstOverlap, memoryAfter}
+use Rattle.seats.specs.Parts.{valuesKind, partOf, startAt, between, Replaced}
+use Rattle.seats.specs.Lends.{Lends, lentTo, sectionsAt, countOf}
+use Rattle.dispatcher.specs.Dispatch.{routinesOf, memoryAfter}
+use Rattle.seats.specs.Overlaps.{firstOverlap}
+use Rattle.seats.specs.Seats.{seatAt, placesOf, endsAt, successorsAt}
 use Rattle.dispatcher.specs.InTurn.{InTurn}
-use Rattle.dispatcher.specs.declared.Seat.{Seat}
-use Rattle.dispatcher.specs.declared.Span.{Span}
-use Rattle.dispatcher.specs.declared.Places.{Places}
-
--- A seat of nobody: what an array of seats has where there is none.
-abbrev pub nobody : Seat
-nobody = record {
-  sections = record { start = 0; objects = 0; variables = 0; statements = 0; rows = 0 };
-  places = record { table = record { start = 0; end = 0 }; directory = record { start = 0; end = 0 }; values = record { start = 0; end = 0 } };
-  outcome = Refused Length;
-}
-
--- Where the parts of routine r lie.
-abbrev pub placesOf : Lends → ℕ → Places
-placesOf l r = record {
-  table = spanOf (l .lengths) tableKind r (length (l .tables));
-  directory = spanOf (l .lengths) directoryKind r (length (l .directories));
-  values = spanOf (l .lengths) valuesKind r (length (l .values));
-}
+use Rattle.seats.specs.declared.Seat.{Seat}
 
 -- The seat after a turn.
 abbrev pub seated : Seat → Outcome → Seat
 seated s o = record { sections = s .sections; places = s .places; outcome = o }
-
-abbrev pub seatAt : List Seat → ℕ → Seat
-seatAt seats r = getD seats r nobody
-
--- The scratch of routine r: 512 numbers for the ends in force, 2,048 for the successors of its statements.
-abbrev pub endsAt : List ℕ → ℕ → List ℕ
-endsAt ends r = window (512 * r) 512 ends
-
-abbrev pub successorsAt : List ℕ → ℕ → List ℕ
-successorsAt successors r = window (2048 * r) 2048 successors
 
 -- Routine r passed all that its run alone checks, and its successors are laid out.
 abbrev pub IsLaunched : Lends → List ℕ → ℕ → Type 0
@@ -64,11 +36,6 @@ IsLaunched l S r =
 
 abbrev pub AllLaunched : Lends → List ℕ → Type 0
 AllLaunched l S = (r : ℕ) → r < countOf l → IsLaunched l S r
-
--- 14 does not refuse: no cell is of objects of two routines.
-abbrev pub AllApart : Lends → Type 0
-AllApart l = (r k : ℕ) → r < countOf l → k < countOf l → r ≢ k
-    → (i : ℕ) → CellOf (lentTo l k .directory) (Own (sectionsAt l k)) i → Elsewhere (lentTo l r .directory) (Own (sectionsAt l r)) i
 
 pub record Standing (l : Lends) (quantum total k : ℕ) (seats : List Seat) (ends vs cs : List ℕ) : Type 0 where
   pub seats-long : length seats ≡ 8
@@ -154,3 +121,7 @@ pub record Looping (l : Lends) (quantum total taken next left idle : ℕ) (seats
   pub left-is : left ≡ total - sum (after (routinesOf l) quantum total taken .received)
   pub idle-so-far : Idle (routinesOf l) quantum total taken idle
   pub within : taken ≤ countOf l * total
+
+-- The turns in a row that gave nothing, after one more.
+abbrev pub idleAfter : ℕ → ℕ → ℕ
+idleAfter idle made = cond (eqb made 0) (idle + 1) 0

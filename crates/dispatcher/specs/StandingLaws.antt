@@ -1,89 +1,44 @@
 -- Laws of where all routines stand: at the start, after one more turn, and in the end.
-use Prim.Native.Nat.{ℕ, zero, suc, _+_, _-_, _*_, _^_, _≤_, _<_, min, max}
+use Prim.Native.Nat.{ℕ, _+_, _-_, _*_, _^_, _≤_, _<_, min}
 use mathlib.Core.Path.{_≡_, refl, sym, ap, ap₂, subst, _∙_}
 use mathlib.Core.Logic.{_≢_}
-use mathlib.Core.Bool.{Bool, true, false, not, cond}
-use mathlib.Core.List.{List, [], _∷_}
+use mathlib.Core.Bool.{Bool, true, false, cond}
+use mathlib.Core.List.{List}
 use native.Mathlib.Omega.{arith}
 use native.Mathlib.Numerals.{add-one}
 use native.Mathlib.Decide.{ℕ-discrete}
-use borrow.Author.Tests.{ltb-true, ltb-false, lt-ltb, le-ltb}
-use lib.Dec.{ltb}
-use lib.ListN.{length, getD, set, length-set, drop, length-take, length-drop, replicate, getD-replicate}
+use lib.ListN.{length, getD, set, length-set, drop}
 use lib.Seq.{getD-set-same, getD-set-other}
-use Rattle.answers.specs.Answers.{Answer, reads}
+use Rattle.answers.specs.Answers.{reads}
 use Rattle.answers.specs.declared.stops.Outcome.{Outcome}
 use Rattle.answers.specs.declared.stops.Outcome.the-variants.{Spent, Done, Stopped, Refused}
 use Rattle.words.specs.declared.sections.Sections.{Sections}
-use Rattle.rules.specs.Verdict.{environmentOf}
-use Rattle.rules.specs.BoundsRules.{ownRows}
 use Rattle.table.specs.FormLaws.{well-formed}
-use Rattle.table.specs.Form.{lowestFrom}
-use Rattle.table.specs.Searches.{holds-below}
-use Rattle.rules.specs.AcceptedLaws.{formed-sections}
-use Rattle.machine.specs.Machine.{low, high, going, start, Point}
-use Rattle.machine.specs.Points.{CellOf, Outside}
-use Rattle.machine.specs.Frame.{Elsewhere, Own, SameCells}
 use Rattle.machine.specs.FrameLaws.{outside-own}
-use Rattle.entry.specs.Ends.{endsOf}
-use Rattle.interpreter.specs.BareRun.{Ends, bareRun, SafeRun}
-use Rattle.interpreter.specs.Claim.{Lent, pointOf, answerAt, Begins}
-use Rattle.interpreter.specs.ClaimLaws.{Launched}
+use Rattle.interpreter.specs.BareRun.{Ends, bareRun}
+use Rattle.interpreter.specs.Claim.{pointOf, answerAt}
 use Rattle.interpreter.specs.StartLaws.{admitted}
-use Rattle.interpreter.specs.PointLaws.{never}
-use Rattle.interpreter.specs.Outcomes.{outcomeShown}
-use Rattle.turns.specs.Turns.{Routines, Runs, Schedule, sum, following, granted, served, after, received, turnTaken}
-use Rattle.turns.specs.TurnsLaws.{by-order, after-received, after-within, after-long, after-start, sum-least, sum-within, served-waiting, served-ended}
-use Rattle.turns.specs.TurnsLaws.{served-other, served-again, all-served}
-use Rattle.dispatcher.specs.Parts.{tableKind, directoryKind, valuesKind, window, partOf, startAt, lengthAt, spanOf, between, Replaced}
-use Rattle.dispatcher.specs.PartsLaws.{between-part, part-new, part-other, window-before, window-behind, drop-behind, starts-order}
-use Rattle.dispatcher.specs.Dispatch.{Lends, lentTo, sectionsAt, countOf, routinesOf, isSpent, stepsOf, shareCell, lowest, some, overlap, overlapsEarlier}
-use Rattle.dispatcher.specs.Dispatch.{firstOverlap, AsAlone, AllRan, receivedBy, stepsAfter, nextAfter, goesOn, memoryAfter, EachPoint}
+use Rattle.turns.specs.Turns.{Routines, Runs, Schedule, granted, after, received}
+use Rattle.turns.specs.TurnsLaws.{by-order, after-received, after-within, after-long, sum-least, sum-within, served-waiting, served-ended}
+use Rattle.seats.specs.Parts.{tableKind, directoryKind, valuesKind, partOf, startAt, lengthAt, between, Replaced}
+use Rattle.seats.specs.PartsLaws.{between-part, part-new, part-other, window-before, window-behind, drop-behind, starts-order}
+use Rattle.seats.specs.Lends.{Lends, lentTo, sectionsAt, countOf}
+use Rattle.dispatcher.specs.Dispatch.{routinesOf, isSpent, stepsOf, stepsAfter, nextAfter, goesOn, memoryAfter}
+use Rattle.seats.specs.Overlaps.{some}
 use Rattle.dispatcher.specs.InTurn.{InTurn, LeftOthers}
-use Rattle.dispatcher.specs.InTurnLaws.{made-most, made-all, made-more, launched-begins, values-count, turn-begins, others-turn, turn-reads, turn-steps}
-use Rattle.dispatcher.specs.InTurnLaws.{turn-prepared, turn-safe, turn-taken, turn-cells, turn-leaves, goes-alike, goes-leaves, made-same, in-turns}
-use Rattle.dispatcher.specs.InTurnLaws.{others-same, answer-steps}
-use Rattle.dispatcher.specs.Standing.{seatAt, nobody, placesOf, seated, InPlace, MayGoOn, MayTurn, endsAt, successorsAt, IsLaunched, AllLaunched}
-use Rattle.dispatcher.specs.Standing.{AllApart, Standing, GoneOn, Skipped, Turned}
-use Rattle.dispatcher.specs.declared.Seat.{Seat}
-use Rattle.dispatcher.specs.declared.Places.{Places}
+use Rattle.dispatcher.specs.InTurnLaws.{made-most, made-all, made-more, values-count, others-turn, turn-reads, turn-steps, turn-prepared, turn-safe}
+use Rattle.dispatcher.specs.InTurnLaws.{turn-taken, turn-cells, turn-leaves, others-same, answer-steps}
+use Rattle.seats.specs.Seats.{seatAt, nobody, placesOf, endsAt, successorsAt}
+use Rattle.dispatcher.specs.Standing.{seated, InPlace, MayGoOn, MayTurn, AllLaunched, Standing, GoneOn, Skipped, Turned}
+use Rattle.seats.specs.OverlapLaws.{AllApart}
+use Rattle.seats.specs.declared.Seat.{Seat}
+use Rattle.seats.specs.declared.Places.{Places}
 
 picked : (b : Bool) (x y : List ℕ) → b ≡ true → cond b x y ≡ x
 picked b x y e = ap (λ (c : Bool). cond c x y) e
 
 passed : (b : Bool) (x y : List ℕ) → b ≡ false → cond b x y ≡ y
 passed b x y e = ap (λ (c : Bool). cond c x y) e
-
--- ---- objects that do not overlap
-
-none-below : (f : ℕ → Bool) (n : ℕ) → some f n ≡ false → (i : ℕ) → i < n → f i ≡ false
-none-below f n e i l = go (f i) (holds-below (λ j. not (f j)) n (ltb-false (lowest f n) n e) i l)
-  where
-    go : (b : Bool) → not b ≡ true → b ≡ false
-    go true q = let z : _≡_ {A = ℕ} 0 1 = cc in never z
-    go false q = refl
-
-objects-apart : (D F : List ℕ) (n m : ℕ) → overlap D n F m ≡ false → (o k i : ℕ) → o < n → k < m → low D o ≤ i → i < high D o → low F k ≤ i → i < high F k → ⊥
-unfolding overlap
-objects-apart D F n m e o k i a b c d f g =
-    let x = none-below (λ j. shareCell D o F j) m (none-below (λ j. some (λ p. shareCell D j F p) m) n e o a) k b in
-    omega (arith, ltb-false (max (low D o) (low F k)) (min (high D o) (high F k)) x)
-
--- No routine overlaps an earlier one: no cell is of objects of two.
-pub all-apart : (l : Lends) → firstOverlap l ≡ countOf l → AllApart l
-unfolding firstOverlap overlapsEarlier
-all-apart l e r k a b d i c x = by-order r k
-    (λ u. objects-apart (lentTo l k .directory) (lentTo l r .directory) (sectionsAt l k .objects) (sectionsAt l r .objects) (pair k r b u)
-    (c .object) (x .object) i (c .chosen) (x .chosen) (c .above) (c .below) (x .above) (x .below))
-    (λ u. objects-apart (lentTo l r .directory) (lentTo l k .directory) (sectionsAt l r .objects) (sectionsAt l k .objects)
-    (pair r k a (by-order k r (λ (v : k < r). v) (λ v. absurd (d (omega arith)))))
-    (x .object) (c .object) i (x .chosen) (c .chosen) (x .above) (x .below) (c .above) (c .below))
-  where
-    pair : (p q : ℕ) → p < countOf l → q < p
-        → overlap (lentTo l p .directory) (sectionsAt l p .objects) (lentTo l q .directory) (sectionsAt l q .objects) ≡ false
-    pair p q a b =
-        none-below (λ j. overlap (lentTo l p .directory) (sectionsAt l p .objects) (lentTo l j .directory) (sectionsAt l j .objects)) p
-        (none-below (overlapsEarlier l) (countOf l) (le-ltb (firstOverlap l) (countOf l) (omega arith)) p a) q b
 
 -- ---- the routines by themselves
 

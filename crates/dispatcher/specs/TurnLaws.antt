@@ -1,19 +1,19 @@
 -- A turn in the words of the code: the parts that are lent and come back.
-use Prim.Native.Nat.{ℕ, _+_, _-_, _*_, _^_, _≤_, _<_}
-use mathlib.Core.Path.{_≡_, refl, sym, ap, _∙_}
+use Prim.Native.Nat.{ℕ, _+_, _-_, _*_, _≤_}
+use mathlib.Core.Path.{_≡_, refl, _∙_}
 use mathlib.Core.List.{List}
 use native.Mathlib.Omega.{arith}
 use lib.IntN.{ℤ}
 use lib.ListN.{length}
 use borrow.Rule.Slice.PartMut.{putMid, mid-len}
 use Rattle.answers.specs.declared.stops.Outcome.{Outcome}
-use Rattle.answers.specs.declared.stops.Outcome.the-variants.{Spent, Done, Stopped, Refused}
+use Rattle.answers.specs.declared.stops.Outcome.the-variants.{Spent}
 use Rattle.steps.specs.Bare.{Prepared}
 use Rattle.interpreter.specs.BareRun.{Ends, bareRun, SafeRun}
-use Rattle.dispatcher.specs.Parts.{window, between}
-use Rattle.dispatcher.specs.PartsLaws.{put-replaced}
-use Rattle.dispatcher.specs.Standing.{endsAt, successorsAt, InPlace, MayGoOn, MayTurn, GoneOn, Skipped, Turned}
-use Rattle.dispatcher.specs.declared.Seat.{Seat}
+use Rattle.seats.specs.Parts.{window, between}
+use Rattle.seats.specs.PartsLaws.{put-replaced}
+use Rattle.dispatcher.specs.Standing.{InPlace, MayGoOn, MayTurn, GoneOn, Turned}
+use Rattle.seats.specs.declared.Seat.{Seat}
 
 abbrev lentEnds : ℕ → List ℕ → List ℕ
 lentEnds r ends = window (512 * r) (512 * r + 512 - 512 * r) ends

@@ -1,50 +1,26 @@
 // The dispatcher: several routines in turn in one lent memory.
-mod overlaps; // overlaps.rt: cause 14
-mod parts; // parts.rt: where each routine's part lies
-mod seats; // seats.rt: each routine is checked and laid out
 mod turn; // turn.rt: one turn
 mod rounds; // rounds.rt: the turns, round by number
 
 use answers::refusals::Refusal;
-use answers::stops::Outcome;
-use overlaps::first_overlap;
 use rounds::take_turns;
 use seats::AllSeated;
+use seats::Seat;
 use seats::no_seat;
+use seats::overlaps::first_overlap;
 use seats::seat_all;
-use words::sections::Sections;
 ghost use mathlib.Core.Path.{_≡_};
 ghost use mathlib.Core.Bool.{true, _&&_};
 ghost use Prim.Native.Nat.{_/_, _%_};
 ghost use lib.Dec.{eqb, leb};
 ghost use lib.ListN.{length};
-ghost use Rattle.dispatcher.specs.Dispatch.{Promised, countOf, countRight, roomRight};
-ghost use Rattle.dispatcher.specs.Seats.{ReadyTo};
-ghost use Rattle.dispatcher.specs.Standing.{seatAt};
-
-// A part of a lent slice: the elements start to end - 1.
-pub struct Span {
-    pub start: usize,
-    pub end: usize,
-}
-
-// Where a routine's parts lie.
-pub struct Places {
-    pub table: Span,
-    pub directory: Span,
-    pub values: Span,
-}
-
-// A routine that is served: the sections of its table, its parts, and where it stands: what a run by itself with the steps that it has received answers.
-pub struct Seat {
-    pub sections: Sections,
-    pub places: Places,
-    pub outcome: Outcome,
-}
+ghost use Rattle.dispatcher.specs.Dispatch.{Promised, countRight, roomRight};
+ghost use Rattle.seats.specs.Lends.{countOf};
+ghost use Rattle.seats.specs.Seats.{ReadyTo, seatAt};
 
 // What a call says.
 pub enum Said {
-    // the scratch has another length
+    // too little room is lent for the set-up
     NoRoom,
     // 15: the count of routines or the quantum is out of range
     WrongCount,
@@ -61,11 +37,11 @@ pub struct Dispatched {
     pub seats: [Seat; 8],
 }
 
-// The lent scratch has room for eight routines.
+// The set-up of eight routines fits the room that is lent for it.
 fn room_right(ends: usize, successors: usize) -> bool
-    ensures { λ r. ⌜ r ≡ (eqb ends 4096 && eqb successors 16384) ⌝ }
+    ensures { λ r. ⌜ r ≡ (leb 4096 ends && leb 16384 successors) ⌝ }
 {
-    (ends == 4096) & (successors == 16384)
+    (4096 <= ends) & (16384 <= successors)
 }
 
 // Five lengths a routine, 1 to 8 routines, and a quantum of 1 to 1,000.
@@ -167,7 +143,7 @@ fn run_ready(
     }
 }
 
-// The count and the scratch are right: the routines by number, cause 14, then the turns.
+// The count is right, and the room is that of eight routines: the routines by number, cause 14, then the turns.
 fn dispatch_counted(
     tables: &[i32],
     listed: &[i32],
@@ -189,7 +165,7 @@ fn dispatch_counted(
       values = now values;
       origins = now origins;
       lengths = now lengths;
-    }) quantum ≡ true) × (roomRight (now ends) (now successors) ≡ true) ⌝ }
+    }) quantum ≡ true) × (length (now ends) ≡ 4096) × (length (now successors) ≡ 16384) ⌝ }
     ensures { λ r. ⌜ Promised true (record {
       tables = now (tables .entry);
       listed = now (listed .entry);
@@ -244,7 +220,8 @@ fn dispatch_counted(
 }
 
 // Runs several routines in turn, `quantum` steps a turn, `total` steps in all. Their parts come one after the other in the lent slices, with five lengths a
-// routine: table, list of loop facts, directory, values, origins. The scratch has 4,096 and 16,384 numbers. Cells and values are changed in place; a refusal changes nothing.
+// routine: table, list of loop facts, directory, values, origins. The room for the set-up has 4,096 and 16,384 numbers at least. Cells and values are
+// changed in place; a refusal changes nothing.
 pub fn dispatch(
     tables: &[i32],
     listed: &[i32],
@@ -282,8 +259,8 @@ pub fn dispatch(
         values,
         origins,
         lengths,
-        ends,
-        successors,
+        &mut ends[..4096],
+        &mut successors[..16384],
         quantum,
         total,
     )

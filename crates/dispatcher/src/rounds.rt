@@ -1,14 +1,14 @@
 // The turns, round by number.
-use crate::Seat;
 use crate::turn::steps_of;
 use crate::turn::take_turn;
+use seats::Seat;
 use turns::allowance;
 use turns::following_turn;
 ghost use mathlib.Core.Path.{_≡_};
 ghost use Prim.Native.Nat.{_<_};
 ghost use Rattle.dispatcher.specs.Dispatch.{AllRan};
-ghost use Rattle.dispatcher.specs.Standing.{TurnsAsk, seatAt};
-ghost use Rattle.dispatcher.specs.LoopLaws.{idleAfter};
+ghost use Rattle.dispatcher.specs.Standing.{TurnsAsk, idleAfter};
+ghost use Rattle.seats.specs.Seats.{seatAt};
 
 // The turns in a row that gave nothing, after one more.
 fn idle_after(idle: usize, made: u32) -> usize

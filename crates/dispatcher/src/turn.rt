@@ -1,7 +1,7 @@
 // One turn of a routine: it goes on in its own parts, or is skipped.
-use crate::Seat;
 use answers::stops::Outcome;
 use interpreter::runs::resume;
+use seats::Seat;
 ghost use mathlib.Core.Path.{_≡_};
 ghost use Rattle.answers.specs.Answers.{reads};
 ghost use Rattle.dispatcher.specs.Dispatch.{stepsOf};

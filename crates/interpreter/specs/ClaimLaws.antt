@@ -45,17 +45,13 @@ use Rattle.interpreter.specs.PointLaws.{never, lends, leaves, point, uns
 use Rattle.entry.specs.Entered.{entered}
 use Rattle.entry.specs.declared.EntryVerdict.{EntryVerdict}
 use Rattle.entry.specs.declared.EntryVerdict.the-variants as entry
-use Rattle.interpreter.specs.declared.Start.{Start}
-use Rattle.interpreter.specs.declared.Start.the-variants as begin
+use Rattle.interpreter.specs.Starts.{Small, Launched, First, Starts}
+use Rattle.interpreter.specs.declared.starts.Start.{Start}
+use Rattle.interpreter.specs.declared.starts.Start.the-variants as begin
 use Rattle.answers.specs.declared.stops.Outcome.the-variants as outcome
 use Rattle.answers.specs.declared.stops.Outcome.{Outcome}
 
 -- ---- the contract of `run`
-
--- The words that are lent are of 32 bits.
-pub record Small (cs vs : List ℕ) : Type 0 where
-  pub cells-small : (i : ℕ) → getD cs i 0 ≤ maxValue
-  pub values-small : (x : ℕ) → getD vs x 0 ≤ maxValue
 
 module _ (T : List ℤ) (h : Sections) (L : List ℤ) (formed : formOf T ≡ WellFormed h) (accepts : faults T L ≡ []) (D cs vs os : List ℕ) (small : Small cs vs)
     (none : entryRefusals h (environmentOf T h) D cs vs os ≡ []) where
@@ -119,16 +115,6 @@ begun-ran T h L D cs vs os limit r vs′ cs′ f e n a = rw (entry-only T h L D 
 
 -- ---- what the code has in hand where the loop begins
 
-pub record Launched (T : List ℤ) (h : Sections) (L : List ℤ) (D cs vs os W S : List ℕ) : Type 0 where
-  pub formed : formOf T ≡ WellFormed h
-  pub accepts : faults T L ≡ []
-  pub small : Small cs vs
-  pub none : entryRefusals h (environmentOf T h) D cs vs os ≡ []
-  pub ends : W ≡ endsOf (environmentOf T h) ownRows
-  pub slice : List ℕ
-  pub room : 2 * h .statements ≤ length slice
-  pub successors : S ≡ written (tableFlow T h) slice
-
 pub launched : {T : List ℤ} {h : Sections} {L : List ℤ} {D cs vs os W S : List ℕ} {E′ : Environment} {v : EntryVerdict} {b : Bool} (w : List ℕ)
     → formOf T ≡ WellFormed h → faults T L ≡ [] → Small cs vs → E′ ≡ environmentOf T h → v ≡ entered (entryRefusals h E′ D cs vs os) → v ≡ entry.Begun
     → W ≡ endsOf E′ ownRows
@@ -160,16 +146,7 @@ module _ {T : List ℤ} {h : Sections} {L : List ℤ} {D cs vs os W S : List ℕ
       begun-ran T h L D cs vs os limit r vs′ cs′ (begins .formed) (begins .accepts) (begins .none)
       (run-claim T h L (begins .formed) (begins .accepts) D cs vs os (begins .small) (begins .none) (begins .slice) (begins .room) limit r W′ vs′ cs′ (rw (z, begins .ends, begins .successors) at e))
 
--- ---- what a run begins with
-
--- The first fault is r.
-abbrev pub First : List Refusal → Refusal → Type 0
-First fs r = (rest : List Refusal) × (fs ≡ r ∷ rest)
-
--- What `prepare` promises, by the store's facts: the first fault, or what the loop begins with is laid out.
-abbrev pub Starts : Start → Lent → List ℕ → List ℕ → Type 0
-Starts (begin.Refused r) l W S = First (runFaults store l) r
-Starts (begin.Begun h) l W S = Launched (l .table) h (l .listed) (l .directory) (l .cells) (l .values) (l .origins) W S
+-- ---- refusals of `prepare`
 
 -- The verdict was a refusal.
 pub check-refused : (T L : List ℤ) (D cs vs os : List ℕ) (r : Refusal) → verdict.Refused r ≡ verdictOf (faults T L) → First (runFaults store (lends T L D cs vs os)) r
@@ -226,6 +203,26 @@ run-judged T L D cs vs os limit r vs′ cs′ a =
     decided _ _ (λ d c.
     same-run (runFaults store (lends T L D cs vs os)) (runFaults (byChains d) (lends T L D cs vs os)) T L D cs vs os limit r vs′ cs′
     (same-also (faults T L) (verdictRules.faults (byChains d) T L) _ _ (faults-agree T L d c) (λ z. same-self (entryFaults (formOf T) (lends T L D cs vs os)))) a)
+
+-- ---- of a routine that is begun or refused before it is served
+
+-- It is refused so with any allowance.
+pub refused-alone : (l : Lent) (r : Refusal) → First (runFaults store l) r → (limit : ℕ) → RunJudged l limit (leaves (outcome.Refused r) (l .values) (l .cells))
+refused-alone l r f limit = run-judged (l .table) (l .listed) (l .directory) (l .cells) (l .values) (l .origins) limit _ _ _ (first-refused l limit r f)
+
+none-same : (fs gs : List Refusal) → fs ≡ [] → SameFirst fs gs → gs ≡ []
+none-same [] [] e s = refl
+none-same [] (g ∷ gs) e s = absurd s
+none-same (f ∷ fs) gs e s = let z : _≡_ {A = ℕ} 0 1 = cc in never z
+
+-- What is launched begins.
+pub launched-begins : {T : List ℤ} {h : Sections} {L : List ℤ} {D cs vs os W S : List ℕ} → Launched T h L D cs vs os W S → Begins (lends T L D cs vs os)
+unfolding runFaults
+launched-begins {T} {h} {L} {D} {cs} {vs} {os} b =
+    decided T _ (λ d c.
+    none-same (runFaults store (lends T L D cs vs os)) (runFaults (byChains d) (lends T L D cs vs os))
+    (entry-only T h L D cs vs os (b .formed) (b .accepts) ∙ b .none)
+    (same-also (faults T L) (verdictRules.faults (byChains d) T L) _ _ (faults-agree T L d c) (λ z. same-self (entryFaults (formOf T) (lends T L D cs vs os)))))
 
 -- ---- the whole run
 

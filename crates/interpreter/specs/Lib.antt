@@ -8,9 +8,10 @@ pub mod AgreementLaws
 pub mod StartLaws
 pub mod NumberLaws
 pub mod Claim
-pub mod StartsLaws
+pub mod CopyLaws
 pub mod StepLaws
 pub mod PointLaws
+pub mod Starts
 pub mod ClaimLaws
 pub mod TwoRuns
 pub mod TwoRunsLaws

@@ -1,7 +1,7 @@
 -- `dispatcher::dispatch_counted` meets its contract: a routine is refused, or all are ready.
 use mathlib.Core.Path.{refl}
 use borrow.Author.Needs.{needs}
-use Rattle.dispatcher.specs.DispatchLaws.{count-is, room-facts, seated-ready, seated-refused, first-refusal}
+use Rattle.dispatcher.specs.DispatchLaws.{count-is, seated-ready, seated-refused, first-refusal}
 use Rattle.dispatcher.proofs.dispatch_counted.Statement.{statement}
 use Rattle.dispatcher.proofs.dispatch_counted.Tie as tie
 
@@ -11,9 +11,8 @@ dispatch-counted-spec =
     (tie.spec
     (λ c κs. (
       count-is _ _ (c .before .before .before .before .before .before .before .before .before .before .before .pre .0),
-      room-facts _ _ (c .before .before .before .before .before .before .before .before .before .before .before .pre .1) .0,
-      room-facts _ _
-          (c .before .before .before .before .before .before .before .before .before .before .before .pre .1) .1,
+      c .before .before .before .before .before .before .before .before .before .before .before .pre .1,
+      c .before .before .before .before .before .before .before .before .before .before .before .pre .2,
     ))
     (λ c. search needs)
     (λ c. search needs)

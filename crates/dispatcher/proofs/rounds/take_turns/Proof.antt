@@ -1,9 +1,8 @@
 -- `dispatcher::rounds::take_turns` meets its contract.
-use Prim.Native.Nat.{ℕ, _-_, _≤_, _<_, _*_, _+_}
-use mathlib.Core.Path.{_≡_, refl, sym, ap, _∙_}
+use Prim.Native.Nat.{_-_}
+use mathlib.Core.Path.{refl, sym, _∙_}
 use native.Mathlib.Omega.{arith}
 use borrow.Author.Needs.{needs}
-use lib.ListN.{length}
 use Rattle.dispatcher.specs.Standing.{Looping}
 use Rattle.dispatcher.specs.LoopLaws.{product-fits, loop-starts, turn-within, code-asks, code-grows, code-made, code-turns, loop-idle, loop-ends}
 use Rattle.dispatcher.proofs.rounds.take_turns.Statement.{statement}

@@ -1,5 +1,4 @@
 -- `dispatcher::turn::go_on` meets its contract: the parts of the routine are lent to `resume`.
-use native.Mathlib.Omega.{arith}
 use borrow.Author.Needs.{needs}
 use Rattle.dispatcher.specs.TurnLaws.{may-raw, gone-raw}
 use Rattle.dispatcher.proofs.turn.go_on.Statement.{statement}

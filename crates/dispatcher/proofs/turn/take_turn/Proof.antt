@@ -1,5 +1,5 @@
 -- `dispatcher::turn::take_turn` meets its contract.
-use mathlib.Core.Path.{refl, sym}
+use mathlib.Core.Path.{refl}
 use borrow.Author.Needs.{needs}
 use Rattle.dispatcher.specs.TurnLaws.{may-spent, turned-spent}
 use Rattle.dispatcher.proofs.turn.take_turn.Statement.{statement}

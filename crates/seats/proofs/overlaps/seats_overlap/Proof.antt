@@ -1,0 +1,20 @@
+-- `seats::overlaps::seats_overlap` meets its contract.
+use borrow.Author.Needs.{needs}
+use Rattle.seats.specs.OverlapLaws.{is-overlap}
+use Rattle.seats.proofs.overlaps.seats_overlap.Statement.{statement}
+use Rattle.seats.proofs.overlaps.seats_overlap.Tie as tie
+
+pub seats-overlap-spec : {M : Type 1} → statement M
+seats-overlap-spec =
+    tie.close
+    (tie.spec
+    (λ c. search needs)
+    (λ c. search needs)
+    (λ c. search needs)
+    (λ c. search needs)
+    (λ c. search needs)
+    (λ c. search needs)
+    (λ c. search needs)
+    (λ c. search needs)
+    (λ c κs. search needs)
+    (λ c. is-overlap _ _ _ (c .lowest-overlap .ensures)))
