@@ -127,7 +127,7 @@ pub record FirstRefused (l : Lends) (r : ℕ) (f : Refusal) : Type 0 where
   pub refuses : (limit : ℕ) → RunJudged (lentTo l r) limit (record { answer = outcome.Refused f; values = lentTo l r .values; cells = l .cells })
 
 -- THE PROMISE OF `dispatch`, by what it says. (Where less room is lent than the set-up takes, nothing is done: `NoRoom`.)
-abbrev pub Promised : Bool → Lends → ℕ → ℕ → Said → (ℕ → Outcome) → List ℕ → List ℕ → Type 0
+unfoldable pub Promised : Bool → Lends → ℕ → ℕ → Said → (ℕ → Outcome) → List ℕ → List ℕ → Type 0
 Promised room l quantum total said.NoRoom outcomes vs cs = (room ≡ false) × Unchanged l vs cs
 Promised room l quantum total said.WrongCount outcomes vs cs = (room ≡ true) × (countRight l quantum ≡ false) × Unchanged l vs cs
 Promised room l quantum total (said.Refused r f) outcomes vs cs = (room ≡ true) × (countRight l quantum ≡ true) × FirstRefused l r f × Unchanged l vs cs

@@ -15,7 +15,7 @@ use Rattle.table.specs.FormLaws.{well-formed}
 use Rattle.turns.specs.Turns.{Schedule, after}
 use Rattle.turns.specs.TurnsLaws.{after-start}
 use Rattle.seats.specs.Lends.{Lends, lentTo, countOf}
-use Rattle.dispatcher.specs.Dispatch.{countRight, roomRight, routinesOf, Promised, memoryAfter}
+use Rattle.dispatcher.specs.Dispatch.{countRight, roomRight, routinesOf, AllRan, Promised, memoryAfter}
 use Rattle.seats.specs.Overlaps.{lowest, firstOverlap}
 use Rattle.seats.specs.SeatOverlaps.{SeatsRight, seatOverlaps}
 use Rattle.seats.specs.OverlapLaws.{overlaps-lent, lowest-most}
@@ -108,15 +108,17 @@ module _ {l : Lends} {quantum : ℕ} {seats : List Seat} {ends S : List ℕ} (c 
   }
 
   -- 14.
-  pub ready-overlaps : {count m : ℕ} → countRight l quantum ≡ true → count ≡ countOf l → m ≡ lowest (seatOverlaps (l .directories) seats) count
-      → m < count → Promised true l quantum 0 (said.Overlaps m) (λ r. Done 0) (l .values) (l .cells)
-  ready-overlaps x e f b = (refl, x, (λ k i. launched-begins (R .ready k i .laid-out)), omega arith, ready-overlap e f, record { values = refl; cells = refl })
+  pub ready-overlaps : {count m : ℕ} (total : ℕ) (outcomes : ℕ → Outcome) → countRight l quantum ≡ true → count ≡ countOf l → m ≡ lowest (seatOverlaps (l .directories) seats) count
+      → m < count → Promised true l quantum total (said.Overlaps m) outcomes (l .values) (l .cells)
+  unfolding Promised
+  ready-overlaps total outcomes x e f b = (refl, x, (λ k i. launched-begins (R .ready k i .laid-out)), omega arith, ready-overlap e f, record { values = refl; cells = refl })
 
 -- ---- a routine that is refused
 
-pub first-refusal : (l : Lends) (quantum : ℕ) {r : ℕ} {f : Refusal} → countRight l quantum ≡ true → RefusedAt l r f
-    → Promised true l quantum 0 (said.Refused r f) (λ r. Done 0) (l .values) (l .cells)
-first-refusal l quantum {r} {f} x y = (
+pub first-refusal : (l : Lends) (quantum total : ℕ) (outcomes : ℕ → Outcome) {r : ℕ} {f : Refusal} → countRight l quantum ≡ true → RefusedAt l r f
+    → Promised true l quantum total (said.Refused r f) outcomes (l .values) (l .cells)
+unfolding Promised
+first-refusal l quantum total outcomes {r} {f} x y = (
   refl,
   x,
   record { within = y .within; earlier = y .earlier; refuses = λ limit. refused-alone (lentTo l r) f (y .first) limit },
@@ -139,9 +141,17 @@ module _ {l : Lends} {count : ℕ} {seats : List Seat} {ends S : List ℕ} (quan
   pub code-turns-ask : (total m : ℕ) → m ≡ lowest (seatOverlaps (l .directories) seats) count → count ≤ m → TurnsAsk l S count quantum total seats ends
   code-turns-ask total m f a = ready-turns (count-facts l quantum x) all-ready total e f a
 
-  pub code-overlaps : (m : ℕ) → m ≡ lowest (seatOverlaps (l .directories) seats) count → m < count
-      → Promised true l quantum 0 (said.Overlaps m) (λ r. Done 0) (l .values) (l .cells)
-  code-overlaps m f b = ready-overlaps (count-facts l quantum x) all-ready x e f b
+  pub code-overlaps : (total : ℕ) (outcomes : ℕ → Outcome) (m : ℕ) → m ≡ lowest (seatOverlaps (l .directories) seats) count → m < count
+      → Promised true l quantum total (said.Overlaps m) outcomes (l .values) (l .cells)
+  code-overlaps total outcomes m f b = ready-overlaps (count-facts l quantum x) all-ready total outcomes x e f b
+
+-- All ran.
+pub all-promised : (l : Lends) (quantum total : ℕ) (outcomes : ℕ → Outcome) (vs cs : List ℕ) → countRight l quantum ≡ true
+    → AllRan l quantum total outcomes vs cs → Promised true l quantum total said.Ran outcomes vs cs
+unfolding Promised
+all-promised l quantum total outcomes vs cs x a = (refl, x, a)
+
+-- ---- the count, the room and the first routine that is refused, in the words of the code
 
 pub count-is : (l : Lends) (quantum : ℕ) → countRight l quantum ≡ true → CountIs (length (l .lengths) / 5) (l .lengths)
 count-is l quantum x = record { counted = refl; few = count-facts l quantum x .few }
@@ -165,11 +175,13 @@ was-true false e = let z : _≡_ {A = ℕ} 0 1 = cc in absurd (omega arith)
 
 pub answers-no-room : (l : Lends) (ends S : List ℕ) (quantum total : ℕ) (s : Said) (outcomes : ℕ → Outcome) → roomRight ends S ≡ false → s ≡ said.NoRoom
     → Promised (roomRight ends S) l quantum total s outcomes (l .values) (l .cells)
+unfolding Promised
 answers-no-room l ends S quantum total s outcomes e f = rw f (e, record { values = refl; cells = refl })
 
 pub answers-count : (l : Lends) (ends S : List ℕ) (quantum total : ℕ) (s : Said) (outcomes : ℕ → Outcome) → roomRight ends S ≡ true
     → countRight l quantum ≡ false
     → s ≡ said.WrongCount → Promised (roomRight ends S) l quantum total s outcomes (l .values) (l .cells)
+unfolding Promised
 answers-count l ends S quantum total s outcomes r e f = rw f (r, e, record { values = refl; cells = refl })
 
 pub room-is : (ends S : List ℕ) (b : Bool) → b ≡ (leb 4096 (length ends) && leb 16384 (length S)) → b ≡ roomRight ends S

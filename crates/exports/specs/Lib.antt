@@ -1,3 +1,5 @@
 pub mod Words
 pub mod Numbers
 pub mod WordLaws
+pub mod DispatchWords
+pub mod DispatchLaws

@@ -26,7 +26,7 @@ dispatch-counted-spec =
     (λ c. search needs)
     (λ c. search needs)
     (λ c. search needs)
-    (λ c. first-refusal _ _ (c .before .before .before .before .before .before .before .before .before .before .before .before .before .before .before .before .before .before .before .before .pre .0) (seated-refused _ _ _ _ _ (c .before .seated .given .1)
+    (λ c. first-refusal _ _ _ _ (c .before .before .before .before .before .before .before .before .before .before .before .before .before .before .before .before .before .before .before .before .pre .0) (seated-refused _ _ _ _ _ (c .before .seated .given .1)
     (c .before .before .before .before .before .before .before .before .seat-all .ensures)))
     (λ c. search needs)
     (λ c. search needs)
