@@ -1,23 +1,17 @@
--- Document 02, point 5, "Several routines in turn": what a call of `dispatch` is lent, what refuses it, and what it promises.
-use Prim.Native.Nat.{ℕ, zero, suc, _+_, _*_, _%_, _<_}
+-- Document 02, point 5, "Several routines in turn": what refuses a call of `dispatch`, and what it promises.
+use Prim.Native.Nat.{ℕ, _%_, _<_}
 use mathlib.Core.Path.{_≡_}
-use mathlib.Core.Bool.{Bool, true, false, _&&_, cond}
+use mathlib.Core.Bool.{Bool, true, false, _&&_}
 use mathlib.Core.List.{List}
 use lib.Dec.{leb, eqb}
-use lib.ListN.{length, getD, drop}
-use Rattle.answers.specs.Answers.{Answer, done, spent, stopped, refused}
+use lib.ListN.{length}
 use Rattle.answers.specs.declared.refusals.Refusal.{Refusal}
 use Rattle.answers.specs.declared.stops.Outcome.{Outcome}
 use Rattle.answers.specs.declared.stops.Outcome.the-variants as outcome
-use Rattle.rules.specs.Verdict.{environmentOf}
-use Rattle.machine.specs.Machine.{Point, pointAfter}
-use Rattle.machine.specs.Points.{Outside}
-use Rattle.machine.specs.Frame.{SameCells, Own, Alike, withCells}
-use Rattle.interpreter.specs.Claim.{RunJudged, Begins, pointOf, answerAt}
-use Rattle.turns.specs.Turns.{Routines, received, after, granted, ServedAgain, AllServed}
-use Rattle.seats.specs.Lends.{Lends, lentTo, sectionsAt, countOf}
-use Rattle.seats.specs.Overlaps.{firstOverlap}
-use Rattle.seats.specs.Parts.{valuesKind, partOf, startAt}
+use Rattle.interpreter.specs.Claim.{RunJudged, Begins}
+use Rattle.seats.specs.Lends.{Lends, lentTo, countOf}
+use Rattle.overlaps.specs.Overlaps.{firstOverlap}
+use Rattle.rounds.specs.Rounds.{AllRan}
 use Rattle.dispatcher.specs.declared.Said.{Said}
 use Rattle.dispatcher.specs.declared.Said.the-variants as said
 
@@ -31,89 +25,7 @@ countRight l quantum = eqb (length (l .lengths) % 5) 0 && leb 1 (countOf l) && l
 unfoldable pub roomRight : List ℕ → List ℕ → Bool
 roomRight ends successors = leb 4096 (length ends) && leb 16384 (length successors)
 
--- ---- the turns
-
--- "skips those that ended": a run that is spent has not ended.
-abbrev pub isSpent : Answer → Bool
-isSpent (done n) = false
-isSpent (spent n s) = true
-isSpent (stopped n s k) = false
-isSpent (refused n p q) = false
-
-abbrev pub stepsOf : Answer → ℕ
-stepsOf (done n) = n
-stepsOf (spent n s) = n
-stepsOf (stopped n s k) = n
-stepsOf (refused n p q) = 0
-
--- The routines, by what a run of each by itself answers with an allowance, lent the memory as it is at the start.
-abbrev pub routinesOf : Lends → Routines
-routinesOf l = record {
-  count = countOf l;
-  waits = λ r t. isSpent (answerAt (lentTo l r) (sectionsAt l r) t);
-  made = λ r t. stepsOf (answerAt (lentTo l r) (sectionsAt l r) t);
-}
-
--- The steps that routine r receives.
-abbrev pub receivedBy : Lends → ℕ → ℕ → ℕ → ℕ
-receivedBy l quantum total r = getD (received (routinesOf l) quantum total) r 0
-
--- ---- the shared memory: "one lent memory", in which each routine goes on in its turns
-
-module _ (l : Lends) (quantum total : ℕ) where
-  -- The steps that each has received after k turns, and whose turn is next.
-  abbrev pub stepsAfter : ℕ → ℕ → ℕ
-  stepsAfter k r = getD (after (routinesOf l) quantum total k .received) r 0
-
-  abbrev pub nextAfter : ℕ → ℕ
-  nextAfter k = after (routinesOf l) quantum total k .next
-
-  -- The plain machine of routine r after s steps more from where it stands by itself after t steps, but in the memory M.
-  abbrev pub goesOn : ℕ → ℕ → ℕ → List ℕ → Point
-  goesOn r t s M =
-      pointAfter (lentTo l r .table) (sectionsAt l r) (environmentOf (lentTo l r .table) (sectionsAt l r)) (lentTo l r .directory) s
-      (withCells (pointOf (lentTo l r) (sectionsAt l r) t) M)
-
-  -- The memory after k turns: a turn leaves what the plain machine leaves that goes on in it; one that ended is skipped.
-  unfoldable pub memoryAfter : ℕ → List ℕ
-  memoryAfter zero = l .cells
-  memoryAfter (suc k) =
-      cond (routinesOf l .waits (nextAfter k) (stepsAfter k (nextAfter k)))
-      (goesOn (nextAfter k) (stepsAfter k (nextAfter k)) (granted (routinesOf l) quantum total (after (routinesOf l) quantum total k .received))
-      (memoryAfter k) .cells)
-      (memoryAfter k)
-
-  -- "What the mission says of a run holds for each of them": at each of its points in the shared memory, s steps into the turn that follows k turns, a routine
-  -- stands where its run by itself stands after as many steps, but for cells of others; for that run demand 3 is in `AsAlone`.
-  abbrev pub EachPoint : Type 0
-  EachPoint = (k s : ℕ) → Alike (lentTo l (nextAfter k) .directory) (Own (sectionsAt l (nextAfter k)))
-      (pointOf (lentTo l (nextAfter k)) (sectionsAt l (nextAfter k)) (stepsAfter k (nextAfter k) + s))
-      (goesOn (nextAfter k) (stepsAfter k (nextAfter k)) s (memoryAfter k))
-
 -- ---- the promise
-
--- "Each routine's answer, values and own cells are those of a run by itself with the steps it received. What the mission says of a run holds for each of
--- them": t steps of routine r, which answers o and leaves the values vs; cs is the memory then.
-pub record AsAlone (l : Lends) (r t : ℕ) (o : Outcome) (vs cs : List ℕ) : Type 0 where
-  pub alone : List ℕ
-  pub run : RunJudged (lentTo l r) t (record { answer = o; values = vs; cells = alone })
-  pub own-cells : SameCells (lentTo l r .directory) (Own (sectionsAt l r)) alone cs
-
--- Nothing refuses the call: all routines run.
-pub record AllRan (l : Lends) (quantum total : ℕ) (outcomes : ℕ → Outcome) (vs cs : List ℕ) : Type 0 where
-  pub begin : (r : ℕ) → r < countOf l → Begins (lentTo l r)
-  pub apart : firstOverlap l ≡ countOf l
-  pub as-alone : (r : ℕ) → r < countOf l → AsAlone l r (receivedBy l quantum total r) (outcomes r) (partOf (l .lengths) valuesKind r vs) cs
-  pub memory : cs ≡ memoryAfter l quantum total (countOf l * total)
-  pub each-point : EachPoint l quantum total
-  -- "one that waits is served again after at most (n - 1) times Q steps of the others, unless the total runs out"; in the end nobody waits, or it has run out.
-  pub served-again : (k r : ℕ) → r < countOf l → ServedAgain (routinesOf l) quantum total k r
-  pub all-served : AllServed (routinesOf l) quantum total
-  -- Cells of nobody's objects, and values behind all parts, are as they were.
-  pub nobodys-cells : (i : ℕ) → ((r : ℕ) → r < countOf l → Outside (lentTo l r .directory) (sectionsAt l r .objects) i) → getD cs i 0 ≡ getD (l .cells) i 0
-  pub nobodys-values : drop (startAt (l .lengths) valuesKind (countOf l)) vs ≡ drop (startAt (l .lengths) valuesKind (countOf l)) (l .values)
-  pub cells-long : length cs ≡ length (l .cells)
-  pub values-long : length vs ≡ length (l .values)
 
 pub record Unchanged (l : Lends) (vs cs : List ℕ) : Type 0 where
   pub values : vs ≡ l .values

@@ -9,21 +9,21 @@ use lib.Dec.{leb, eqb}
 use lib.ListN.{length, getD, getD-replicate}
 use Rattle.answers.specs.declared.refusals.Refusal.{Refusal}
 use Rattle.answers.specs.declared.stops.Outcome.{Outcome}
-use Rattle.answers.specs.declared.stops.Outcome.the-variants.{Done}
 use Rattle.words.specs.SectionsLaws.{both}
 use Rattle.table.specs.FormLaws.{well-formed}
 use Rattle.turns.specs.Turns.{Schedule, after}
 use Rattle.turns.specs.TurnsLaws.{after-start}
 use Rattle.seats.specs.Lends.{Lends, lentTo, countOf}
-use Rattle.dispatcher.specs.Dispatch.{countRight, roomRight, routinesOf, AllRan, Promised, memoryAfter}
-use Rattle.seats.specs.Overlaps.{lowest, firstOverlap}
-use Rattle.seats.specs.SeatOverlaps.{SeatsRight, seatOverlaps}
-use Rattle.seats.specs.OverlapLaws.{overlaps-lent, lowest-most}
+use Rattle.dispatcher.specs.Dispatch.{countRight, roomRight, Promised}
+use Rattle.rounds.specs.Rounds.{routinesOf, AllRan, memoryAfter}
+use Rattle.overlaps.specs.Overlaps.{lowest, firstOverlap}
+use Rattle.overlaps.specs.SeatOverlaps.{SeatsRight, seatOverlaps}
+use Rattle.overlaps.specs.OverlapLaws.{overlaps-lent, lowest-most}
 use Rattle.interpreter.specs.ClaimLaws.{launched-begins, refused-alone}
-use Rattle.dispatcher.specs.InTurnLaws.{turn-begins, relaid}
+use Rattle.rounds.specs.InTurnLaws.{turn-begins, relaid}
 use Rattle.seats.specs.Seats.{seatAt, startSeat, Ready, ReadyTo, RefusedAt, AllSeatedAs, CountIs}
-use Rattle.dispatcher.specs.Standing.{AllLaunched, Standing, TurnsAsk}
-use Rattle.dispatcher.specs.StandingLaws.{routines-run}
+use Rattle.rounds.specs.Standing.{AllLaunched, Standing, TurnsAsk}
+use Rattle.rounds.specs.StandingLaws.{routines-run}
 use Rattle.seats.specs.declared.AllSeated.{AllSeated}
 use Rattle.seats.specs.declared.AllSeated.the-variants as all
 use Rattle.seats.specs.declared.Seat.{Seat}
@@ -108,10 +108,12 @@ module _ {l : Lends} {quantum : ℕ} {seats : List Seat} {ends S : List ℕ} (c 
   }
 
   -- 14.
-  pub ready-overlaps : {count m : ℕ} (total : ℕ) (outcomes : ℕ → Outcome) → countRight l quantum ≡ true → count ≡ countOf l → m ≡ lowest (seatOverlaps (l .directories) seats) count
+  pub ready-overlaps : {count m : ℕ} (total : ℕ) (outcomes : ℕ → Outcome) → countRight l quantum ≡ true → count ≡ countOf l
+      → m ≡ lowest (seatOverlaps (l .directories) seats) count
       → m < count → Promised true l quantum total (said.Overlaps m) outcomes (l .values) (l .cells)
   unfolding Promised
-  ready-overlaps total outcomes x e f b = (refl, x, (λ k i. launched-begins (R .ready k i .laid-out)), omega arith, ready-overlap e f, record { values = refl; cells = refl })
+  ready-overlaps total outcomes x e f b =
+      (refl, x, (λ k i. launched-begins (R .ready k i .laid-out)), omega arith, ready-overlap e f, record { values = refl; cells = refl })
 
 -- ---- a routine that is refused
 

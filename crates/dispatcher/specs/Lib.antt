@@ -1,9 +1,2 @@
 pub mod Dispatch
-pub mod InTurn
-pub mod InTurnLaws
-pub mod Standing
-pub mod StandingLaws
-pub mod SharedLaws
-pub mod TurnLaws
-pub mod LoopLaws
 pub mod DispatchLaws

@@ -1,13 +1,10 @@
 // The dispatcher: several routines in turn in one lent memory.
-mod turn; // turn.rt: one turn
-mod rounds; // rounds.rt: the turns, round by number
-
 use answers::refusals::Refusal;
+use overlaps::first_overlap;
 use rounds::take_turns;
 use seats::AllSeated;
 use seats::Seat;
 use seats::no_seat;
-use seats::overlaps::first_overlap;
 use seats::seat_all;
 ghost use mathlib.Core.Path.{_≡_};
 ghost use mathlib.Core.Bool.{true, _&&_};

@@ -80,7 +80,8 @@ module _ (f : ℕ → Answer) (n : ℕ) (w : List ℕ) {w′ : List ℕ} where
   unfolding dispatchWords
   refused-said e ek ea ei eb ej ec p = rw (e, ← ek, ← ea, ← ei, ← eb, ← ej, ← ec) (refl, p)
 
-  pub overlaps-said : {s : Said} {r a : ℕ} → s ≡ said.Overlaps r → a ≡ wordOf r → w′ ≡ putFive w 3 14 a a 0 → (true ≡ isAnswered s) × (w′ ≡ dispatchWords s f n w)
+  pub overlaps-said : {s : Said} {r a : ℕ} → s ≡ said.Overlaps r → a ≡ wordOf r → w′ ≡ putFive w 3 14 a a 0
+      → (true ≡ isAnswered s) × (w′ ≡ dispatchWords s f n w)
   unfolding dispatchWords
   overlaps-said e x p = rw (e, ← x) (refl, p)
 

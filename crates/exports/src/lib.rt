@@ -1,5 +1,5 @@
 // What C and Rust link: the check and the run on lent slices, with the answer as words in a lent slice (include/mizzengrape.h).
-mod dispatch; // dispatch.rt: several routines in turn
+pub mod dispatch; // dispatch.rt: several routines in turn
 
 use answers::stops::Outcome;
 use answers::stops::check_number;

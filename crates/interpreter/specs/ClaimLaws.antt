@@ -107,8 +107,8 @@ unfolding entered
 entered-none [] e = refl
 entered-none (r ∷ rs) e = cc
 
-pub begun-ran : (T : List ℤ) (h : Sections) (L : List ℤ) (D cs vs os : List ℕ) (limit : ℕ) (r : Outcome) (vs′ cs′ : List ℕ) → formOf T ≡ WellFormed h → faults T L ≡ []
-    → entryRefusals h (environmentOf T h) D cs vs os ≡ [] → Ran (lends T L D cs vs os) (sectionsOf T) limit (leaves r vs′ cs′)
+pub begun-ran : (T : List ℤ) (h : Sections) (L : List ℤ) (D cs vs os : List ℕ) (limit : ℕ) (r : Outcome) (vs′ cs′ : List ℕ)
+    → formOf T ≡ WellFormed h → faults T L ≡ [] → entryRefusals h (environmentOf T h) D cs vs os ≡ [] → Ran (lends T L D cs vs os) (sectionsOf T) limit (leaves r vs′ cs′)
     → RunAnswer (runFaults store (lends T L D cs vs os)) (lends T L D cs vs os) limit (leaves r vs′ cs′)
 unfolding RunAnswer
 begun-ran T h L D cs vs os limit r vs′ cs′ f e n a = rw (entry-only T h L D cs vs os f e, n) a
@@ -144,12 +144,14 @@ module _ {T : List ℤ} {h : Sections} {L : List ℤ} {D cs vs os W S : List ℕ
   launched-ran {r} {W′} {vs′} {cs′} e =
       let z : limit - 0 ≡ limit = omega arith in
       begun-ran T h L D cs vs os limit r vs′ cs′ (begins .formed) (begins .accepts) (begins .none)
-      (run-claim T h L (begins .formed) (begins .accepts) D cs vs os (begins .small) (begins .none) (begins .slice) (begins .room) limit r W′ vs′ cs′ (rw (z, begins .ends, begins .successors) at e))
+      (run-claim T h L (begins .formed) (begins .accepts) D cs vs os (begins .small) (begins .none) (begins .slice) (begins .room) limit r
+      W′ vs′ cs′ (rw (z, begins .ends, begins .successors) at e))
 
 -- ---- refusals of `prepare`
 
 -- The verdict was a refusal.
-pub check-refused : (T L : List ℤ) (D cs vs os : List ℕ) (r : Refusal) → verdict.Refused r ≡ verdictOf (faults T L) → First (runFaults store (lends T L D cs vs os)) r
+pub check-refused : (T L : List ℤ) (D cs vs os : List ℕ) (r : Refusal) → verdict.Refused r ≡ verdictOf (faults T L)
+    → First (runFaults store (lends T L D cs vs os)) r
 unfolding runFaults also verdictOf
 check-refused T L D cs vs os r a = go (faults T L) a
   where
@@ -202,7 +204,8 @@ unfolding RunJudged runFaults
 run-judged T L D cs vs os limit r vs′ cs′ a =
     decided _ _ (λ d c.
     same-run (runFaults store (lends T L D cs vs os)) (runFaults (byChains d) (lends T L D cs vs os)) T L D cs vs os limit r vs′ cs′
-    (same-also (faults T L) (verdictRules.faults (byChains d) T L) _ _ (faults-agree T L d c) (λ z. same-self (entryFaults (formOf T) (lends T L D cs vs os)))) a)
+    (same-also (faults T L) (verdictRules.faults (byChains d) T L) _ _ (faults-agree T L d c)
+    (λ z. same-self (entryFaults (formOf T) (lends T L D cs vs os)))) a)
 
 -- ---- of a routine that is begun or refused before it is served
 

@@ -57,8 +57,8 @@ startSeat l r = record { sections = sectionsAt l r; places = placesOf l r; outco
 
 abbrev pub LaidOut : Lends → ℕ → List ℕ → List ℕ → Type 0
 LaidOut l r ends S =
-    Launched (lentTo l r .table) (sectionsAt l r) (lentTo l r .listed) (lentTo l r .directory) (l .cells) (lentTo l r .values) (lentTo l r .origins) (endsAt ends r)
-    (successorsAt S r)
+    Launched (lentTo l r .table) (sectionsAt l r) (lentTo l r .listed) (lentTo l r .directory) (l .cells) (lentTo l r .values) (lentTo l r .origins)
+    (endsAt ends r) (successorsAt S r)
 
 -- What becomes of routine r: its run alone is refused, or it has a seat.
 abbrev pub SeatedAs : Seated → Lends → ℕ → List ℕ → List ℕ → Type 0

@@ -1,5 +1,4 @@
 // Before the turns: each routine is checked as its run alone checks it, and what its run needs is laid out.
-pub mod overlaps; // overlaps.rt: cause 14
 mod parts; // parts.rt: where each routine's part lies
 
 use answers::refusals::Refusal;
