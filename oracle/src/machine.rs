@@ -100,6 +100,11 @@ impl<'a> Machine<'a> {
         self.values
     }
 
+    /// The origins of the pointers then.
+    pub fn origins(&self) -> &[u32] {
+        &self.origins
+    }
+
     /// Goes on to its end, or until it has made so many steps in all: done before spent, spent before stopped. A run
     /// that is spent can go on with a greater limit.
     pub fn go(&mut self, cells: &mut [u32], limit: u64) -> RunAnswer {

@@ -9,6 +9,7 @@ pub mod image;
 mod lexer;
 pub mod library;
 pub mod map;
+mod memory;
 pub mod names;
 mod parser;
 pub mod printer;

@@ -5,6 +5,8 @@ use crate::diagnostics::{Pos, Span};
 #[derive(Clone, Debug, Default)]
 pub struct Map {
     pub objects: Vec<Pos>,
+    /// The dimensions that each object is declared with.
+    pub dimensions: Vec<Vec<u32>>,
     pub routines: Vec<RoutineMap>,
 }
 

@@ -145,6 +145,19 @@ pub enum Relation {
     NotEqual,
 }
 
+impl Relation {
+    pub fn holds(self, a: u32, b: u32) -> bool {
+        match self {
+            Relation::Less => a < b,
+            Relation::GreaterEqual => a >= b,
+            Relation::Greater => a > b,
+            Relation::LessEqual => a <= b,
+            Relation::Equal => a == b,
+            Relation::NotEqual => a != b,
+        }
+    }
+}
+
 pub const RELATIONS: [(&str, Relation); 6] = [
     ("<", Relation::Less),
     (">=", Relation::GreaterEqual),

@@ -247,7 +247,7 @@ fn a_trace_shows_the_bounds() {
     };
     let trace = run("p = o + 1; n = 3;", true);
     let expected = "\
-#1 r.c:4:5  0 dynamic_check(n > 2);
+#1 r.c:4:5  0 dynamic_check(n > 2);    3 > 2, yes
 #2 r.c:5:5  1 where p : count(2);      bounds of p: count(n) -> count(2) (cells 2 to 3)
 #3 r.c:6:5  2 where p : count(1);      bounds of p: count(2) -> count(1) (cell 2)
 #4 r.c:7:5  3 x = p[1];

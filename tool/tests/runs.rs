@@ -19,10 +19,10 @@ const LAST_ROW: &str = "first at 1 = { 11, 12, 13, 0 }; row = first + 3; rows = 
 fn a_trace_has_a_line_a_step() {
     let folder = Folder::new("trace");
     let expected = "\
-#1 routine.c:8:5   0 dynamic_check(rows > 0);
+#1 routine.c:8:5   0 dynamic_check(rows > 0);    1 > 0, yes
 #2 routine.c:9:5   1 row[0] = boat;              first[3] (cell 4): 0 -> 77
 #3 routine.c:10:5  2 bundled
-#4 routine.c:11:9  3 row = row + 1;              row: 4 -> 5
+#4 routine.c:11:9  3 row = row + 1;              row: first + 3 -> first + 4
 #5 routine.c:12:9  4 rows = rows - 1;            rows: 1 -> 0
 done after 5 steps
 ";
@@ -37,7 +37,8 @@ done after 5 steps
 #[test]
 fn a_run_says_what_changed() {
     let folder = Folder::new("changes");
-    let changes = "done after 5 steps\nrow: 4 -> 5\nrows: 1 -> 0\nfirst[3] (cell 4): 0 -> 77\n";
+    let changes =
+        "done after 5 steps\nrow: first + 3 -> first + 4\nrows: 1 -> 0\nfirst[3] (cell 4): 0 -> 77\n";
     assert_eq!(folder.call(&["run"], &first_club(), LAST_ROW).out, changes);
     let short = folder.call(&["run", "--short"], &first_club(), LAST_ROW);
     assert_eq!(short.out, "done 5\nvalues: 5 0 77\ncells: 0 11 12 13 77 0 0 0 0 0 0 0 0\n");
@@ -48,7 +49,8 @@ fn a_spent_run_names_the_next_line() {
     let folder = Folder::new("spent");
     let output = folder.call(&["run", "--allowance", "3"], &first_club(), LAST_ROW);
     let line = "routine.c:11:9: spent: the allowance of 3 steps is used; line 11 is next\n";
-    assert_eq!(output.err, format!("{line}        row = row + 1;\n        ^\n"));
+    let bundle = "note: this is inside of the bundle of line 10; all bounds are true here\n";
+    assert_eq!(output.err, format!("{line}        row = row + 1;\n        ^\n{bundle}"));
     assert_eq!(
         (output.out.as_str(), output.status),
         ("spent after 3 steps\nfirst[3] (cell 4): 0 -> 77\n", 4)
@@ -65,7 +67,9 @@ fn a_trace_ends_as_its_run_does() {
     // The reason comes last, behind the steps.
     assert_eq!((whole.err.as_str(), whole.end.as_str(), whole.status), ("", stop, 3));
     assert!(
-        whole.out.ends_with("#6 routine.c:6:5  2 dynamic_check(m > 0);\nstopped after 6 steps\n"),
+        whole
+            .out
+            .ends_with("#6 routine.c:6:5  2 dynamic_check(m > 0);    0 > 0, no\nstopped after 6 steps\n"),
         "{}",
         whole.out
     );

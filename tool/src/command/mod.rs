@@ -8,6 +8,8 @@ mod dis;
 mod explain;
 mod facts;
 mod run;
+mod session;
+mod trace;
 
 use crate::diagnostics::without_controls;
 use crate::program::Program;
@@ -92,30 +94,42 @@ A FILE ending in .tbl is a table, .words a table in decimal words, all others ar
 wrong, 3 stopped, 4 spent, 5 the two implementations differ.
 ";
 
-type Call = fn(&Arguments) -> Result<Output, String>;
+/// How a command answers: when all is done, or line by line to standard output as it goes on.
+enum Call {
+    AtOnce(fn(&Arguments) -> Result<Output, String>),
+    AsItGoes(fn(&Arguments, &mut dyn Write) -> Result<Output, String>),
+}
 
 /// Each command with its usage.
 const COMMANDS: [(&str, &Usage, Call); 8] = [
-    ("check", &check::USAGE, check::check),
-    ("asm", &asm::USAGE, asm::asm),
-    ("dis", &dis::DIS_USAGE, dis::dis),
-    ("fmt", &dis::FMT_USAGE, dis::fmt),
-    ("run", &run::RUN_USAGE, run::run),
-    ("trace", &run::TRACE_USAGE, run::trace),
-    ("explain", &explain::USAGE, explain::explain),
-    ("facts", &facts::USAGE, facts::facts),
+    ("check", &check::USAGE, Call::AtOnce(check::check)),
+    ("asm", &asm::USAGE, Call::AtOnce(asm::asm)),
+    ("dis", &dis::DIS_USAGE, Call::AtOnce(dis::dis)),
+    ("fmt", &dis::FMT_USAGE, Call::AtOnce(dis::fmt)),
+    ("run", &run::USAGE, Call::AtOnce(run::run)),
+    ("trace", &trace::USAGE, Call::AsItGoes(trace::trace)),
+    ("explain", &explain::USAGE, Call::AtOnce(explain::explain)),
+    ("facts", &facts::USAGE, Call::AtOnce(facts::facts)),
 ];
 
-/// The command with these arguments. What it says of a text or a file is no more than text.
+/// The command with these arguments, all that it prints kept.
 pub fn call(arguments: &[String]) -> Output {
-    let mut output = answer(arguments);
+    let mut lines = Vec::new();
+    let mut output = call_into(arguments, &mut lines);
+    output.out.insert_str(0, &String::from_utf8_lossy(&lines));
+    output
+}
+
+/// The command with these arguments; a listing is written as it goes on. What is said of a text or a file is no more than text.
+pub fn call_into(arguments: &[String], out: &mut dyn Write) -> Output {
+    let mut output = answer(arguments, out);
     for said in [&mut output.err, &mut output.end] {
         *said = without_controls(said);
     }
     output
 }
 
-fn answer(arguments: &[String]) -> Output {
+fn answer(arguments: &[String], out: &mut dyn Write) -> Output {
     let [name, rest @ ..] = arguments else { return Output::wrong(HELP.to_string()) };
     if matches!(name.as_str(), "--help" | "-h" | "help") {
         return Output::help(HELP);
@@ -131,6 +145,10 @@ fn answer(arguments: &[String]) -> Output {
     }
     match Arguments::read(rest, usage) {
         Err(message) => Output::wrong(format!("error: {message}; `mizzengrape {name} --help` tells more\n")),
-        Ok(arguments) => command(&arguments).unwrap_or_else(Output::wrong),
+        Ok(arguments) => match command {
+            Call::AtOnce(command) => command(&arguments),
+            Call::AsItGoes(command) => command(&arguments, out),
+        }
+        .unwrap_or_else(Output::wrong),
     }
 }

@@ -2,13 +2,16 @@
 
 mod advice;
 mod bounds;
+pub mod bundle;
 mod draft;
+pub mod drawing;
 mod entry;
 mod facts;
 mod form;
 mod listed;
 mod lost;
 pub mod pages;
+mod replay;
 mod report;
 mod rows;
 mod state;
@@ -27,6 +30,7 @@ use crate::rows::InForce;
 use draft::Draft;
 use oracle::answer::{CheckAnswer, RunInput};
 use oracle::checker::Value;
+pub use replay::{same_end, Replay};
 pub use report::{access, report};
 pub use state::state;
 use walk::Walk;
@@ -287,21 +291,35 @@ fn agree(verdict: &Verdict, answer: &CheckAnswer) -> bool {
 /// Longer runs are not run a second time.
 const MOST_COMPARED: u32 = 10_000_000;
 
-/// How the second implementation ends a run, where that is another end than the proved one or leaves other values or cells.
-pub fn other_run(
+/// A run as the second implementation makes it.
+#[derive(Debug, Default, PartialEq, Eq)]
+pub struct SecondRun {
+    /// How it ends, where that is another end than the proved one or leaves other values or cells.
+    pub other: Option<String>,
+    /// Where the pointers belong at its end; none where it was not made.
+    pub origins: Option<Vec<u32>>,
+}
+
+pub fn second_run(
     (table, facts): (&[i32], &[i32]),
     lent: &Lent,
     outcome: &Outcome,
     left: &Lent,
-) -> Option<String> {
+) -> SecondRun {
     if steps(outcome) > MOST_COMPARED {
-        return None;
+        return SecondRun::default();
     }
-    let Lent { directory, cells, values, origins, allowance } = lent.clone();
-    let mut input = RunInput { directory, cells, values, origins, allowance };
-    let answer = oracle::machine::run_with_facts(table, facts, &mut input).to_string();
-    let same = answer == outcome.to_string() && input.values == left.values && input.cells == left.cells;
-    (!same).then_some(answer)
+    let replay = Replay::new(table, facts, lent).filter(|_| !matches!(outcome, Outcome::Refused(_)));
+    let Some(mut replay) = replay else {
+        let Lent { directory, cells, values, origins, allowance } = lent.clone();
+        let mut input = RunInput { directory, cells, values, origins, allowance };
+        let answer = oracle::machine::run_with_facts(table, facts, &mut input).to_string();
+        return SecondRun { other: (answer != outcome.to_string()).then_some(answer), origins: None };
+    };
+    let (mut machine, cells) = replay.begin();
+    let answer = machine.go(cells, u64::from(lent.allowance));
+    let same = same_end(&answer, machine.values(), cells, outcome, left);
+    SecondRun { other: (!same).then(|| answer.to_string()), origins: Some(machine.origins().to_vec()) }
 }
 
 #[cfg(test)]
@@ -323,7 +341,7 @@ mod tests {
         let lent =
             Lent { cells: vec![0], values: vec![1], origins: vec![0], allowance: 9, ..Lent::default() };
         let left = Lent { values: vec![5], ..lent.clone() };
-        let other = |steps, left| other_run((&table, &[]), &lent, &Outcome::Done { steps }, left);
+        let other = |steps, left| second_run((&table, &[]), &lent, &Outcome::Done { steps }, left).other;
         assert_eq!(other(1, &left), None);
         assert_eq!(other(1, &lent), Some("done 1".to_string()));
         assert_eq!(other(2, &left), Some("done 1".to_string()));

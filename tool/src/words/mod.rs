@@ -53,6 +53,8 @@ fn unit(unit: &Unit) -> Fallible<Assembly> {
         first_comment: None,
     };
     assembly.map.objects = unit.objects.iter().map(|object| object.name.at).collect();
+    let dimensions = |object: &Object| object.dimensions.iter().map(|number| number.value).collect();
+    assembly.map.dimensions = unit.objects.iter().map(dimensions).collect();
     for (number, tree) in unit.routines.iter().enumerate() {
         // Objects of a set are those of routine 0.
         let objects: &[i32] = if number == 0 { &objects } else { &[] };
