@@ -4,6 +4,8 @@
 mod folder;
 
 use folder::Folder;
+use mizzengrape_tool::command::{call_into, Output};
+use std::io::{self, ErrorKind, Write};
 
 /// The lines below the caret of a run that ends early, at this line of the routine.
 fn below(name: &str, routine: &str, image: &str, more: &[&str]) -> Vec<String> {
@@ -111,4 +113,30 @@ fn a_long_trace_is_made_in_one_go() {
     assert_eq!(lines[0], "#1      routine.c:3:5  0 while (n > 0)    100000 > 0, yes");
     assert_eq!(lines[199_999], "#200000 routine.c:4:9  1 n = n - 1;       n: 1 -> 0");
     assert_eq!(lines[200_001], "done after 200001 steps");
+}
+
+/// A place to write that takes so many lines and then fails.
+struct Failing(usize, ErrorKind);
+
+impl Write for Failing {
+    fn write(&mut self, bytes: &[u8]) -> io::Result<usize> {
+        self.0 = self.0.checked_sub(1).ok_or(io::Error::from(self.1))?;
+        Ok(bytes.len())
+    }
+
+    fn flush(&mut self) -> io::Result<()> {
+        Ok(())
+    }
+}
+
+#[test]
+fn a_reader_that_goes_away_is_no_fault_and_a_full_disk_is() {
+    let folder = Folder::new("unread");
+    let routine =
+        folder.write("r.c", "void f(unsigned n)\n{\n    while (n > 0) {\n        n = n - 1;\n    }\n}\n");
+    let image = folder.write("r.img", "n = 100;");
+    let arguments = ["trace".to_string(), routine, image];
+    assert_eq!(call_into(&arguments, &mut Failing(3, ErrorKind::BrokenPipe)), Output::default());
+    let full = call_into(&arguments, &mut Failing(3, ErrorKind::StorageFull));
+    assert_eq!((full.status, full.err.starts_with("error: standard output: ")), (2, true), "{}", full.err);
 }

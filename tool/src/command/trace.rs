@@ -66,6 +66,10 @@ fn traced(session: &Session, from: u32, count: u32, out: &mut dyn Write) -> Resu
     let last = from.saturating_add(count).saturating_sub(1).min(steps(&outcome));
     let listing = Listing::new(session, out, last)?;
     let seen = listing.steps(&mut replay, from, last)?;
+    if seen.is_unread {
+        let Output { status, .. } = session.ended(&outcome, &left, None)?;
+        return Ok(Output { status, ..Output::default() });
+    }
     let is_whole = last == steps(&outcome);
     let (there, outcome_there) = session.run(last)?;
     let same = same_end(&seen.answer, &seen.values, &replay.cells, &outcome_there, &there);
@@ -85,6 +89,8 @@ fn traced(session: &Session, from: u32, count: u32, out: &mut dyn Write) -> Resu
 
 /// Where the second implementation stands behind the last step that was listed.
 struct Seen {
+    /// The reader has gone away, and not all steps were made.
+    is_unread: bool,
     answer: RunAnswer,
     values: Vec<u32>,
     origins: Vec<u32>,
@@ -119,6 +125,8 @@ impl<'a> Listing<'a> {
     fn steps(mut self, replay: &mut Replay, from: u32, last: u32) -> Result<Seen, String> {
         let (mut machine, cells) = replay.begin();
         let mut answer = machine.go(cells, u64::from((from - 1).min(last)));
+        let lost = |error: io::Error| format!("error: standard output: {error}\n");
+        let mut is_unread = false;
         for step in from..=last {
             let Some(statement) = machine.due() else { break };
             let before = (machine.values().to_vec(), machine.origins().to_vec());
@@ -134,17 +142,14 @@ impl<'a> Listing<'a> {
             }
             changes.extend(self.compared(statement, was));
             changes.extend(self.declared(statement, machine.values()));
-            let stops = self.line(step, statement, &changes.join(", "));
-            if stops.map_err(|error| format!("error: standard output: {error}\n"))? {
+            is_unread = self.line(step, statement, &changes.join(", ")).map_err(lost)?;
+            if is_unread {
                 break;
             }
         }
-        let ended = self.write().map(|_| ()).map_err(|error| format!("error: standard output: {error}\n"));
-        ended.map(|()| Seen {
-            answer,
-            values: machine.values().to_vec(),
-            origins: machine.origins().to_vec(),
-        })
+        is_unread = is_unread || self.write().map_err(lost)?;
+        let (values, origins) = (machine.values().to_vec(), machine.origins().to_vec());
+        Ok(Seen { is_unread, answer, values, origins })
     }
 
     /// The cell that a statement stores to.
