@@ -8,14 +8,16 @@ use crate::program::{words_file, Program};
 
 pub const USAGE: Usage = Usage {
     help: "\
-mizzengrape asm FILE.c [-o OUT.tbl] [--words] [--names N] [--map M] [--no-check] [--short]
+mizzengrape asm FILE.c [-o OUT.tbl] [--words] [--names N] [--map M]
+                       [--no-check] [--short]
 
-Writes the table of a text: OUT.tbl (by default FILE.tbl), of a set OUT.0.tbl, OUT.1.tbl, .., a list of loop facts OUT.facts. A routine
-that is refused is not written.
+Writes the table of a text: OUT.tbl (by default FILE.tbl), of a set OUT.0.tbl,
+OUT.1.tbl, .., a list of loop facts OUT.facts. A routine that is refused is not
+written.
 
     --words     prints the words in decimal, in place of a file
     --names N   writes what words do not hold: names and headers, for dis
-    --map M     writes where each statement, variable, object, row and fact stands
+    --map M     writes where each statement, variable, object, row, fact stands
     --no-check  writes refused routines too
 ",
     flags: &["--words", "--no-check", "--short"],

@@ -10,9 +10,10 @@ pub const USAGE: Usage = Usage {
     help: "\
 mizzengrape check FILE [--facts F] [--report] [--short]
 
-Prints the verdict of the proved library: `accepted`, or `refused NUMBER PLACE` (for 8 also the pointer). The reason for a refusal
-goes to standard error. Of an accepted routine a line `safe: 4 7` has the statements of the accesses that are shown to stop no run
-at check 2 or 3, where there are some.
+Prints the verdict of the proved library: `accepted`, or `refused NUMBER PLACE`
+(for 8 also the pointer). The reason for a refusal goes to standard error. Of
+an accepted routine a line `safe: 4 7` has the statements of the accesses that
+are shown to stop no run at check 2 or 3, where there are some.
 
     --facts F   the list of loop facts of a table, as words in a file
     --report    a line for each access: safe, or what is not known before it

@@ -16,8 +16,9 @@ pub const DIS_USAGE: Usage = Usage {
     help: "\
 mizzengrape dis FILE.tbl .. [--facts F] [--names N] [--numbers] [--short]
 
-Prints the canonical text of a table, of several tables that of the set. A table refused by 1 to 6 has no text: it is answered with that
-refusal. Of a text it is what fmt prints, with a warning where comments are lost.
+Prints the canonical text of a table, of several tables that of the set. A
+table refused by 1 to 6 has no text: it is answered with that refusal. Of a
+text it is what fmt prints, with a warning where comments are lost.
 
     --facts F   the list of loop facts of the table, as words in a file
     --names N   a names file that asm wrote
@@ -33,8 +34,8 @@ pub const FMT_USAGE: Usage = Usage {
     help: "\
 mizzengrape fmt FILE.c [--drop-comments] [--short]
 
-Prints a text in its canonical form, names kept. A text with comments is not taken, since the form has none: --drop-comments takes it
-without them.
+Prints a text in its canonical form, names kept. A text with comments is not
+taken, since the form has none: --drop-comments takes it without them.
 ",
     flags: &["--drop-comments", "--short"],
     options: &[],

@@ -12,9 +12,10 @@ mizzengrape explain NUMBER          mizzengrape explain refusals
 mizzengrape explain stop NUMBER     mizzengrape explain stops
 mizzengrape explain FILE [LINE] [--facts F]
 
-A number: the page of docs/FORMAT.md about that refusal, or that stop of a run; without one they are listed. A file: the facts, the known and the declared bounds
-before the statement that begins on that line (by default the refused one), of a while also its loop facts. A line of loop facts
-stands for its while.
+A number: the page of docs/FORMAT.md about that refusal, or that stop of a run;
+without one they are listed. A file: the facts, the known and the declared
+bounds before the statement that begins on that line (by default the refused
+one), of a while also its loop facts. A line of loop facts stands for its while.
 
     --facts F   the list of loop facts of a table, as words in a file
 ",

@@ -13,8 +13,9 @@ pub const USAGE: Usage = Usage {
     help: "\
 mizzengrape facts FILE.c [--facts F] [--short]
 
-Proposes loop facts: guesses them, asks the proved library, and keeps those that it takes and that make an access safe or repair
-a refusal. Prints the text with them; what they bring goes to standard error, unless --short.
+Proposes loop facts: guesses them, asks the proved library, and keeps those
+that it takes and that make an access safe or repair a refusal. Prints the text
+with them; what they bring goes to standard error, unless --short.
 
     --facts F   the list of loop facts of a table, as words in a file
 ",

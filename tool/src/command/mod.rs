@@ -4,6 +4,7 @@ mod arguments;
 mod asm;
 mod changes;
 mod check;
+mod color;
 mod dis;
 mod explain;
 mod facts;
@@ -15,6 +16,7 @@ use crate::diagnostics::without_controls;
 use crate::program::Program;
 use arguments::{Arguments, Usage};
 pub use check::verdict;
+use color::{colored, Color};
 pub use dis::formatted;
 pub use run::run_program;
 use std::io::{self, Write};
@@ -28,6 +30,8 @@ pub struct Output {
     /// Standard error too, printed last: how a listing ended.
     pub end: String,
     pub status: u8,
+    /// Whether what is said is coloured.
+    pub color: Color,
 }
 
 /// Exit statuses.
@@ -41,6 +45,16 @@ pub const DIFFER: u8 = 5;
 impl Output {
     pub fn wrong(message: String) -> Output {
         Output { err: message, status: WRONG, ..Output::default() }
+    }
+
+    /// As it is said where standard error is a terminal, or is none.
+    pub fn shown(mut self, is_terminal: bool) -> Output {
+        if self.color.is_wanted(is_terminal) {
+            for said in [&mut self.err, &mut self.end] {
+                *said = colored(said);
+            }
+        }
+        self
     }
 
     /// Prints it, and gives the exit status: what cannot be printed is an error.
@@ -85,13 +99,17 @@ mizzengrape: routines for late entries and scoring, in Checked C
     mizzengrape fmt FILE.c            a text in its canonical form
     mizzengrape run FILE IMAGE        a run: how it ended, what it changed
     mizzengrape trace FILE IMAGE      a run step by step
-    mizzengrape explain NUMBER        what a refusal means and what repairs it; `explain stop NUMBER` for a stop
-    mizzengrape explain FILE [LINE]   what is known before the statement of a line
-    mizzengrape facts FILE.c          a text with loop facts that make its accesses safe
+    mizzengrape explain NUMBER        what a refusal means and what repairs it
+    mizzengrape explain stop NUMBER   the same of a stop
+    mizzengrape explain FILE [LINE]   what is known before a line
+    mizzengrape facts FILE.c          a text with loop facts that make it safe
 
-A FILE ending in .tbl is a table, .words a table in decimal words, all others are texts; - is standard input.
-`mizzengrape COMMAND --help` says more. Exit status: 0 accepted or done, 1 refused, 2 the text, the file or the call is
-wrong, 3 stopped, 4 spent, 5 the two implementations differ.
+A FILE ending in .tbl is a table, .words a table in decimal words, all others
+are texts; - is standard input. `mizzengrape COMMAND --help` says more. Every
+command takes --color auto, always or never; NO_COLOR is never.
+
+Exit status: 0 accepted or done, 1 refused, 2 the text, the file or the call
+is wrong, 3 stopped, 4 spent, 5 the two implementations differ.
 ";
 
 /// How a command answers: when all is done, or line by line to standard output as it goes on.
@@ -122,7 +140,11 @@ pub fn call(arguments: &[String]) -> Output {
 
 /// The command with these arguments; a listing is written as it goes on. What is said of a text or a file is no more than text.
 pub fn call_into(arguments: &[String], out: &mut dyn Write) -> Output {
-    let mut output = answer(arguments, out);
+    let (arguments, color) = match Color::taken_from(arguments) {
+        Ok(taken) => taken,
+        Err(message) => return Output::wrong(format!("error: {message}\n")),
+    };
+    let mut output = Output { color, ..answer(&arguments, out) };
     for said in [&mut output.err, &mut output.end] {
         *said = without_controls(said);
     }

@@ -26,9 +26,9 @@ impl Folder {
     pub fn command(&self, arguments: &[&str]) -> Output {
         let arguments: Vec<String> = arguments.iter().map(|argument| argument.to_string()).collect();
         let prefix = format!("{}/", self.0.to_string_lossy());
-        let Output { err, out, end, status } = call(&arguments);
+        let Output { err, out, end, status, color } = call(&arguments);
         let [err, out, end] = [err, out, end].map(|text| text.replace(&prefix, ""));
-        Output { err, out, end, status }
+        Output { err, out, end, status, color }
     }
 
     /// A command over a routine and an image.
