@@ -101,7 +101,7 @@ pub enum Gap {
     Lost,
 }
 
-fn unshown(table: &Table, moment: &Moment, pointer: usize) -> Vec<(Side, Gap)> {
+pub(super) fn unshown(table: &Table, moment: &Moment, pointer: usize) -> Vec<(Side, Gap)> {
     let [q, n, k, r, m, j] = moment.rows(table).bounds(table, pointer);
     let Some(KnownBounds { size: known_size, lower, upper }) = moment.known.of(pointer) else {
         return Vec::new();
@@ -235,7 +235,7 @@ fn lost(place: &Place, s: usize) -> String {
 }
 
 /// n and k of a statement n := n + k, which is turned round where it does not wrap.
-fn may_wrap(table: &Table, s: usize) -> Option<(i32, i64)> {
+pub(super) fn may_wrap(table: &Table, s: usize) -> Option<(i32, i64)> {
     let [kind, x, y, k, ..] = table.statements[s];
     (kind == 2 && x == y && k != 0).then_some((x, i64::from(k)))
 }
