@@ -8,6 +8,7 @@ pub mod form;
 pub mod image;
 mod lexer;
 pub mod library;
+pub mod lsp;
 pub mod map;
 mod memory;
 pub mod names;

@@ -8,6 +8,7 @@ mod color;
 mod dis;
 mod explain;
 mod facts;
+mod lsp;
 mod run;
 mod session;
 mod trace;
@@ -103,6 +104,7 @@ mizzengrape: routines for late entries and scoring, in Checked C
     mizzengrape explain stop NUMBER   the same of a stop
     mizzengrape explain FILE [LINE]   what is known before a line
     mizzengrape facts FILE.c          a text with loop facts that make it safe
+    mizzengrape lsp                   a language server for editors
 
 A FILE ending in .tbl is a table, .words a table in decimal words, all others
 are texts; - is standard input. `mizzengrape COMMAND --help` says more. Every
@@ -119,7 +121,7 @@ enum Call {
 }
 
 /// Each command with its usage.
-const COMMANDS: [(&str, &Usage, Call); 8] = [
+const COMMANDS: [(&str, &Usage, Call); 9] = [
     ("check", &check::USAGE, Call::AtOnce(check::check)),
     ("asm", &asm::USAGE, Call::AtOnce(asm::asm)),
     ("dis", &dis::DIS_USAGE, Call::AtOnce(dis::dis)),
@@ -128,6 +130,7 @@ const COMMANDS: [(&str, &Usage, Call); 8] = [
     ("trace", &trace::USAGE, Call::AsItGoes(trace::trace)),
     ("explain", &explain::USAGE, Call::AtOnce(explain::explain)),
     ("facts", &facts::USAGE, Call::AtOnce(facts::facts)),
+    ("lsp", &lsp::USAGE, Call::AsItGoes(lsp::lsp)),
 ];
 
 /// The command with these arguments, all that it prints kept.

@@ -188,6 +188,11 @@ pub fn explained(program: &Program, checked: library::Checked) -> Checked {
 }
 
 impl Checked {
+    /// What the library said.
+    pub fn by_library(&self) -> library::Checked {
+        library::Checked { verdict: self.verdict, safe: self.safe.clone() }
+    }
+
     /// `safe: 4 7`, where there are some.
     pub fn safe_line(&self) -> Option<String> {
         let listed: String = self.safe.iter().map(|statement| format!(" {statement}")).collect();

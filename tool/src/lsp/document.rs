@@ -1,0 +1,91 @@
+//! A document that an editor has open: its text, the verdict on it, the repairs that are offered.
+
+use super::changes::{change, Change};
+use super::fixes::{fixes, Fix};
+use super::text::Text;
+use crate::diagnostics::Diagnostic;
+use crate::explain::{check, explained, Checked};
+use crate::library::Asked;
+use crate::program::Program;
+use crate::words::assemble;
+use std::cell::OnceCell;
+
+pub struct Document {
+    pub text: Text,
+    /// As messages name it.
+    name: String,
+    now: OnceCell<Analysis>,
+    fixes: OnceCell<Vec<Fix>>,
+    /// The last text that was checked, and what was found.
+    last: Option<Analysed>,
+}
+
+/// What is known of a text.
+pub enum Analysis {
+    /// It cannot be read: its errors.
+    Wrong(Vec<Diagnostic>),
+    Read(Analysed),
+}
+
+/// A program and the verdict on it.
+pub struct Analysed {
+    pub program: Program,
+    pub checked: Asked<Checked>,
+}
+
+impl Document {
+    pub fn new(name: String, text: String) -> Document {
+        Document { text: Text::new(text), name, now: OnceCell::new(), fixes: OnceCell::new(), last: None }
+    }
+
+    /// Another text; what was known of the one before is kept as the last.
+    pub fn replace(&mut self, text: Text) {
+        self.text = text;
+        self.fixes.take();
+        if let Some(Analysis::Read(analysed)) = self.now.take() {
+            self.last = Some(analysed);
+        }
+    }
+
+    /// The text as it is now, checked.
+    pub fn analysis(&self) -> &Analysis {
+        self.now.get_or_init(|| self.analyse())
+    }
+
+    fn analyse(&self) -> Analysis {
+        let source = self.text.checked().to_string();
+        match assemble(&source) {
+            Err(wrong) => Analysis::Wrong(vec![wrong]),
+            Ok(assembly) => {
+                let program = Program::of_assembly(self.name.clone(), source, assembly);
+                let checked = verdict(&program, self.last.as_ref());
+                Analysis::Read(Analysed { program, checked })
+            }
+        }
+    }
+
+    pub fn fixes(&self) -> &[Fix] {
+        self.fixes.get_or_init(|| fixes(self))
+    }
+
+    /// The text that reads: the one now, else the last one that did.
+    pub fn last_read(&self) -> Option<&Program> {
+        match self.analysis() {
+            Analysis::Read(analysed) => Some(&analysed.program),
+            Analysis::Wrong(_) => self.last.as_ref().map(|analysed| &analysed.program),
+        }
+    }
+}
+
+/// The verdict on a program now, by what was checked last: the proved library's always.
+fn verdict(program: &Program, last: Option<&Analysed>) -> Asked<Checked> {
+    match last {
+        // Places in the text may be other ones, the words are the same.
+        Some(Analysed { program: before, checked: Ok(checked) })
+            if change(before, program) == Change::Nothing =>
+        {
+            Ok(explained(program, checked.by_library()))
+        }
+        _ => check(program),
+    }
+}

@@ -1,0 +1,350 @@
+//! The server message by message, without a stream: what waits for what, and what is answered.
+
+use super::document::Document;
+use super::findings::findings;
+use super::json::Json;
+use super::protocol::Client;
+use super::server::{Next, Server};
+use super::text::{Position, Text};
+use super::transport::{Received, Receiver};
+
+const ALL: &str = r#"{"capabilities":{"textDocument":{"publishDiagnostics":{"relatedInformation":true},
+    "hover":{"contentFormat":["markdown","plaintext"]},"documentSymbol":{"hierarchicalDocumentSymbolSupport":true},
+    "codeAction":{"codeActionLiteralSupport":{}}},"workspace":{"workspaceEdit":{"documentChanges":true}}}}"#;
+const REFUSED: &str =
+    "void f(array_ptr<unsigned> p : count(n), unsigned n, unsigned x)\n{\n    n = n - 1;\n    x = 0;\n}\n";
+
+struct Session {
+    server: Server<Vec<u8>>,
+    read: usize,
+}
+
+impl Session {
+    fn new() -> Session {
+        Session { server: Server::new(Vec::new()), read: 0 }
+    }
+
+    fn initialized(params: &str) -> Session {
+        let mut session = Session::new();
+        session.ask(0, "initialize", params);
+        session.answers();
+        session
+    }
+
+    fn send(&mut self, message: &str) {
+        let message = Json::read(message).unwrap_or_else(|damage| panic!("{damage}: {message}"));
+        assert!(matches!(self.server.take(Received::Message(message)), Ok(Next::GoOn)));
+    }
+
+    fn ask(&mut self, id: u32, method: &str, params: &str) {
+        self.send(&format!(r#"{{"jsonrpc":"2.0","id":{id},"method":"{method}","params":{params}}}"#));
+    }
+
+    fn tell(&mut self, method: &str, params: &str) {
+        self.send(&format!(r#"{{"jsonrpc":"2.0","method":"{method}","params":{params}}}"#));
+    }
+
+    fn open(&mut self, text: &str) {
+        let text = Json::from(text);
+        self.tell(
+            "textDocument/didOpen",
+            &format!(r#"{{"textDocument":{{"uri":"u","version":1,"text":{text}}}}}"#),
+        );
+    }
+
+    fn change(&mut self, changes: &str) {
+        let document = r#""textDocument":{"uri":"u","version":2}"#;
+        self.tell("textDocument/didChange", &format!(r#"{{{document},"contentChanges":{changes}}}"#));
+    }
+
+    fn hover(&mut self, id: u32, line: u32) {
+        let at = format!(r#"{{"textDocument":{{"uri":"u"}},"position":{{"line":{line},"character":5}}}}"#);
+        self.ask(id, "textDocument/hover", &at);
+    }
+
+    /// What the server has sent since, with all work done.
+    fn answers(&mut self) -> Vec<Json> {
+        while self.server.work().expect("a vector grows") {}
+        let bytes = &self.server.output()[self.read..];
+        self.read += bytes.len();
+        let mut receiver = Receiver::new(bytes);
+        let messages = std::iter::from_fn(|| receiver.receive().expect("a vector"));
+        messages
+            .map(|received| match received {
+                Received::Message(message) => message,
+                Received::Damaged(what) => panic!("{what}"),
+            })
+            .collect()
+    }
+
+    /// The only answer.
+    fn answer(&mut self) -> Json {
+        let answers = self.answers();
+        assert_eq!(answers.len(), 1, "{answers:?}");
+        answers[0].clone()
+    }
+}
+
+#[track_caller]
+fn is_error(answer: &Json, id: &str, code: &str) {
+    assert_eq!(answer.get("id").map(Json::to_string).as_deref(), Some(id), "{answer}");
+    assert_eq!(answer.at(&["error", "code"]).map(Json::to_string).as_deref(), Some(code), "{answer}");
+}
+
+fn shown(hover: &Json) -> &str {
+    hover.at(&["result", "contents", "value"]).and_then(Json::as_str).unwrap_or("nothing")
+}
+
+#[test]
+fn a_request_that_is_overtaken_is_answered_with_the_new_text() {
+    let mut session = Session::initialized(ALL);
+    session.open(REFUSED);
+    session.answers();
+    session.hover(1, 2);
+    session.change(r#"[{"range":{"start":{"line":2,"character":0},"end":{"line":2,"character":0}},"text":"    dynamic_check(n > 3);\n"}]"#);
+    session.hover(2, 3);
+    let answers = session.answers();
+    // One list of diagnostics for all changes, then the answers, both of the new text.
+    assert_eq!(answers.len(), 3, "{answers:?}");
+    assert_eq!(answers[0].at(&["params", "diagnostics"]), Some(&Json::Array(Vec::new())));
+    assert!(shown(&answers[1]).contains("before dynamic_check(n > 3)"), "{}", answers[1]);
+    assert!(shown(&answers[2]).contains("known: n >= 4"), "{}", answers[2]);
+}
+
+#[test]
+fn changes_that_come_together_are_checked_once() {
+    let mut session = Session::initialized(ALL);
+    session.open(REFUSED);
+    (0..5).for_each(|_| session.change(r#"[{"text":"void f(unsigned n) { n = 1; }"}]"#));
+    assert_eq!(session.answers().len(), 1);
+}
+
+/// What closes a document waits for the requests before it.
+#[test]
+fn requests_are_answered_before_a_document_is_closed() {
+    let mut session = Session::initialized(ALL);
+    session.open(REFUSED);
+    session.hover(1, 2);
+    session.tell("textDocument/didClose", r#"{"textDocument":{"uri":"u"}}"#);
+    session.hover(2, 2);
+    let answers = session.answers();
+    assert_eq!(answers.len(), 4, "{answers:?}");
+    assert!(shown(&answers[1]).contains("before n = n - 1"), "{}", answers[1]);
+    assert_eq!(answers[2].at(&["params", "diagnostics"]), Some(&Json::Array(Vec::new())));
+    is_error(&answers[3], "2", "-32602");
+}
+
+#[test]
+fn a_request_can_be_cancelled() {
+    let mut session = Session::initialized(ALL);
+    session.open(REFUSED);
+    session.answers();
+    session.hover(7, 2);
+    session.tell("$/cancelRequest", r#"{"id":7}"#);
+    session.tell("$/cancelRequest", r#"{"id":8}"#);
+    is_error(&session.answer(), "7", "-32800");
+}
+
+#[test]
+fn stages_are_kept() {
+    let mut session = Session::new();
+    session.hover(1, 2);
+    is_error(&session.answer(), "1", "-32002");
+    // Before it is initialized the server follows no notification, and tells none.
+    session.open(REFUSED);
+    assert_eq!(session.answers(), []);
+    session.ask(2, "initialize", "{}");
+    session.answers();
+    session.ask(3, "initialize", "{}");
+    is_error(&session.answer(), "3", "-32600");
+    session.ask(4, "textDocument/unknown", "null");
+    is_error(&session.answer(), "4", "-32601");
+    session.tell("textDocument/unknown", "null");
+    session.send(r#"{"jsonrpc":"2.0","id":9,"result":null}"#);
+    assert_eq!(session.answers(), []);
+    session.ask(5, "shutdown", "null");
+    assert_eq!(session.answer().get("result"), Some(&Json::Null));
+    session.hover(6, 2);
+    is_error(&session.answer(), "6", "-32600");
+    assert_eq!(session.server.status(), 0);
+}
+
+#[test]
+fn what_is_no_request_is_an_error() {
+    let mut session = Session::initialized(ALL);
+    for (message, id) in [
+        ("7", "null"),
+        ("[]", "null"),
+        ("{}", "null"),
+        (r#"{"id":"a"}"#, "\"a\""),
+        (r#"{"id":1,"method":2}"#, "1"),
+        (r#"{"id":null,"method":"shutdown"}"#, "null"),
+        (r#"{"id":[1],"method":"shutdown"}"#, "null"),
+    ] {
+        session.send(message);
+        is_error(&session.answer(), id, "-32600");
+    }
+    let damaged = Received::Damaged("no JSON".to_string());
+    assert!(matches!(session.server.take(damaged), Ok(Next::GoOn)));
+    is_error(&session.answer(), "null", "-32700");
+    // An id goes back exactly as it came.
+    session.send(r#"{"id":123456789012345678901.50,"method":"unknown"}"#);
+    is_error(&session.answer(), "123456789012345678901.50", "-32601");
+}
+
+/// A damaged change leaves the text as it was and is told to the log.
+#[test]
+fn damaged_changes_are_told() {
+    let mut session = Session::initialized(ALL);
+    session.open(REFUSED);
+    session.answers();
+    for changes in [
+        "null",
+        "[{}]",
+        "[{\"text\":7}]",
+        r#"[{"text":"x"},{"range":{"start":{"line":-1,"character":0}},"text":"y"}]"#,
+    ] {
+        session.change(changes);
+        assert_eq!(
+            session.answer().get("method").and_then(Json::as_str),
+            Some("window/logMessage"),
+            "{changes}"
+        );
+    }
+    session.hover(1, 2);
+    assert!(shown(&session.answer()).contains("before n = n - 1"));
+}
+
+#[test]
+fn a_refusal_has_its_page() {
+    let mut session = Session::initialized(ALL);
+    session.open(REFUSED);
+    session.answers();
+    session.hover(1, 2);
+    let hover = session.answer();
+    assert!(
+        shown(&hover)
+            .starts_with("```text\nu:3:5: before n = n - 1\ndeclared: p : count(n)\nknown: nothing\n```\n"),
+        "{hover}"
+    );
+    assert!(shown(&hover).contains("\n---\n\nRefusal 8: declared bounds are not shown\n"), "{hover}");
+    session.hover(2, 3);
+    assert_eq!(
+        shown(&session.answer()),
+        "```text\nrefused 8 0 0: the check ended before this statement\n```\n"
+    );
+    session.hover(3, 1);
+    assert_eq!(session.answer().get("result"), Some(&Json::Null));
+}
+
+/// A client that says nothing of itself gets plain forms.
+#[test]
+fn simple_clients_are_served() {
+    let mut session = Session::initialized("{}");
+    session.open(REFUSED);
+    let diagnostics = session.answer().at(&["params", "diagnostics"]).cloned().expect("a list");
+    let first = &diagnostics.as_array().expect("a list")[0];
+    assert_eq!(first.get("relatedInformation"), None);
+    let message = first.get("message").and_then(Json::as_str).expect("a message");
+    assert!(message.contains("\nnote: declared here: p : count(n)\n"), "{message}");
+    session.ask(1, "textDocument/documentSymbol", r#"{"textDocument":{"uri":"u"}}"#);
+    let symbols = session.answer().get("result").cloned().expect("symbols");
+    let containers = symbols
+        .as_array()
+        .expect("a list")
+        .iter()
+        .map(|symbol| symbol.get("containerName").and_then(Json::as_str));
+    assert_eq!(containers.collect::<Vec<_>>(), [None, Some("f"), Some("f"), Some("f")]);
+    let range = r#"{"start":{"line":2,"character":0},"end":{"line":2,"character":0}}"#;
+    session.ask(
+        2,
+        "textDocument/codeAction",
+        &format!(r#"{{"textDocument":{{"uri":"u"}},"range":{range}}}"#),
+    );
+    assert_eq!(session.answer().get("result"), Some(&Json::Array(Vec::new())));
+}
+
+#[test]
+fn other_kinds_of_actions_are_not_offered() {
+    let mut session = Session::initialized(ALL);
+    session.open(REFUSED);
+    session.answers();
+    let range = r#"{"start":{"line":2,"character":0},"end":{"line":2,"character":0}}"#;
+    for (only, offered) in
+        [("[]", false), (r#"["refactor"]"#, false), (r#"["source","quickfix"]"#, true), ("null", true)]
+    {
+        let context = format!(r#"{{"diagnostics":[],"only":{only}}}"#);
+        let params = format!(r#"{{"textDocument":{{"uri":"u"}},"range":{range},"context":{context}}}"#);
+        session.ask(1, "textDocument/codeAction", &params);
+        let answer = session.answer();
+        let count = answer.get("result").and_then(Json::as_array).map_or(0, <[Json]>::len);
+        assert_eq!(count > 0, offered, "{only}: {answer}");
+    }
+}
+
+/// The outline of a text that does not read just now is the last one.
+#[test]
+fn an_outline_stays_while_one_writes() {
+    let mut session = Session::initialized(ALL);
+    session.open(REFUSED);
+    let symbols = |session: &mut Session| {
+        session.answers();
+        session.ask(1, "textDocument/documentSymbol", r#"{"textDocument":{"uri":"u"}}"#);
+        session.answer().get("result").cloned().expect("symbols")
+    };
+    let whole = symbols(&mut session);
+    session.change(
+        r#"[{"range":{"start":{"line":3,"character":4},"end":{"line":3,"character":10}},"text":"x ="}]"#,
+    );
+    assert_eq!(symbols(&mut session), whole);
+    session.change(r#"[{"text":"void f"}]"#);
+    let clamped = symbols(&mut session);
+    assert!(clamped.to_string().contains(r#""name":"f","#), "{clamped}");
+}
+
+/// Whatever was edited before, the findings are those of the text alone.
+#[test]
+fn findings_are_those_of_the_text_now() {
+    let pieces = [
+        "n = n - 1;",
+        "n = 0;",
+        "dynamic_check(n > 1);",
+        "// x\n",
+        " ",
+        "\n",
+        "p = NULL;",
+        "}",
+        "where p : count(0);",
+        "\u{1f600}",
+    ];
+    let mut random = 1u64;
+    let mut below = |limit: usize| {
+        random = random.wrapping_mul(6_364_136_223_846_793_005).wrapping_add(1_442_695_040_888_963_407);
+        (random >> 33) as usize % limit
+    };
+    let json = |document: &Document| -> Vec<String> {
+        let client = Client { related_information: true, ..Client::default() };
+        findings(document).iter().map(|finding| finding.json("u", &client).to_string()).collect()
+    };
+    let mut found = 0;
+    for _ in 0..150 {
+        let mut text = REFUSED.to_string();
+        let mut document = Document::new("u".to_string(), text.clone());
+        for _ in 0..6 {
+            let lines = text.split('\n').count();
+            let line = below(lines);
+            let length = text.split('\n').nth(line).map_or(0, |line| line.encode_utf16().count());
+            let (from, to) = (below(length + 1), below(length + 1));
+            let at = |character: usize| Position { line: line as u32, character: character as u32 };
+            let piece = pieces[below(pieces.len())];
+            let end = if below(3) > 0 { from } else { to.max(from) };
+            let edited = Text::new(text.clone()).replaced(at(from)..at(end), piece);
+            text = edited.checked().to_string();
+            document.replace(edited);
+            let fresh = Document::new("u".to_string(), text.clone());
+            assert_eq!(json(&document), json(&fresh), "{text}");
+            found += json(&fresh).len();
+        }
+    }
+    assert!(found > 300, "{found}");
+}
