@@ -1,7 +1,9 @@
-//! What the tests and the examples share: random numbers, tables of all forms, damage, the round trip of text and table.
+//! What the tests and the examples share: random numbers, tables of all forms, damage, the round trip of text and table,
+//! a client of the language server.
 
 #![allow(dead_code)] // each test and example takes its part
 
+pub mod client;
 pub mod damage;
 pub mod generate;
 pub mod loops;
