@@ -40,11 +40,13 @@ test: build
 	cd compare && $(CARGO) run --release --offline --quiet -- differ $(SEED) 200000
 	$(MAKE) --no-print-directory test-tool
 
-# The tests with overflow checks; then the greater numbers, and a release from a temporary folder.
+# The tests with overflow checks; then the greater numbers, the language server's times and an editor, and a release from a temporary folder.
 test-tool: build
 	cd tool && $(CARGO) test --offline --quiet
 	cd tool && $(CARGO) run --release --offline --quiet --example round_trip -- 100000 $(SEED)
 	cd tool && $(CARGO) run --release --offline --quiet --example fuzz -- 1000000 $(SEED)
+	cd tool && $(CARGO) run --release --offline --quiet --example lsp_times
+	sh tool/editors/try-neovim.sh
 	sh release/test.sh
 
 install: build

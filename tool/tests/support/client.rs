@@ -78,7 +78,9 @@ impl Client {
 
     /// A client that can do everything.
     pub fn initialize(&mut self) {
-        let capabilities = r#"{"capabilities":{"textDocument":{"publishDiagnostics":{"relatedInformation":true},"hover":{"contentFormat":["plaintext"]},"documentSymbol":{"hierarchicalDocumentSymbolSupport":true},"codeAction":{"codeActionLiteralSupport":{}}},"workspace":{"workspaceEdit":{"documentChanges":true}}}}"#;
+        let capabilities = r#"{"capabilities":{"textDocument":{"publishDiagnostics":{"relatedInformation":true},
+            "hover":{"contentFormat":["plaintext"]},"documentSymbol":{"hierarchicalDocumentSymbolSupport":true},
+            "codeAction":{"codeActionLiteralSupport":{}}},"workspace":{"workspaceEdit":{"documentChanges":true}}}}"#;
         self.request("initialize", Json::read(capabilities).expect("JSON"));
         self.notify("initialized", Json::object([]));
     }
