@@ -1,4 +1,4 @@
-//! What is told at a line: what is known before its statement, and the manual's page where it is refused.
+//! What is told at a line: what is known before its statement, whether its access can stop a run, and the manual's page where it is refused.
 
 use super::document::{Analysed, Analysis, Document};
 use super::findings::findings;
@@ -6,12 +6,12 @@ use super::json::Json;
 use super::protocol::Client;
 use super::text::Position;
 use crate::diagnostics::Pos;
-use crate::explain::{pages::page, state};
-use crate::program::Program;
+use crate::explain::{pages::page, report, state};
+use crate::library::Verdict;
 
 pub fn hover(document: &Document, at: Position, client: &Client) -> Json {
     let known = match document.analysis() {
-        Analysis::Read(Analysed { program, .. }) => known(program, document.text.place(at)),
+        Analysis::Read(analysed) => known(analysed, document.text.place(at)),
         Analysis::Wrong(_) => None,
     };
     let refused = findings(document).into_iter().find(|finding| finding.range.start.line == at.line);
@@ -28,14 +28,21 @@ pub fn hover(document: &Document, at: Position, client: &Client) -> Json {
 }
 
 /// What is known before the statement at a place: the last one of its line that begins up to there, else the first one.
-fn known(program: &Program, at: Pos) -> Option<String> {
+fn known(analysed: &Analysed, at: Pos) -> Option<String> {
+    let Analysed { program, checked } = analysed;
     let routines = program.text.as_ref()?.map.routines.iter().enumerate();
     let statements = routines.flat_map(|(routine, map)| {
         map.statements.iter().enumerate().map(move |(number, start)| (*start, (routine, number)))
     });
     let on_line: Vec<_> = statements.filter(|(start, _)| start.line == at.line).collect();
     let under = on_line.iter().rfind(|(start, _)| start.column <= at.column);
-    let (_, statement) = under.or(on_line.first())?;
+    let (start, statement) = under.or(on_line.first())?;
     // Behind a refused statement nothing is known, and that is said.
-    Some(state(program, *statement, true).unwrap_or_else(|why| why + "\n"))
+    let mut known = state(program, *statement, true).unwrap_or_else(|why| why + "\n");
+    if let Some(checked) = checked.as_ref().ok().filter(|checked| checked.verdict == Verdict::Accepted) {
+        let place = format!("{}:{start}: ", program.name);
+        let reported = report(program, &checked.safe);
+        known.extend(reported.lines().filter_map(|line| Some(format!("{}\n", line.strip_prefix(&place)?))));
+    }
+    Some(known)
 }

@@ -237,6 +237,26 @@ fn a_refusal_has_its_page() {
     assert_eq!(session.answer().get("result"), Some(&Json::Null));
 }
 
+/// An access that the library reports stops no run; of another one it is said what is not known.
+#[test]
+fn an_access_says_whether_it_can_stop() {
+    let mut session = Session::initialized("{}");
+    let head = "void f(array_ptr<unsigned> p : count(n), unsigned n, unsigned i)\n{\n    dynamic_check(p != NULL);\n";
+    session.open(&format!("{head}    dynamic_check(i < n);\n    n = p[i]; i = p[i + 1];\n}}\n"));
+    session.answers();
+    session.change(
+        r#"[{"range":{"start":{"line":4,"character":4},"end":{"line":4,"character":5}},"text":"i"}]"#,
+    );
+    session.answers();
+    session.hover(1, 4);
+    let hover = session.answer();
+    assert!(shown(&hover).ends_with("\nsafe: i = p[i]\n"), "{hover}");
+    let second = r#"{"textDocument":{"uri":"u"},"position":{"line":4,"character":16}}"#;
+    session.ask(2, "textDocument/hover", second);
+    let hover = session.answer();
+    assert!(shown(&hover).contains("\nmay stop: i = p[i + 1]: "), "{hover}");
+}
+
 /// A client that says nothing of itself gets plain forms.
 #[test]
 fn simple_clients_are_served() {

@@ -158,6 +158,51 @@ mod tests {
         assert_eq!(replaced("ab", at(0, 2), at(0, 1), "c"), "abc");
     }
 
+    /// Edits of any lines, beside edits of a list of UTF-16 units.
+    #[test]
+    fn edits_are_those_of_an_editor() {
+        let pieces = ["", "x", "\u{1f600}", "\u{e9}\n", "\r\n", "\r", "ab\ncd", "\u{1f600}\u{1f600}"];
+        let mut random = 7u64;
+        let mut below = |limit: usize| {
+            random = random.wrapping_mul(6_364_136_223_846_793_005).wrapping_add(1);
+            (random >> 33) as usize % limit
+        };
+        let mut text = Text::new(String::new());
+        let mut units: Vec<u16> = Vec::new();
+        for _ in 0..5000 {
+            // Where the lines begin, and the units of each without its end.
+            let mut lines = vec![(0, 0)];
+            for (at, unit) in units.iter().enumerate() {
+                let ends = *unit == 10 || *unit == 13 && units.get(at + 1) != Some(&10);
+                match lines.last_mut() {
+                    _ if ends => lines.push((at + 1, 0)),
+                    Some((_, length)) => *length += usize::from(*unit != 13),
+                    None => {}
+                }
+            }
+            let mut end = || {
+                let line = below(lines.len());
+                let character = below(lines[line].1 + 1);
+                let inside =
+                    units.get(lines[line].0 + character).is_some_and(|unit| (0xDC00..0xE000).contains(unit));
+                (line as u32, (character - usize::from(inside)) as u32)
+            };
+            let (mut from, mut to) = (end(), end());
+            if to < from {
+                (from, to) = (to, from);
+            }
+            if units.len() < 60 && from.0 != to.0 {
+                to = from;
+            }
+            let piece = pieces[below(pieces.len())];
+            text = text.replaced(at(from.0, from.1)..at(to.0, to.1), piece);
+            let [from, to] = [from, to].map(|(line, character)| lines[line as usize].0 + character as usize);
+            units.splice(from..to, piece.encode_utf16());
+            assert_eq!(text.text.encode_utf16().collect::<Vec<u16>>(), units);
+        }
+        assert!(text.lines.len() > 3);
+    }
+
     #[test]
     fn a_byte_order_mark_is_passed_over() {
         let text = Text::new("\u{feff}ab\nc".to_string());
