@@ -46,7 +46,7 @@ test-tool: build
 	cd tool && $(CARGO) run --release --offline --quiet --example round_trip -- 100000 $(SEED)
 	cd tool && $(CARGO) run --release --offline --quiet --example fuzz -- 1000000 $(SEED)
 	cd tool && $(CARGO) run --release --offline --quiet --example lsp_times
-	sh tool/editors/try-neovim.sh
+	for editor in neovim emacs vscode; do sh tool/editors/try-$$editor.sh || exit 1; done
 	sh release/test.sh
 
 install: build
