@@ -89,6 +89,10 @@ impl<'a> Source<'a> {
         self.show(diagnostic.at, &format!("error: {}", diagnostic.message), short)
     }
 
+    pub fn errors(&self, errors: &[Diagnostic], short: bool) -> String {
+        errors.iter().map(|wrong| self.error(wrong, short)).collect()
+    }
+
     pub fn warning(&self, diagnostic: &Diagnostic, short: bool) -> String {
         self.show(diagnostic.at, &format!("warning: {}", diagnostic.message), short)
     }

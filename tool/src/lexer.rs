@@ -137,6 +137,13 @@ impl<'a> Lexer<'a> {
         self.first_comment.get_or_insert(at);
         if self.rest().starts_with("//") {
             self.advance_while(|c| c != '\n');
+            if self.text[..self.next].trim_end_matches('\r').ends_with('\\') && self.peek().is_some() {
+                let backslash = Pos { column: self.pos.column.saturating_sub(1), ..self.pos };
+                return Err((
+                    backslash,
+                    "a backslash ends this comment: C takes the next line into it".to_string(),
+                ));
+            }
             return Ok(());
         }
         let Some(length) = self.rest()[2..].find("*/") else {

@@ -8,7 +8,7 @@ use crate::names::Names;
 use crate::printer::print;
 use crate::table::Table;
 use crate::tokens::cut;
-use crate::words::{assemble, Assembly};
+use crate::words::{assemble, assemble_all, Assembly};
 
 #[derive(Debug)]
 pub struct Program {
@@ -69,8 +69,8 @@ impl Program {
 
     pub fn of_text(path: &str, source: String, short: bool) -> Loaded<Program> {
         let name = shown_name(path);
-        match assemble(&source) {
-            Err(wrong) => Err(Source { name: &name, text: &source }.error(&wrong, short)),
+        match assemble_all(&source) {
+            Err(errors) => Err(Source { name: &name, text: &source }.errors(&errors, short)),
             Ok(assembly) => Ok(Program::of_assembly(name, source, assembly)),
         }
     }

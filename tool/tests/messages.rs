@@ -75,6 +75,22 @@ fn statements() {
         ("x = n $ 2;", "6: expected `;`, found `$`"),
         ("x = 12ab;", "5: a number is decimal digits, or 0x and hexadecimal digits"),
         ("x = \u{e9};", "5: only ASCII stands outside of comments"),
+        ("x = n++;", "6: `++` is a statement of its own: i = i + 1;"),
+        ("p[n--] = x;", "4: `--` is a statement of its own: i = i - 1;"),
+        ("x = p[++n];", "7: `++` is a statement of its own: i = i + 1;"),
+        ("assert(x > 0);", "1: `assert` is not part of the subset: write dynamic_check"),
+        (
+            "break;",
+            "1: `break` is not part of the subset: let the loop's condition end it, with a flag where it has none",
+        ),
+        ("continue;", "1: `continue` is not part of the subset: put what follows in an if"),
+        ("dynamic_check(n > 0 && x > 0);", "21: a condition is one comparison: write two checks"),
+        ("while (n > 0 && x > 0) { }", "14: a condition is one comparison: set a flag and write while (flag != 0)"),
+        (
+            "if (n > 0 || x > 0) { }",
+            "11: a condition is one comparison: write the statements for each, or set a flag",
+        ),
+        ("x = 1; // C goes on \\", "20: a backslash ends this comment: C takes the next line into it"),
     ] {
         assert_eq!(statement(text), message, "{text}");
     }

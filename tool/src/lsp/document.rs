@@ -7,7 +7,7 @@ use crate::diagnostics::Diagnostic;
 use crate::explain::{check, explained, Checked};
 use crate::library::Asked;
 use crate::program::Program;
-use crate::words::assemble;
+use crate::words::assemble_all;
 use std::cell::OnceCell;
 
 pub struct Document {
@@ -54,8 +54,8 @@ impl Document {
 
     fn analyse(&self) -> Analysis {
         let source = self.text.checked().to_string();
-        match assemble(&source) {
-            Err(wrong) => Analysis::Wrong(vec![wrong]),
+        match assemble_all(&source) {
+            Err(errors) => Analysis::Wrong(errors),
             Ok(assembly) => {
                 let program = Program::of_assembly(self.name.clone(), source, assembly);
                 let checked = verdict(&program, self.last.as_ref());

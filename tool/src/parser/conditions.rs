@@ -20,8 +20,8 @@ impl Parser<'_> {
         RELATIONS.iter().any(|(mark, _)| self.is(mark))
     }
 
-    /// `(condition)`.
-    pub(super) fn condition(&mut self) -> Fallible<Condition> {
+    /// `(condition)` of an if, a while or a check.
+    pub(super) fn condition(&mut self, of: &str) -> Fallible<Condition> {
         self.expect("(")?;
         let left = self.condition_left()?;
         self.not_divided()?;
@@ -37,7 +37,7 @@ impl Parser<'_> {
         let right = self.condition_right()?;
         self.not_divided()?;
         match self.peek().kind {
-            Kind::Mark("&&" | "||") => return self.wrong("a condition is one comparison: nest ifs"),
+            Kind::Mark(mark @ ("&&" | "||")) => return self.wrong(one_comparison(of, mark)),
             Kind::Mark("+" | "-" | "*" | "[" | "(") => return self.wrong(COMPUTE),
             _ => self.expect(")")?,
         }
@@ -127,4 +127,16 @@ impl Parser<'_> {
         }
         Ok(FactRight::Sum(self.address()?))
     }
+}
+
+/// What to write where a condition has two comparisons.
+fn one_comparison(of: &str, mark: &str) -> String {
+    let instead = match (of, mark) {
+        ("while", _) => "set a flag and write while (flag != 0)",
+        ("dynamic_check", "&&") => "write two checks",
+        ("dynamic_check", _) => "set a flag in an if and check that",
+        (_, "||") => "write the statements for each, or set a flag",
+        _ => "nest ifs",
+    };
+    format!("a condition is one comparison: {instead}")
 }

@@ -1,14 +1,16 @@
-//! Texts to trees: the grammar alone. The first error ends it.
+//! Texts to trees: the grammar alone. Behind an error it goes on, and keeps the errors.
 
 mod bounds;
 mod conditions;
+mod recovery;
 mod statements;
 mod values;
 
-use crate::diagnostics::{fail, Fallible, Pos};
+use crate::diagnostics::{fail, Diagnostic, Fallible, Pos};
 use crate::lexer::Lexer;
 use crate::tokens::{is_type, Kind, Token};
 use crate::tree::*;
+pub(crate) use recovery::MOST_ERRORS;
 use std::collections::VecDeque;
 
 /// Blocks may be nested so deep that no text can exhaust the stack.
@@ -23,11 +25,14 @@ pub(crate) struct Parser<'a> {
     window: VecDeque<Token<'a>>,
     /// The position behind the last token that was taken.
     behind: Option<Pos>,
+    errors: Vec<Diagnostic>,
+    has_gap: bool,
 }
 
 impl<'a> Parser<'a> {
     pub(crate) fn new(text: &'a str) -> Parser<'a> {
-        let mut parser = Parser { lexer: Lexer::new(text), window: VecDeque::new(), behind: None };
+        let (lexer, window) = (Lexer::new(text), VecDeque::new());
+        let mut parser = Parser { lexer, window, behind: None, errors: Vec::new(), has_gap: false };
         parser.look_ahead();
         parser
     }
@@ -88,6 +93,10 @@ impl<'a> Parser<'a> {
     }
 
     pub(crate) fn unexpected<T>(&self, expected: &str) -> Fallible<T> {
+        if let Kind::Mark(mark @ ("++" | "--")) = self.peek().kind {
+            let sign = &mark[..1];
+            return self.wrong(format!("`{mark}` is a statement of its own: i = i {sign} 1;"));
+        }
         self.wrong(format!("expected {expected}, found {}", self.peek().shown()))
     }
 
@@ -104,7 +113,7 @@ impl<'a> Parser<'a> {
             return Ok(());
         }
         match self.behind {
-            Some(behind) if !matches!(self.peek().kind, Kind::Wrong(_)) => {
+            Some(behind) if !matches!(self.peek().kind, Kind::Wrong(_) | Kind::Mark("++" | "--")) => {
                 fail(behind, format!("expected `;`, found {}", self.peek().shown()))
             }
             _ => self.unexpected("`;`"),
@@ -162,6 +171,9 @@ impl<'a> Parser<'a> {
         let text = token.text;
         let instead = match text {
             "for" | "do" => ": write a while",
+            "break" => ": let the loop's condition end it, with a flag where it has none",
+            "continue" => ": put what follows in an if",
+            "sizeof" => ": a row has as many cells as it is declared with",
             "switch" | "case" => ": nest ifs",
             _ if is_type(text) => ": the one integer type is unsigned",
             _ => "",
@@ -169,24 +181,37 @@ impl<'a> Parser<'a> {
         self.wrong(format!("`{text}` is not part of the subset{instead}"))
     }
 
-    pub(crate) fn unit(&mut self) -> Fallible<Unit> {
+    /// Objects and routines; what is wrong is kept.
+    pub(crate) fn unit(&mut self) -> Unit {
         let mut unit = Unit { objects: Vec::new(), routines: Vec::new() };
-        while self.peek().kind != Kind::End || unit.routines.is_empty() {
-            let void = self.accept("void");
-            if !void {
-                self.unsigned("a routine")?;
-            }
-            let name = self.declared_name()?;
-            if !void && (self.is("checked") || self.is("nt_checked")) {
-                if !unit.routines.is_empty() {
-                    return fail(name.at, "objects are declared before the routines");
-                }
-                unit.objects.push(self.object(name)?);
-            } else {
-                unit.routines.push(self.routine(name, void)?);
+        while !self.is_at_end() || unit.routines.is_empty() && self.errors.is_empty() {
+            if let Err(wrong) = self.part(&mut unit) {
+                self.recover_unit(wrong);
             }
         }
-        Ok(unit)
+        // What ends the text before its time.
+        if let (Kind::Wrong(message), true) = (&self.peek().kind, self.errors.is_empty()) {
+            self.errors.push(Diagnostic::new(self.at(), message));
+        }
+        unit
+    }
+
+    /// An object or a routine.
+    fn part(&mut self, unit: &mut Unit) -> Fallible<()> {
+        let void = self.accept("void");
+        if !void {
+            self.unsigned("a routine")?;
+        }
+        let name = self.declared_name()?;
+        if !void && (self.is("checked") || self.is("nt_checked")) {
+            if !unit.routines.is_empty() {
+                return fail(name.at, "objects are declared before the routines");
+            }
+            unit.objects.push(self.object(name)?);
+        } else {
+            unit.routines.push(self.routine(name, void)?);
+        }
+        Ok(())
     }
 
     /// `unsigned` or `unsigned int`.
@@ -221,9 +246,9 @@ impl<'a> Parser<'a> {
         self.expect("(")?;
         let mut parameters = Vec::new();
         if !(self.is("void") && self.ahead(1).is(")") && self.accept("void") || self.is(")")) {
-            parameters.push(self.parameter()?);
+            self.parameter(&mut parameters);
             while self.accept(",") {
-                parameters.push(self.parameter()?);
+                self.parameter(&mut parameters);
             }
         }
         self.expect(")")?;
@@ -238,7 +263,10 @@ impl<'a> Parser<'a> {
             body: Vec::new(),
             result: None,
         };
-        while self.declaration(&mut routine)? {}
+        while self.declaration(&mut routine).unwrap_or_else(|wrong| {
+            self.recover_declaration(wrong);
+            true
+        }) {}
         routine.body = self.statements(0)?;
         self.result(&mut routine, void)?;
         self.expect("}")?;
@@ -263,9 +291,11 @@ impl<'a> Parser<'a> {
         Ok(())
     }
 
-    fn parameter(&mut self) -> Fallible<Variable> {
-        let shape = self.shape()?;
-        self.declarator(shape)
+    fn parameter(&mut self, parameters: &mut Vec<Variable>) {
+        match self.shape().and_then(|shape| self.declarator(shape)) {
+            Ok(parameter) => parameters.push(parameter),
+            Err(wrong) => self.recover_parameter(wrong),
+        }
     }
 
     /// A line of locals, a named bound or `#pragma rows`, if one comes next.

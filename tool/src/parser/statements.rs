@@ -12,7 +12,12 @@ impl Parser<'_> {
     pub(super) fn statements(&mut self, depth: usize) -> Fallible<Vec<Statement>> {
         let mut statements = Vec::new();
         while !self.is("}") && !self.is("return") && self.peek().kind != Kind::End {
-            statements.push(self.statement(depth)?);
+            match self.statement(depth) {
+                Ok(statement) => statements.push(statement),
+                // Nothing can be read behind what is no token.
+                Err(wrong) if matches!(self.peek().kind, Kind::Wrong(_)) => return Err(wrong),
+                Err(wrong) => self.recover_statement(wrong, depth),
+            }
         }
         Ok(statements)
     }
@@ -21,7 +26,7 @@ impl Parser<'_> {
         if !self.is("{") {
             return self.unexpected(&format!("`{{`{behind}"));
         }
-        if depth == MAX_NESTING {
+        if depth >= MAX_NESTING {
             return self.wrong(format!("blocks are nested {MAX_NESTING} deep at most"));
         }
         self.take();
@@ -39,7 +44,7 @@ impl Parser<'_> {
             Kind::Word("if") => self.if_statement(depth)?,
             Kind::Word("while") => {
                 self.take();
-                let condition = self.condition()?;
+                let condition = self.condition("while")?;
                 let from = self.behind.unwrap_or(at);
                 let facts = self.facts()?;
                 let listed = Span { from, to: self.behind.unwrap_or(from) };
@@ -61,13 +66,13 @@ impl Parser<'_> {
 
     fn if_statement(&mut self, depth: usize) -> Fallible<StatementKind> {
         self.take();
-        let condition = self.condition()?;
+        let condition = self.condition("if")?;
         let then = self.block(depth, " after the condition")?;
         let mut otherwise = Vec::new();
         if self.accept("else") {
             if !self.is("if") {
                 otherwise = self.block(depth, " or `if` after else")?;
-            } else if depth == MAX_NESTING {
+            } else if depth >= MAX_NESTING {
                 return self.wrong(format!("blocks are nested {MAX_NESTING} deep at most"));
             } else {
                 otherwise.push(self.statement(depth + 1)?);
@@ -81,7 +86,7 @@ impl Parser<'_> {
             Kind::Word("where") => Ok(StatementKind::Where(self.wheres()?)),
             Kind::Word("dynamic_check") => {
                 self.take();
-                Ok(StatementKind::Check(self.condition()?))
+                Ok(StatementKind::Check(self.condition("dynamic_check")?))
             }
             Kind::Word("routines") => Ok(StatementKind::Call { result: None, call: self.call()? }),
             Kind::Mark("*") => self.store(),
@@ -193,8 +198,7 @@ impl Parser<'_> {
             }
             arguments.push(self.argument()?);
             if let (true, Callee::Name(name)) = (self.is_relation(), &callee) {
-                let near = did_you_mean(&name.text, ["dynamic_check", "while"].into_iter());
-                return fail(name.at, format!("`{}` is no statement that has a condition{near}", name.text));
+                return fail(name.at, no_condition(&name.text));
             }
             if !self.is(")") {
                 self.expect(",")?;
@@ -237,4 +241,13 @@ fn moved(target: Name, operator: Operator, operand: Operand) -> (Name, Value) {
 fn moved_by(target: Name, term: Term) -> (Name, Value) {
     let sum = Sum { cast: None, base: target.clone(), terms: vec![term] };
     (target, Value::Sum(sum))
+}
+
+/// What is said of a call that has a condition as its argument.
+fn no_condition(name: &str) -> String {
+    if name == "assert" {
+        return "`assert` is not part of the subset: write dynamic_check".to_string();
+    }
+    let near = did_you_mean(name, ["dynamic_check", "while"].into_iter());
+    format!("`{name}` is no statement that has a condition{near}")
 }

@@ -9,7 +9,7 @@ use crate::diagnostics::{fail, Diagnostic, Fallible, Pos};
 use crate::files::TEXT;
 use crate::map::{Map, RoutineMap};
 use crate::names::{Names, RoutineNames};
-use crate::parser::Parser;
+use crate::parser::{Parser, MOST_ERRORS};
 use crate::table::Table;
 use crate::tree::{Object, Routine, Type, Unit};
 use bounds::{word, Ends};
@@ -29,18 +29,38 @@ pub struct Assembly {
     pub first_comment: Option<Pos>,
 }
 
+/// The words of a text, or its first error.
 pub fn assemble(text: &str) -> Fallible<Assembly> {
-    let start = Pos { line: 1, column: 1 };
-    TEXT.may_have(text.len()).map_err(|message| Diagnostic::new(start, message))?;
-    let mut parser = Parser::new(text);
-    let mut assembly = unit(&parser.unit()?)?;
-    assembly.first_comment = parser.first_comment();
-    Ok(assembly)
+    assemble_all(text)
+        .map_err(|errors| errors.into_iter().next().expect("an error, where there is no assembly"))
 }
 
-fn unit(unit: &Unit) -> Fallible<Assembly> {
-    let globals = Globals::of(unit)?;
-    let objects = unit.objects.iter().map(object).collect::<Fallible<Vec<i32>>>()?;
+/// The words of a text, or its errors in the order of the text, so many at most as are told.
+pub fn assemble_all(text: &str) -> Result<Assembly, Vec<Diagnostic>> {
+    let start = Pos { line: 1, column: 1 };
+    TEXT.may_have(text.len()).map_err(|message| vec![Diagnostic::new(start, message)])?;
+    let mut parser = Parser::new(text);
+    let tree = parser.unit();
+    let mut errors = parser.errors();
+    // Where declarations were passed over, what names stand for is not known.
+    let assembly = if parser.has_gap() { None } else { unit(&tree, &mut errors) };
+    match assembly.filter(|_| errors.is_empty()) {
+        Some(assembly) => Ok(Assembly { first_comment: parser.first_comment(), ..assembly }),
+        None => {
+            errors.sort_by_key(|wrong| wrong.at);
+            errors.dedup();
+            errors.truncate(MOST_ERRORS);
+            Err(errors)
+        }
+    }
+}
+
+/// The words of a tree; what is wrong is kept, and then there may be none.
+fn unit(unit: &Unit, errors: &mut Vec<Diagnostic>) -> Option<Assembly> {
+    let globals = Globals::of(unit).map_err(|wrong| errors.push(wrong)).ok()?;
+    let mut kept = |wrong: Diagnostic| errors.push(wrong);
+    let objects: Vec<i32> =
+        unit.objects.iter().filter_map(|tree| object(tree).map_err(&mut kept).ok()).collect();
     let mut assembly = Assembly {
         tables: Vec::new(),
         facts: Vec::new(),
@@ -58,9 +78,11 @@ fn unit(unit: &Unit) -> Fallible<Assembly> {
     for (number, tree) in unit.routines.iter().enumerate() {
         // Objects of a set are those of routine 0.
         let objects: &[i32] = if number == 0 { &objects } else { &[] };
-        routine(unit, number, tree, &globals, objects, &mut assembly)?;
+        if let Err(wrong) = routine(unit, number, tree, &globals, objects, &mut assembly, errors) {
+            errors.push(wrong);
+        }
     }
-    Ok(assembly)
+    Some(assembly)
 }
 
 /// The product of the dimensions; below 0 for a terminated object.
@@ -82,12 +104,16 @@ fn routine(
     globals: &Globals,
     objects: &[i32],
     assembly: &mut Assembly,
+    errors: &mut Vec<Diagnostic>,
 ) -> Fallible<()> {
     let scope = Scope::of(number, tree, globals)?;
-    let variables = (0..scope.variables.len()).map(|v| variable(&scope, v)).collect::<Fallible<Vec<_>>>()?;
+    let mut kept = |wrong: Diagnostic| errors.push(wrong);
+    let variables =
+        (0..scope.variables.len()).filter_map(|v| variable(&scope, v).map_err(&mut kept).ok()).collect();
     let named = tree.named.iter().map(|named| scope.named_bounds(named)).collect::<Fallible<Vec<Ends>>>()?;
     let mut body = Body::new(unit, &scope, tree, named);
-    body.block(&tree.body, false)?;
+    body.block(&tree.body, false);
+    errors.append(&mut body.errors);
     result(&scope, tree)?;
     let has_rows = tree.has_rows || !tree.named.is_empty() || body.has_where;
     let table = Table {

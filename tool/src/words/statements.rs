@@ -24,6 +24,7 @@ pub struct Body<'a> {
     /// The whiles, and where behind their conditions their facts stand.
     pub loops: Vec<(usize, Span)>,
     pub warnings: Vec<Diagnostic>,
+    pub errors: Vec<Diagnostic>,
 }
 
 impl<'a> Body<'a> {
@@ -42,6 +43,7 @@ impl<'a> Body<'a> {
             fact_positions: Vec::new(),
             loops: Vec::new(),
             warnings: Vec::new(),
+            errors: Vec::new(),
         }
     }
 
@@ -55,22 +57,33 @@ impl<'a> Body<'a> {
         self.records.len() - 1
     }
 
-    pub fn block(&mut self, statements: &[Statement], in_bundle: bool) -> Fallible<()> {
-        statements.iter().try_for_each(|statement| self.statement(statement, in_bundle))
+    /// The statements of a block; what is wrong with one is kept, and the next one is looked at.
+    pub fn block(&mut self, statements: &[Statement], in_bundle: bool) {
+        for statement in statements {
+            if let Err(wrong) = self.statement(statement, in_bundle) {
+                self.errors.push(wrong);
+                self.blocks_of(statement, in_bundle);
+            }
+        }
+    }
+
+    /// The blocks of a statement whose head is wrong.
+    fn blocks_of(&mut self, statement: &Statement, in_bundle: bool) {
+        match &statement.kind {
+            StatementKind::If { then, otherwise, .. } => {
+                self.block(then, in_bundle);
+                self.block(otherwise, in_bundle);
+            }
+            StatementKind::While { body, .. } => self.block(body, in_bundle),
+            _ => {}
+        }
     }
 
     /// The statements of a block behind their head; their count goes to the head's field.
-    fn counted(
-        &mut self,
-        head: usize,
-        field: usize,
-        statements: &[Statement],
-        in_bundle: bool,
-    ) -> Fallible<()> {
+    fn counted(&mut self, head: usize, field: usize, statements: &[Statement], in_bundle: bool) {
         let before = self.records.len();
-        self.block(statements, in_bundle)?;
+        self.block(statements, in_bundle);
         self.records[head][field] = (self.records.len() - before) as i32;
-        Ok(())
     }
 
     fn statement(&mut self, statement: &Statement, in_bundle: bool) -> Fallible<()> {
@@ -94,19 +107,19 @@ impl<'a> Body<'a> {
             StatementKind::If { condition, then, otherwise } => {
                 let [a, b, c, d] = self.condition(condition)?;
                 let head = self.push(at, &[11, a, b, c, d]);
-                self.counted(head, 5, then, in_bundle)?;
-                self.counted(head, 6, otherwise, in_bundle)?;
+                self.counted(head, 5, then, in_bundle);
+                self.counted(head, 6, otherwise, in_bundle);
             }
             StatementKind::While { condition, facts, listed, body } => {
                 let [a, b, c, d] = self.condition(condition)?;
                 let head = self.push(at, &[12, a, b, c, d]);
                 self.loops.push((head, *listed));
                 facts.iter().try_for_each(|fact| self.fact(head, fact))?;
-                self.counted(head, 5, body, in_bundle)?;
+                self.counted(head, 5, body, in_bundle);
             }
             StatementKind::Bundle(body) => {
                 let head = self.push(at, &[13]);
-                self.counted(head, 1, body, true)?;
+                self.counted(head, 1, body, true);
             }
         }
         Ok(())
