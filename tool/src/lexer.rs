@@ -1,5 +1,6 @@
 //! A text as tokens, each with its position. Constants (`#define NAME NUMBER`) are put in here, so the parser sees numbers.
 
+use crate::comments::Comment;
 use crate::diagnostics::Pos;
 use crate::tokens::{begins_name, continues_name, first_mark, is_name, keyword, Kind, Token};
 use std::collections::{HashMap, VecDeque};
@@ -34,7 +35,7 @@ pub struct Lexer<'a> {
     constants: HashMap<&'a str, u32>,
     /// Tokens that are read and not given yet.
     ready: VecDeque<Token<'a>>,
-    pub first_comment: Option<Pos>,
+    pub comments: Vec<Comment<'a>>,
 }
 
 impl<'a> Lexer<'a> {
@@ -47,7 +48,7 @@ impl<'a> Lexer<'a> {
             directive: false,
             constants: HashMap::new(),
             ready: VecDeque::new(),
-            first_comment: None,
+            comments: Vec::new(),
         }
     }
 
@@ -133,26 +134,25 @@ impl<'a> Lexer<'a> {
     }
 
     fn comment(&mut self) -> Result<(), Wrong> {
-        let at = self.pos;
-        self.first_comment.get_or_insert(at);
+        let (from, at) = (self.next, self.pos);
+        let is_behind = !self.text[..from].rsplit('\n').next().unwrap_or("").trim().is_empty();
         if self.rest().starts_with("//") {
             self.advance_while(|c| c != '\n');
             if self.text[..self.next].trim_end_matches('\r').ends_with('\\') && self.peek().is_some() {
                 let backslash = Pos { column: self.pos.column.saturating_sub(1), ..self.pos };
-                return Err((
-                    backslash,
-                    "a backslash ends this comment: C takes the next line into it".to_string(),
-                ));
+                let message = "a backslash ends this comment: C takes the next line into it";
+                return Err((backslash, message.to_string()));
             }
-            return Ok(());
+        } else {
+            let Some(length) = self.rest()[2..].find("*/") else {
+                return Err((at, "this comment does not end".to_string()));
+            };
+            let end = self.next + length + 4;
+            while self.next < end {
+                self.advance();
+            }
         }
-        let Some(length) = self.rest()[2..].find("*/") else {
-            return Err((at, "this comment does not end".to_string()));
-        };
-        let end = self.next + length + 4;
-        while self.next < end {
-            self.advance();
-        }
+        self.comments.push(Comment { at, text: self.text[from..self.next].trim_end(), is_behind });
         Ok(())
     }
 

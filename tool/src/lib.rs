@@ -1,6 +1,7 @@
 //! Routines as Checked C text: text to words and back, verdicts with their reasons, runs. The command `mizzengrape` is made of it.
 
 pub mod command;
+mod comments;
 pub mod diagnostics;
 pub mod explain;
 pub mod files;

@@ -90,7 +90,7 @@ fn statements() {
             "if (n > 0 || x > 0) { }",
             "11: a condition is one comparison: write the statements for each, or set a flag",
         ),
-        ("x = 1; // C goes on \\", "20: a backslash ends this comment: C takes the next line into it"),
+        ("x = 1; // C goes on \\", "21: a backslash ends this comment: C takes the next line into it"),
     ] {
         assert_eq!(statement(text), message, "{text}");
     }

@@ -120,14 +120,6 @@ fn names_bring_the_formatted_text_back() {
 }
 
 #[test]
-fn comments_are_dropped_only_when_told() {
-    let output = mizzengrape(&["fmt", "--short", &path("first_club.c")]);
-    let message = "the canonical form has no comments: --drop-comments takes the text without them";
-    assert_eq!(output.err, format!("{}:1:1: error: {message}\n", path("first_club.c")));
-    assert_eq!(output.status, 2);
-}
-
-#[test]
 fn calls_that_are_wrong_end_with_2() {
     let none: [&str; 0] = [];
     for wrong in [

@@ -2,6 +2,7 @@
 
 use super::arguments::{Arguments, Usage};
 use super::{Output, REFUSED};
+use crate::comments::{comments, with_comments};
 use crate::diagnostics::{fail, Diagnostic, Fallible};
 use crate::explain;
 use crate::files::{read_text, NAMES};
@@ -34,8 +35,10 @@ pub const FMT_USAGE: Usage = Usage {
     help: "\
 mizzengrape fmt FILE.c [--drop-comments] [--short]
 
-Prints a text in its canonical form, names kept. A text with comments is not
-taken, since the form has none: --drop-comments takes it without them.
+Prints a text in its canonical form; names and comments are kept. Constants of
+#define are put in.
+
+    --drop-comments   leaves comments out
 ",
     flags: &["--drop-comments", "--short"],
     options: &[],
@@ -99,11 +102,20 @@ pub fn fmt(arguments: &Arguments) -> Result<Output, String> {
     Ok(Output { out, ..Output::default() })
 }
 
-/// A text in its canonical form.
+/// A text in its canonical form, with its comments.
 pub fn formatted(program: &Program, text: &Text, without_comments: bool) -> Fallible<String> {
-    if let Some(at) = program.first_comment.filter(|_| !without_comments) {
-        let message = "the canonical form has no comments: --drop-comments takes the text without them";
-        return fail(at, message);
+    let canonical = print(&text.parts, &program.facts, &text.names);
+    let Some(at) = program.first_comment.filter(|_| !without_comments) else { return Ok(canonical) };
+    let map = assemble(&canonical)?.map;
+    let formatted = with_comments(&canonical, &map, &text.source, &text.map);
+    // The words are the same, and no comment is lost; else nothing is formatted.
+    let again = assemble(&formatted).ok();
+    let same = again.is_some_and(|again| again.tables == program.tables && again.facts == program.facts);
+    if !same || comments(&formatted).len() != comments(&text.source).len() {
+        return fail(
+            at,
+            "this comment has no place in the canonical form: --drop-comments leaves comments out",
+        );
     }
-    Ok(print(&text.parts, &program.facts, &text.names))
+    Ok(formatted)
 }

@@ -45,7 +45,7 @@ impl<'a> Parser<'a> {
 
     /// The first comment of what was read.
     pub(crate) fn first_comment(&self) -> Option<Pos> {
-        self.lexer.first_comment
+        self.lexer.comments.first().map(|comment| comment.at)
     }
 
     pub(crate) fn peek(&self) -> &Token<'a> {
