@@ -1,4 +1,4 @@
-;; For init.el of Emacs, 28 or later with eglot (Emacs 29 has it): the server for C files. K's part is played by eldoc, the quick fix is
+;; For init.el of Emacs 28 or later with eglot, which Emacs 29 has: the server for C files. Hover is eldoc's, the quick fix is
 ;; M-x eglot-code-actions, the outline M-x imenu.
 (require 'eglot)
 (add-to-list 'eglot-server-programs '(c-mode . ("mizzengrape" "lsp")))

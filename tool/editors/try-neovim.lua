@@ -32,11 +32,15 @@ local function show_diagnostics()
     end
 end
 
-local function show_text(from)
-    for number, line in ipairs(vim.api.nvim_buf_get_lines(0, 0, -1, true)) do
-        if number >= from then
-            say(string.format('%3d  %s', number, line))
+-- The screen, line by line.
+local function show_screen()
+    vim.cmd('redraw!')
+    for row = 1, vim.o.lines - 2 do
+        local cells = {}
+        for column = 1, vim.o.columns do
+            cells[column] = vim.fn.screenstring(row, column)
         end
+        say('| ' .. table.concat(cells):gsub('%s+$', ''))
     end
 end
 
@@ -59,7 +63,8 @@ end
 
 wait('no diagnostics came', function() return #vim.diagnostic.get(0) > 0 end)
 say('## second_club.c is opened')
-show_text(6)
+vim.o.columns, vim.o.lines = 110, 16
+show_screen()
 show_diagnostics()
 
 say('## K on line 8')
@@ -75,7 +80,7 @@ type_keys('<Esc>')
 say('## the quick fix on line 8')
 type_keys('8Ggra')
 wait('the diagnostics stay', function() return #vim.diagnostic.get(0) == 0 end)
-show_text(6)
+show_screen()
 show_diagnostics()
 
 say('## the check on line 8 is taken out')
