@@ -13,6 +13,7 @@ use super::transport::{send, Received};
 use super::version::Version;
 use std::collections::{HashMap, VecDeque};
 use std::io::{self, Write};
+use std::panic::{catch_unwind, AssertUnwindSafe};
 
 /// How far a client has come.
 #[derive(PartialEq, Eq)]
@@ -96,7 +97,7 @@ impl<W: Write> Server<W> {
         if let Some(uri) = self.changed.pop_front() {
             self.publish(&uri)?;
         } else if let Some(Request { id, method, params }) = self.requests.pop_front() {
-            let answer = self.requested(&method, &params);
+            let answer = guarded(|| self.requested(&method, &params)).and_then(|answer| answer);
             self.answer(id, answer)?;
         } else {
             return Ok(false);
@@ -189,7 +190,10 @@ impl<W: Write> Server<W> {
 
     fn publish(&mut self, uri: &str) -> io::Result<()> {
         let Some(Open { document, version }) = self.documents.get(uri) else { return Ok(()) };
-        let found = findings(document);
+        let found = match guarded(|| findings(document)) {
+            Ok(found) => found,
+            Err(failure) => return self.log(&failure.message),
+        };
         let diagnostics = Json::array(found.iter().map(|finding| finding.json(uri, &self.client)));
         let params = version.named(Json::object([("uri", uri.into())])).with("diagnostics", diagnostics);
         send(&mut self.output, &notification("textDocument/publishDiagnostics", params))
@@ -266,6 +270,12 @@ fn initialized() -> Json {
     let server =
         Json::object([("name", "mizzengrape".into()), ("version", env!("CARGO_PKG_VERSION").into())]);
     Json::object([("capabilities", capabilities), ("serverInfo", server)])
+}
+
+/// A fault of this program at one text is told, and ends nothing.
+pub fn guarded<T>(work: impl FnOnce() -> T) -> Result<T, Failure> {
+    const FAULT: &str = "this is a fault of mizzengrape; please report this text";
+    catch_unwind(AssertUnwindSafe(work)).map_err(|_| Failure::new(INTERNAL_ERROR, FAULT))
 }
 
 fn uri_of(params: &Json) -> Option<&str> {

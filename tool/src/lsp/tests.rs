@@ -4,7 +4,7 @@ use super::document::Document;
 use super::findings::findings;
 use super::json::Json;
 use super::protocol::Client;
-use super::server::{Next, Server};
+use super::server::{guarded, Next, Server};
 use super::text::{Position, Text};
 use super::transport::{Received, Receiver};
 
@@ -190,6 +190,13 @@ fn what_is_no_request_is_an_error() {
     // An id goes back exactly as it came.
     session.send(r#"{"id":123456789012345678901.50,"method":"unknown"}"#);
     is_error(&session.answer(), "123456789012345678901.50", "-32601");
+}
+
+#[test]
+fn a_fault_is_an_answer() {
+    assert_eq!(guarded(|| 7).expect("no fault"), 7);
+    let fault = guarded(|| -> u32 { panic!("a fault that is made for this test") });
+    assert_eq!(fault.map_err(|failure| failure.code).expect_err("a fault"), -32603);
 }
 
 /// A damaged change leaves the text as it was and is told to the log.
