@@ -24,7 +24,7 @@ pub struct Document {
 pub enum Analysis {
     /// It cannot be read: its errors.
     Wrong(Vec<Diagnostic>),
-    Read(Analysed),
+    Read(Box<Analysed>),
 }
 
 /// A program and the verdict on it.
@@ -43,7 +43,7 @@ impl Document {
         self.text = text;
         self.fixes.take();
         if let Some(Analysis::Read(analysed)) = self.now.take() {
-            self.last = Some(analysed);
+            self.last = Some(*analysed);
         }
     }
 
@@ -59,7 +59,7 @@ impl Document {
             Ok(assembly) => {
                 let program = Program::of_assembly(self.name.clone(), source, assembly);
                 let checked = verdict(&program, self.last.as_ref());
-                Analysis::Read(Analysed { program, checked })
+                Analysis::Read(Box::new(Analysed { program, checked }))
             }
         }
     }

@@ -56,7 +56,8 @@ pub fn findings(document: &Document) -> Vec<Finding> {
     let text = &document.text;
     match document.analysis() {
         Analysis::Wrong(errors) => errors.iter().map(|error| of_text(text, ERROR, error)).collect(),
-        Analysis::Read(Analysed { program, checked }) => {
+        Analysis::Read(analysed) => {
+            let Analysed { program, checked } = &**analysed;
             let warnings = program.warnings.iter().map(|warning| of_text(text, WARNING, warning));
             let start = Pos { line: 1, column: 1 };
             let error = |at: Option<Pos>, message: &str| {

@@ -18,9 +18,8 @@ pub struct Fix {
 
 /// The fixes for the refusal of a document.
 pub fn fixes(document: &Document) -> Vec<Fix> {
-    let Analysis::Read(Analysed { program, checked: Ok(checked) }) = document.analysis() else {
-        return Vec::new();
-    };
+    let Analysis::Read(analysed) = document.analysis() else { return Vec::new() };
+    let Analysed { program, checked: Ok(checked) } = &**analysed else { return Vec::new() };
     let Verdict::Refused(refusal) = &checked.verdict else { return Vec::new() };
     if checked.reason.is_none() {
         return Vec::new();

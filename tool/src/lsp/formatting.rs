@@ -1,7 +1,7 @@
 //! A document in its canonical form, as `fmt` prints it.
 
 use super::changes::common_ends;
-use super::document::{Analysed, Analysis, Document};
+use super::document::{Analysis, Document};
 use super::json::Json;
 use super::protocol::{text_edit, Answer, Failure, REQUEST_FAILED};
 use crate::command::formatted;
@@ -9,7 +9,8 @@ use crate::diagnostics::Pos;
 
 /// The lines that change, as one edit. A text that does not read is left as it is: its errors are told elsewhere.
 pub fn formatting(document: &Document) -> Answer {
-    let Analysis::Read(Analysed { program, .. }) = document.analysis() else { return Ok(Json::Null) };
+    let Analysis::Read(analysed) = document.analysis() else { return Ok(Json::Null) };
+    let program = &analysed.program;
     let Some(text) = &program.text else { return Ok(Json::Null) };
     let new = formatted(program, text, false).map_err(|wrong| Failure::new(REQUEST_FAILED, wrong.message))?;
     let old = document.text.checked();

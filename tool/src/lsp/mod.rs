@@ -19,7 +19,7 @@ mod version;
 
 use server::{Next, Server};
 use std::io::{self, BufReader, Read, Write};
-use std::sync::mpsc::{sync_channel, Receiver, RecvError, SyncSender, TryRecvError};
+use std::sync::mpsc::{sync_channel, Receiver, SyncSender, TryRecvError};
 use std::thread;
 use transport::Received;
 
@@ -56,12 +56,7 @@ fn next(messages: &Receiver<Received>, server: &mut Server<impl Write>) -> io::R
         match messages.try_recv() {
             Ok(received) => return Ok(Some(received)),
             Err(TryRecvError::Disconnected) if !server.work()? => return Ok(None),
-            Err(TryRecvError::Empty) if !server.work()? => {
-                return Ok(match messages.recv() {
-                    Ok(received) => Some(received),
-                    Err(RecvError) => None,
-                })
-            }
+            Err(TryRecvError::Empty) if !server.work()? => return Ok(messages.recv().ok()),
             Err(_) => {}
         }
     }
