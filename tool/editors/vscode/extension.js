@@ -12,7 +12,10 @@ const capabilities = {
         publishDiagnostics: { relatedInformation: true },
         hover: { contentFormat: ['markdown'] },
         documentSymbol: { hierarchicalDocumentSymbolSupport: true },
-        codeAction: { codeActionLiteralSupport: { codeActionKind: { valueSet: ['quickfix'] } } },
+        codeAction: {
+            codeActionLiteralSupport: { codeActionKind: { valueSet: ['quickfix', 'refactor.rewrite'] } },
+            resolveSupport: { properties: ['edit'] },
+        },
     },
 };
 
@@ -27,13 +30,19 @@ function diagnostic(found) {
     return shown;
 }
 
-function quickFix(document, offered) {
-    const action = new vscode.CodeAction(offered.title, vscode.CodeActionKind.QuickFix);
+function workspaceEdit(document, { changes }) {
+    const edits = new vscode.WorkspaceEdit();
+    edits.set(document.uri, Object.values(changes)[0].map(edit));
+    return edits;
+}
+
+function codeAction(document, offered) {
+    const action = new vscode.CodeAction(offered.title, vscode.CodeActionKind.Empty.append(offered.kind));
     action.isPreferred = offered.isPreferred;
-    action.diagnostics = offered.diagnostics.map(diagnostic);
-    action.edit = new vscode.WorkspaceEdit();
-    action.edit.set(document.uri, Object.values(offered.edit.changes)[0].map(edit));
-    return action;
+    action.diagnostics = (offered.diagnostics || []).map(diagnostic);
+    action.edit = offered.edit && workspaceEdit(document, offered.edit);
+    // What is needed to ask for the edit once the action is chosen.
+    return Object.assign(action, { document, offered });
 }
 
 function symbol(found) {
@@ -89,9 +98,16 @@ async function activate(context) {
             async provideCodeActions(document, { start, end }) {
                 const params = { ...at(document), range: { start, end }, context: { diagnostics: [] } };
                 const offered = await server.request('textDocument/codeAction', params);
-                return offered.map(action => quickFix(document, action));
+                return offered.map(action => codeAction(document, action));
             },
-        }, { providedCodeActionKinds: [vscode.CodeActionKind.QuickFix] }),
+            async resolveCodeAction(action) {
+                if (!action.edit) {
+                    const { edit: edits } = await server.request('codeAction/resolve', action.offered);
+                    action.edit = workspaceEdit(action.document, edits);
+                }
+                return action;
+            },
+        }, { providedCodeActionKinds: [vscode.CodeActionKind.QuickFix, vscode.CodeActionKind.RefactorRewrite] }),
         vscode.languages.registerDocumentFormattingEditProvider(selector, {
             async provideDocumentFormattingEdits(document, options) {
                 return (await server.request('textDocument/formatting', { ...at(document), options }) || []).map(edit);

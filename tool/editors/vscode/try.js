@@ -1,4 +1,5 @@
-// The extension in node, with a stand-in for the editor: the second club's routine is opened, refused, repaired by the quick fix, accepted.
+// The extension in node, with a stand-in for the editor: the second club's routine is opened, refused, repaired by the quick fix, accepted; a loop
+// gets its loop facts.
 //
 //   node try.js COMMAND ROUTINE
 
@@ -54,7 +55,7 @@ const vscode = {
     Hover: named('contents'),
     MarkdownString: named('value'),
     CodeAction: named('title', 'kind'),
-    CodeActionKind: { QuickFix: 'quickfix' },
+    CodeActionKind: { QuickFix: 'quickfix', RefactorRewrite: 'refactor.rewrite', Empty: { append: kind => kind } },
     DocumentSymbol: named('name', 'detail', 'kind', 'range', 'selectionRange'),
     WorkspaceEdit: class { set(uri, edits) { this.edits = edits; } },
     Uri: { parse: text => text },
@@ -104,6 +105,18 @@ async function main() {
     assert.deepStrictEqual(await second, []);
     const none = await providers.actions.provideCodeActions(document, refused.range);
     assert.deepStrictEqual(none, []);
+    const all = { start: { line: 0, character: 0 }, end: { line: 99, character: 0 } };
+    const loop = 'void f(array_ptr<unsigned> p : count(n), unsigned n, unsigned i, unsigned x)\n{\n    dynamic_check(p != NULL);\n    i = 0;\n' +
+        '    while (i != n) {\n        x = p[i];\n        i = i + 1;\n    }\n}\n';
+    document.text = loop;
+    document.version += 1;
+    const third = diagnostics();
+    listeners.change({ document, contentChanges: [{ range: all, text: loop }] });
+    assert.deepStrictEqual(await third, []);
+    const [rewrite] = await providers.actions.provideCodeActions(document, { start: { line: 4, character: 4 }, end: { line: 4, character: 4 } });
+    assert.deepStrictEqual([rewrite.kind, rewrite.edit], ['refactor.rewrite', undefined]);
+    (await providers.actions.resolveCodeAction(rewrite)).edit.edits.forEach(({ range, newText }) => document.replace(range, newText));
+    assert.match(document.text, /while \(i != n\) where i <= n \{/);
     const closed = diagnostics();
     listeners.close(document);
     assert.deepStrictEqual(await closed, []);

@@ -7,7 +7,7 @@ use crate::library::{check_table, Verdict};
 use crate::printer::Printer;
 use crate::program::{Program, Text};
 use crate::propose::propose;
-use crate::repair::{apply, edits, Repair};
+use crate::repair::{apply, edits, Edit, Repair};
 
 pub const USAGE: Usage = Usage {
     help: "\
@@ -69,10 +69,15 @@ fn summary(program: &Program, entries: usize, [before, after]: [&Verdict; 2]) ->
 
 /// The text with this list at its loops.
 fn with_facts(text: &Text, facts: &[i32]) -> Option<String> {
+    apply(&text.source, &fact_edits(text, facts)?)
+}
+
+/// What puts a list at the loops of a text.
+pub fn fact_edits(text: &Text, facts: &[i32]) -> Option<Vec<Edit>> {
     let map = text.map.routines.first()?;
     let printer = Printer::new(&text.parts, facts, &text.names, 0);
     let written =
         |head: usize| edits(&Repair::Facts { head, facts: printer.facts_of(head) }, &text.source, map);
     let edits: Option<Vec<_>> = map.loops.iter().map(|(head, _)| written(*head)).collect();
-    apply(&text.source, &edits?.concat())
+    Some(edits?.concat())
 }

@@ -19,6 +19,7 @@ use arguments::{Arguments, Usage};
 pub use check::verdict;
 use color::{colored, Color};
 pub use dis::formatted;
+pub use facts::fact_edits;
 pub use run::run_program;
 use std::io::{self, Write};
 

@@ -1,14 +1,17 @@
-//! Quick fixes as the protocol's code actions.
+//! The protocol's code actions: quick fixes of what is refused, loop facts for a loop.
 
 use super::document::Document;
 use super::findings::findings;
 use super::json::Json;
+use super::loop_facts;
 use super::protocol::{text_edit, Client};
 use super::text::Position;
 use super::version::Version;
 use std::ops::Range;
 
 const QUICK_FIX: &str = "quickfix";
+const REWRITE: &str = "refactor.rewrite";
+pub const KINDS: [&str; 2] = [QUICK_FIX, REWRITE];
 
 /// A document as its client knows it.
 pub struct Known<'a> {
@@ -17,26 +20,62 @@ pub struct Known<'a> {
     pub client: &'a Client,
 }
 
-/// The fixes for what is refused on these lines.
+impl Known<'_> {
+    /// Edits of the document as an edit of the workspace.
+    fn edit(&self, edits: &[(Range<Position>, String)]) -> Json {
+        let edits = edits.iter().map(|(range, text)| text_edit(range, text));
+        self.version.edit(self.uri, Json::array(edits), self.client)
+    }
+}
+
+/// What can be done on these lines; `only` names the kinds that are wanted.
 pub fn actions(document: &Document, known: &Known, lines: &Range<Position>, only: Option<&[Json]>) -> Json {
-    let Known { uri, version, client } = known;
-    // A kind stands for all kinds below it; the empty one for all.
-    let is_wanted = |kind: &Json| matches!(kind.as_str(), Some(QUICK_FIX | ""));
-    let is_offered = client.code_action_literals && only.is_none_or(|kinds| kinds.iter().any(is_wanted));
+    if !known.client.code_action_literals {
+        return Json::Array(Vec::new());
+    }
+    let mut actions = Vec::new();
+    if is_wanted(QUICK_FIX, only) {
+        actions.extend(quick_fixes(document, known, lines));
+    }
+    if known.client.resolves_edits && is_wanted(REWRITE, only) && loop_facts::is_offered(document, lines) {
+        let data = Json::object([("uri", known.uri.into())]);
+        actions.push(Json::object([
+            ("title", loop_facts::TITLE.into()),
+            ("kind", REWRITE.into()),
+            ("data", data),
+        ]));
+    }
+    Json::Array(actions)
+}
+
+/// A kind stands for all kinds below it, the empty one for all.
+fn is_wanted(kind: &str, only: Option<&[Json]>) -> bool {
+    let includes = |wanted: &Json| {
+        let below = wanted.as_str().and_then(|wanted| kind.strip_prefix(wanted).map(|rest| (wanted, rest)));
+        below.is_some_and(|(wanted, rest)| wanted.is_empty() || rest.is_empty() || rest.starts_with('.'))
+    };
+    only.is_none_or(|kinds| kinds.iter().any(includes))
+}
+
+/// The fixes for what is refused on these lines.
+fn quick_fixes(document: &Document, known: &Known, lines: &Range<Position>) -> Vec<Json> {
     let touches =
         |range: &Range<Position>| range.start.line <= lines.end.line && lines.start.line <= range.end.line;
     let refused = findings(document).into_iter().find(|finding| finding.number.is_some());
-    let Some(finding) = refused.filter(|finding| is_offered && touches(&finding.range)) else {
-        return Json::Array(Vec::new());
-    };
-    Json::array(document.fixes().iter().map(|fix| {
-        let edits = fix.edits.iter().map(|(range, text)| text_edit(range, text));
+    let Some(finding) = refused.filter(|finding| touches(&finding.range)) else { return Vec::new() };
+    let action = |fix: &super::fixes::Fix| {
         Json::object([
             ("title", fix.title.as_str().into()),
             ("kind", QUICK_FIX.into()),
-            ("diagnostics", Json::array([finding.json(uri, client)])),
+            ("diagnostics", Json::array([finding.json(known.uri, known.client)])),
             ("isPreferred", fix.is_preferred.into()),
-            ("edit", version.edit(uri, Json::array(edits), client)),
+            ("edit", known.edit(&fix.edits)),
         ])
-    }))
+    };
+    document.fixes().iter().map(action).collect()
+}
+
+/// An offered action with its edit, made for the text as it is now.
+pub fn resolved(action: &Json, document: &Document, known: &Known) -> Option<Json> {
+    Some(action.clone().with("edit", known.edit(&loop_facts::edits(document)?)))
 }

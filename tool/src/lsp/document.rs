@@ -89,3 +89,61 @@ fn verdict(program: &Program, last: Option<&Analysed>) -> Asked<Checked> {
         _ => check(program),
     }
 }
+
+#[cfg(test)]
+mod tests {
+    use super::*;
+    use crate::lsp::findings::findings;
+    use crate::lsp::protocol::Client;
+    use crate::lsp::text::Position;
+
+    const REFUSED: &str =
+        "void f(array_ptr<unsigned> p : count(n), unsigned n, unsigned x)\n{\n    n = n - 1;\n    x = 0;\n}\n";
+
+    /// Whatever was edited before, the findings are those of the text alone.
+    #[test]
+    fn findings_are_those_of_the_text_now() {
+        let pieces = [
+            "n = n - 1;",
+            "n = 0;",
+            "dynamic_check(n > 1);",
+            "// x\n",
+            " ",
+            "\n",
+            "p = NULL;",
+            "}",
+            "where p : count(0);",
+            "\u{1f600}",
+        ];
+        let mut random = 1u64;
+        let mut below = |limit: usize| {
+            random = random.wrapping_mul(6_364_136_223_846_793_005).wrapping_add(1_442_695_040_888_963_407);
+            (random >> 33) as usize % limit
+        };
+        let json = |document: &Document| -> Vec<String> {
+            let client = Client { related_information: true, ..Client::default() };
+            findings(document).iter().map(|finding| finding.json("u", &client).to_string()).collect()
+        };
+        let mut found = 0;
+        for _ in 0..150 {
+            let mut text = REFUSED.to_string();
+            let mut document = Document::new("u".to_string(), text.clone());
+            for _ in 0..6 {
+                let lines = text.split('\n').count();
+                let line = below(lines);
+                let length = text.split('\n').nth(line).map_or(0, |line| line.encode_utf16().count());
+                let (from, to) = (below(length + 1), below(length + 1));
+                let at = |character: usize| Position { line: line as u32, character: character as u32 };
+                let piece = pieces[below(pieces.len())];
+                let end = if below(3) > 0 { from } else { to.max(from) };
+                let edited = Text::new(text.clone()).replaced(at(from)..at(end), piece);
+                text = edited.checked().to_string();
+                document.replace(edited);
+                let fresh = Document::new("u".to_string(), text.clone());
+                assert_eq!(json(&document), json(&fresh), "{text}");
+                found += json(&fresh).len();
+            }
+        }
+        assert!(found > 300, "{found}");
+    }
+}

@@ -8,6 +8,7 @@ mod fixes;
 mod formatting;
 mod hover;
 pub mod json;
+mod loop_facts;
 mod protocol;
 mod server;
 mod symbols;

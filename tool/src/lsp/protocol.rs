@@ -119,6 +119,8 @@ pub struct Client {
     /// Edits of a text that name its version.
     pub document_changes: bool,
     pub code_action_literals: bool,
+    /// Actions whose edits are asked for when they are chosen.
+    pub resolves_edits: bool,
 }
 
 impl Client {
@@ -129,6 +131,8 @@ impl Client {
         let flag = |path: &[&str]| capability(path).and_then(Json::as_bool) == Some(true);
         // The first format is what the client likes best.
         let hover = capability(&["textDocument", "hover", "contentFormat"]).and_then(Json::as_array);
+        let resolved = capability(&["textDocument", "codeAction", "resolveSupport", "properties"])
+            .and_then(Json::as_array);
         Client {
             related_information: flag(&["textDocument", "publishDiagnostics", "relatedInformation"]),
             hover_markdown: hover.and_then(|formats| formats.first()?.as_str()) == Some("markdown"),
@@ -138,6 +142,7 @@ impl Client {
                 "hierarchicalDocumentSymbolSupport",
             ]),
             document_changes: flag(&["workspace", "workspaceEdit", "documentChanges"]),
+            resolves_edits: resolved.is_some_and(|names| names.contains(&Json::from("edit"))),
             code_action_literals: capability(&["textDocument", "codeAction", "codeActionLiteralSupport"])
                 .is_some(),
         }

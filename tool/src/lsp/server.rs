@@ -1,6 +1,6 @@
 //! The server: what each message asks for. Changes come first: a request that is overtaken by one is answered with the new text.
 
-use super::actions::{actions, Known};
+use super::actions::{actions, resolved, Known, KINDS};
 use super::document::Document;
 use super::findings::findings;
 use super::formatting::formatting;
@@ -227,7 +227,9 @@ impl<W: Write> Server<W> {
     /// What is asked of a document.
     fn asked(&self, method: &str, params: &Json) -> Answer {
         let open = || {
-            let uri = uri_of(params).ok_or_else(|| invalid_params("textDocument.uri"))?;
+            // An action that was offered names its document in its data.
+            let uri = uri_of(params).or_else(|| params.at(&["data", "uri"])?.as_str());
+            let uri = uri.ok_or_else(|| invalid_params("textDocument.uri"))?;
             let open =
                 self.documents.get(uri).ok_or_else(|| invalid_params("an open document of this uri"))?;
             Ok((uri, open))
@@ -244,6 +246,12 @@ impl<W: Write> Server<W> {
                 let only = params.at(&["context", "only"]).and_then(Json::as_array);
                 Ok(actions(document, &known, &range, only))
             }
+            "codeAction/resolve" => {
+                let (uri, Open { document, version }) = open()?;
+                let known = Known { uri, version, client: &self.client };
+                let nothing = "no loop fact makes an access safe that is not, or repairs anything";
+                resolved(params, document, &known).ok_or_else(|| Failure::new(REQUEST_FAILED, nothing))
+            }
             "textDocument/formatting" => formatting(&open()?.1.document),
             "textDocument/documentSymbol" => {
                 let (uri, open) = open()?;
@@ -258,12 +266,13 @@ fn initialized() -> Json {
     const INCREMENTAL: u32 = 2;
     let sync =
         Json::object([("openClose", true.into()), ("change", INCREMENTAL.into()), ("save", true.into())]);
-    let quick_fixes = Json::object([("codeActionKinds", Json::array(["quickfix".into()]))]);
+    let kinds = Json::array(KINDS.map(Json::from));
+    let actions = Json::object([("codeActionKinds", kinds), ("resolveProvider", true.into())]);
     let capabilities = Json::object([
         ("positionEncoding", "utf-16".into()),
         ("textDocumentSync", sync),
         ("hoverProvider", true.into()),
-        ("codeActionProvider", quick_fixes),
+        ("codeActionProvider", actions),
         ("documentFormattingProvider", true.into()),
         ("documentSymbolProvider", true.into()),
     ]);

@@ -1,16 +1,12 @@
 //! The server message by message, without a stream: what waits for what, and what is answered.
 
-use super::document::Document;
-use super::findings::findings;
 use super::json::Json;
-use super::protocol::Client;
 use super::server::{guarded, Next, Server};
-use super::text::{Position, Text};
 use super::transport::{Received, Receiver};
 
 const ALL: &str = r#"{"capabilities":{"textDocument":{"publishDiagnostics":{"relatedInformation":true},
     "hover":{"contentFormat":["markdown","plaintext"]},"documentSymbol":{"hierarchicalDocumentSymbolSupport":true},
-    "codeAction":{"codeActionLiteralSupport":{}}},"workspace":{"workspaceEdit":{"documentChanges":true}}}}"#;
+    "codeAction":{"codeActionLiteralSupport":{},"resolveSupport":{"properties":["edit"]}}},"workspace":{"workspaceEdit":{"documentChanges":true}}}}"#;
 const REFUSED: &str =
     "void f(array_ptr<unsigned> p : count(n), unsigned n, unsigned x)\n{\n    n = n - 1;\n    x = 0;\n}\n";
 
@@ -297,9 +293,14 @@ fn other_kinds_of_actions_are_not_offered() {
     session.open(REFUSED);
     session.answers();
     let range = r#"{"start":{"line":2,"character":0},"end":{"line":2,"character":0}}"#;
-    for (only, offered) in
-        [("[]", false), (r#"["refactor"]"#, false), (r#"["source","quickfix"]"#, true), ("null", true)]
-    {
+    for (only, offered) in [
+        ("[]", false),
+        (r#"["refactor"]"#, false),
+        (r#"["source","quickfix"]"#, true),
+        (r#"["quick"]"#, false),
+        (r#"[""]"#, true),
+        ("null", true),
+    ] {
         let context = format!(r#"{{"diagnostics":[],"only":{only}}}"#);
         let params = format!(r#"{{"textDocument":{{"uri":"u"}},"range":{range},"context":{context}}}"#);
         session.ask(1, "textDocument/codeAction", &params);
@@ -307,6 +308,39 @@ fn other_kinds_of_actions_are_not_offered() {
         let count = answer.get("result").and_then(Json::as_array).map_or(0, <[Json]>::len);
         assert_eq!(count > 0, offered, "{only}: {answer}");
     }
+}
+
+/// Loop facts are offered on a loop's line and made when they are chosen, for the text as it is then.
+#[test]
+fn loop_facts_are_written() {
+    let mut session = Session::initialized(ALL);
+    let routine = concat!(env!("CARGO_MANIFEST_DIR"), "/../routines/elapsed_times.c");
+    let text = std::fs::read_to_string(routine).expect("the routine");
+    let bare = text.replace(" where i <= rows", "");
+    assert!(bare != text);
+    session.open(&bare);
+    session.answers();
+    let line = bare.lines().position(|line| line.contains("while")).expect("a loop");
+    let offered = |session: &mut Session, line: usize| {
+        let at = format!(r#"{{"line":{line},"character":0}}"#);
+        let range = format!(r#"{{"start":{at},"end":{at}}}"#);
+        let context = r#"{"diagnostics":[],"only":["refactor"]}"#;
+        let params = format!(r#"{{"textDocument":{{"uri":"u"}},"range":{range},"context":{context}}}"#);
+        session.ask(1, "textDocument/codeAction", &params);
+        session.answer().get("result").and_then(Json::as_array).expect("a list").to_vec()
+    };
+    assert_eq!(offered(&mut session, line - 1), []);
+    let action = offered(&mut session, line)[0].clone();
+    assert_eq!(action.get("edit"), None);
+    session.ask(2, "codeAction/resolve", &action.to_string());
+    let resolved = session.answer();
+    let changes = resolved.at(&["result", "edit", "documentChanges"]).and_then(Json::as_array);
+    let written = changes.and_then(|changes| changes[0].get("edits")).expect("edits").to_string();
+    assert!(written.contains("where i <= rows"), "{resolved}");
+    session.change(r#"[{"text":"void f(unsigned n) { n = 1; }"}]"#);
+    session.answers();
+    session.ask(3, "codeAction/resolve", &action.to_string());
+    is_error(&session.answer(), "3", "-32803");
 }
 
 /// The outline of a text that does not read just now is the last one.
@@ -327,51 +361,4 @@ fn an_outline_stays_while_one_writes() {
     session.change(r#"[{"text":"void f"}]"#);
     let clamped = symbols(&mut session);
     assert!(clamped.to_string().contains(r#""name":"f","#), "{clamped}");
-}
-
-/// Whatever was edited before, the findings are those of the text alone.
-#[test]
-fn findings_are_those_of_the_text_now() {
-    let pieces = [
-        "n = n - 1;",
-        "n = 0;",
-        "dynamic_check(n > 1);",
-        "// x\n",
-        " ",
-        "\n",
-        "p = NULL;",
-        "}",
-        "where p : count(0);",
-        "\u{1f600}",
-    ];
-    let mut random = 1u64;
-    let mut below = |limit: usize| {
-        random = random.wrapping_mul(6_364_136_223_846_793_005).wrapping_add(1_442_695_040_888_963_407);
-        (random >> 33) as usize % limit
-    };
-    let json = |document: &Document| -> Vec<String> {
-        let client = Client { related_information: true, ..Client::default() };
-        findings(document).iter().map(|finding| finding.json("u", &client).to_string()).collect()
-    };
-    let mut found = 0;
-    for _ in 0..150 {
-        let mut text = REFUSED.to_string();
-        let mut document = Document::new("u".to_string(), text.clone());
-        for _ in 0..6 {
-            let lines = text.split('\n').count();
-            let line = below(lines);
-            let length = text.split('\n').nth(line).map_or(0, |line| line.encode_utf16().count());
-            let (from, to) = (below(length + 1), below(length + 1));
-            let at = |character: usize| Position { line: line as u32, character: character as u32 };
-            let piece = pieces[below(pieces.len())];
-            let end = if below(3) > 0 { from } else { to.max(from) };
-            let edited = Text::new(text.clone()).replaced(at(from)..at(end), piece);
-            text = edited.checked().to_string();
-            document.replace(edited);
-            let fresh = Document::new("u".to_string(), text.clone());
-            assert_eq!(json(&document), json(&fresh), "{text}");
-            found += json(&fresh).len();
-        }
-    }
-    assert!(found > 300, "{found}");
 }
