@@ -18,8 +18,25 @@ pub(crate) fn end_value(end: End, size: i64, values: &[u32]) -> i64 {
     i64::from(values[usize::from(end.pointer)]) + size * integer + i64::from(end.constant)
 }
 
+/// What a run is lent, looked at.
+#[derive(Clone, Copy)]
+pub struct Lent<'a> {
+    pub directory: &'a [u32],
+    pub cells: &'a [u32],
+    pub values: &'a [u32],
+    pub origins: &'a [u32],
+}
+
+impl<'a> From<&'a RunInput> for Lent<'a> {
+    fn from(input: &'a RunInput) -> Lent<'a> {
+        let RunInput { directory, cells, values, origins, .. } = input;
+        Lent { directory, cells, values, origins }
+    }
+}
+
 /// Causes 10 to 12, in the paper's row order, then 16.
-pub fn check_entry(routine: &Routine, input: &RunInput) -> Result<(), Refusal> {
+pub fn check_entry<'a>(routine: &Routine, input: impl Into<Lent<'a>>) -> Result<(), Refusal> {
+    let input: Lent = input.into();
     if input.cells.len() > MAX_CELLS || input.directory.len() != 2 * routine.objects.len() {
         return Err(Refusal::at(10, 0));
     }
@@ -37,7 +54,7 @@ pub fn check_entry(routine: &Routine, input: &RunInput) -> Result<(), Refusal> {
     if input.values.len() != variables || input.origins.len() != variables {
         return Err(Refusal::at(11, 0));
     }
-    if let Some(v) = (0..variables).find(|&v| !entry_true(routine, input, v)) {
+    if let Some(v) = (0..variables).find(|&v| !entry_true(routine, &input, v)) {
         return Err(Refusal::at(12, v));
     }
     // Point 7: "when such a last cell is not 0 at entry, giving the lowest such object".
@@ -50,7 +67,7 @@ pub fn check_entry(routine: &Routine, input: &RunInput) -> Result<(), Refusal> {
 }
 
 /// Cause 12 of one variable: a right origin, and true bounds.
-fn entry_true(routine: &Routine, input: &RunInput, v: usize) -> bool {
+fn entry_true(routine: &Routine, input: &Lent, v: usize) -> bool {
     let origin = input.origins[v];
     if routine.kinds[v] == Kind::Integer || input.values[v] == 0 {
         return origin == 0;
@@ -63,8 +80,8 @@ fn entry_true(routine: &Routine, input: &RunInput, v: usize) -> bool {
     if routine.kinds[v] == Kind::Terminated && !object.terminated {
         return false;
     }
-    let low = object_range(&input.directory, origin).0;
+    let low = object_range(input.directory, origin).0;
     let bounds = routine.bounds[v].expect("a pointer has bounds");
-    let value = |end: End| end_value(end, routine.size(v as Var), &input.values);
+    let value = |end: End| end_value(end, routine.size(v as Var), input.values);
     low <= value(bounds.lower) && value(bounds.upper) <= low + i64::from(object.room())
 }

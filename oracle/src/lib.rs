@@ -4,6 +4,7 @@
 pub mod answer;
 pub mod bounds;
 pub mod checker;
+pub mod dispatch;
 pub mod draft;
 pub mod entry;
 pub mod facts;

@@ -27,7 +27,7 @@ pub fn run_with_facts(words: &[i32], facts: &[i32], input: &mut RunInput) -> Run
 
 /// The run of an accepted routine.
 pub fn run_routine(routine: &Routine, input: &mut RunInput) -> RunAnswer {
-    if let Err(refusal) = check_entry(routine, input) {
+    if let Err(refusal) = check_entry(routine, &*input) {
         return RunAnswer::Refused(refusal);
     }
     let RunInput { directory, cells, values, origins, allowance } = input;
@@ -89,6 +89,10 @@ impl<'a> Machine<'a> {
             due: (count > 0).then_some(0),
             steps: 0,
         }
+    }
+
+    pub fn steps(&self) -> u64 {
+        self.steps
     }
 
     /// The statement due.
