@@ -1,16 +1,18 @@
 //! The proved routine checker and interpreter for Rust programs: `check` and `run` on slices, answers as enums.
 
 mod extern_c;
+mod turns;
 
 use std::fmt;
+pub use turns::{dispatch, dispatch_parts, Parts, Room, Routine, Turns};
 
-/// The stack of a thread that is enough for either call, at the deepest nesting.
+/// The stack of a thread that is enough for any call, at the deepest nesting.
 pub const STACK_BYTES: usize = 131_072;
 
 /// Why a routine, or a run of it, is refused.
 #[derive(Clone, Copy, Debug, PartialEq, Eq)]
 pub struct Refusal {
-    /// The paper's number, 1 to 13, 16 or 17.
+    /// The paper's number, 1 to 17.
     pub number: u32,
     /// Object, variable (a bounds row counts on behind the variables), statement, pair or entry of a list, by the number; 0 where there is
     /// none.
