@@ -3,8 +3,10 @@
 use crate::generate::{accepted, accepted_with_rows, accepted_with_sizes};
 use crate::linked::Proved;
 use crate::proved::{Fast, Implementation};
+use crate::turns::Parts;
 use crate::{fast_check, fast_run};
 use oracle::answer::{RunAnswer, RunInput};
+use oracle::dispatch::{Member, Turns};
 use oracle::draft::*;
 use oracle::table::decode;
 use oracle::{checker, machine};
@@ -14,8 +16,8 @@ use std::time::Instant;
 const STATEMENTS: usize = 1_024;
 
 /// The parts of the benchmark, in their order.
-pub const PARTS: [(&str, fn()); 5] =
-    [("check", check), ("run", run), ("rows", rows), ("sizes", sizes), ("facts", facts)];
+pub const PARTS: [(&str, fn()); 6] =
+    [("check", check), ("run", run), ("rows", rows), ("sizes", sizes), ("facts", facts), ("turns", turns)];
 
 /// Nanoseconds for one call: the best of many short rounds, as other work on
 /// the machine only ever adds to a round.
@@ -159,6 +161,45 @@ fn facts() {
     }
 }
 
+/// Eight routines, each with the loop of ten over an object of its own.
+pub fn eight_loops(quantum: u32, total: u32) -> Parts {
+    let cells = 100;
+    let member = |number: u32| {
+        let RunInput { mut values, origins, .. } = loop_input(cells, 0);
+        values[0] = 1 + cells * number;
+        let directory = vec![values[0], cells];
+        Member { table: loop_table(), facts: vec![], directory, values, origins }
+    };
+    let members = (0..8).map(member).collect();
+    let cells = vec![7; 1 + 8 * cells as usize];
+    Parts::of(&Turns { members, cells, quantum, total })
+}
+
+/// Steps of eight routines in turn beside those of a run of one; each call checks all that it is lent first.
+fn turns() {
+    const STEPS: u32 = 200_000;
+    let forms: [(&str, &dyn Implementation); 2] = [("fast", &Fast), ("proved", &Proved)];
+    for (form, implementation) in forms {
+        let table = loop_table();
+        let one = best(200, || {
+            let mut input = loop_input(100, STEPS);
+            assert_eq!(implementation.run(black_box(&table), &[], &mut input)[0], 1, "spent");
+        });
+        println!("run, {form}, one routine: {:.2} ns a step", one / f64::from(STEPS));
+        for quantum in [1, 10, 1_000] {
+            let each = best(100, || {
+                let mut parts = eight_loops(quantum, STEPS);
+                assert_eq!(implementation.dispatch(black_box(&mut parts))[0], 0, "ran");
+            });
+            println!(
+                "turns of {quantum}, {form}, eight routines: {:.2} ns a step, {:.2} of the run of one",
+                each / f64::from(STEPS),
+                each / one
+            );
+        }
+    }
+}
+
 fn check_tables(beside: &str, make: fn(u64, usize, usize) -> Vec<i32>) {
     for variables in [11, 16] {
         let tables: Vec<Vec<i32>> = (0..8).map(|seed| make(seed, STATEMENTS, variables)).collect();
@@ -233,6 +274,14 @@ mod tests {
             assert_eq!(run(&[]), run(&list));
             assert_eq!(run(&list)[..2], [0, 1 + 502 * loops as u32]);
         }
+    }
+
+    #[test]
+    fn eight_loops_take_their_turns() {
+        let mut parts = eight_loops(10, 800);
+        let words = Fast.dispatch(&mut parts);
+        assert_eq!(words[..5], [0, 8, 0, 0, 0]);
+        assert!(words[5..].chunks(4).all(|words| words[..2] == [1, 100]), "{words:?}");
     }
 
     #[test]

@@ -8,6 +8,7 @@ use crate::proved::{
     checked, run_agrees, run_words, show_check_words, show_checked, show_run_words, Implementation, RunWords,
 };
 use crate::shrink::shrink;
+use crate::vectors::join;
 use oracle::answer::{Refusal, RunAnswer, RunInput};
 use oracle::machine;
 use oracle::report::{accept, Accepted};
@@ -152,10 +153,6 @@ fn report(seed: u64, number: u64, found: &Case, what: &str, other: &dyn Implemen
     text + &vector(&small)
 }
 
-fn join<T: ToString>(words: &[T]) -> String {
-    words.iter().map(T::to_string).collect::<Vec<_>>().join(" ")
-}
-
 /// A case in the format of the vector files, with the plain form's answers.
 pub fn vector(case: &Case) -> String {
     let RunInput { directory, cells, values, origins, allowance } = &case.input;
@@ -195,6 +192,7 @@ pub fn vector(case: &Case) -> String {
 mod tests {
     use super::*;
     use crate::proved::{Checked, Fast};
+    use crate::turns::{Parts, TurnsWords};
     use crate::vectors;
 
     /// Wrong on purpose: takes every refusal 9 for accepted.
@@ -216,6 +214,10 @@ mod tests {
         fn run(&self, table: &[i32], facts: &[i32], input: &mut RunInput) -> RunWords {
             Fast.run(table, facts, input)
         }
+
+        fn dispatch(&self, parts: &mut Parts) -> TurnsWords {
+            Fast.dispatch(parts)
+        }
     }
 
     #[test]
@@ -230,8 +232,9 @@ mod tests {
         assert!(report.contains("seed 12") && report.contains("refused 9"));
         let case = report.split_once("table:").map(|(_, rest)| format!("table:{rest}")).unwrap();
         let read = vectors::read(&case).unwrap();
-        assert!(vectors::differences(&read[0]).is_empty());
-        assert!(read[0].table.len() < 80, "{report}");
+        assert!(read[0].differences().is_empty());
+        let table = case.lines().next().expect("a table");
+        assert!(table.split_whitespace().count() < 80, "{report}");
     }
 
     #[test]
@@ -255,7 +258,7 @@ mod tests {
         for number in 0..300 {
             let written = vector(&case(13, number));
             let read = vectors::read(&written).unwrap();
-            assert!(vectors::differences(&read[0]).is_empty(), "number {number}");
+            assert!(read[0].differences().is_empty(), "number {number}");
         }
     }
 }

@@ -31,7 +31,7 @@ pub fn run_with_facts(words: &[i32], facts: &[i32], input: &mut RunInput) -> Run
 
 /// The run of an accepted routine.
 pub fn run_routine(routine: &Routine, input: &mut RunInput) -> RunAnswer {
-    if let Err(refusal) = check_entry(routine, input) {
+    if let Err(refusal) = check_entry(routine, &*input) {
         return RunAnswer::Refused(refusal);
     }
     let code = translate(routine, &input.directory);
@@ -126,17 +126,59 @@ impl Values {
 }
 
 fn execute(code: &Code, cells: &mut [u32], lent: &mut [u32], allowance: u32) -> RunAnswer {
-    let mut values = Values([0; SLOTS]);
-    values.0[..lent.len()].copy_from_slice(lent);
-    let answer = run_loop(code, cells, &mut values, allowance);
-    lent.copy_from_slice(&values.0[..lent.len()]);
+    let mut run = begin(code, lent);
+    let answer = run.go(cells, allowance);
+    run.give_back(lent);
     answer
 }
 
-fn run_loop(code: &Code, cells: &mut [u32], values: &mut Values, allowance: u32) -> RunAnswer {
+/// A run that is begun; one that is spent can go on.
+pub struct Begun<'a> {
+    code: &'a Code,
+    values: Values,
+    due: usize,
+    pub steps: u64,
+}
+
+pub fn begin<'a>(code: &'a Code, lent: &[u32]) -> Begun<'a> {
+    let mut values = Values([0; SLOTS]);
+    values.0[..lent.len()].copy_from_slice(lent);
+    Begun { code, values, due: 0, steps: 0 }
+}
+
+impl Begun<'_> {
+    /// So many more steps at most; the answer counts all that were made.
+    pub fn go(&mut self, cells: &mut [u32], more: u32) -> RunAnswer {
+        let mut answer = run_loop(self.code, cells, &mut self.values, self.due, more);
+        let (RunAnswer::Done { steps }
+        | RunAnswer::Spent { steps, .. }
+        | RunAnswer::Stopped { steps, .. }
+        | RunAnswer::Stuck { steps, .. }) = &mut answer
+        else {
+            return answer;
+        };
+        *steps += self.steps;
+        self.steps = *steps;
+        if let RunAnswer::Spent { statement, .. } = answer {
+            self.due = statement as usize;
+        }
+        answer
+    }
+
+    pub fn give_back(&self, lent: &mut [u32]) {
+        lent.copy_from_slice(&self.values.0[..lent.len()]);
+    }
+}
+
+fn run_loop(
+    code: &Code,
+    cells: &mut [u32],
+    values: &mut Values,
+    mut due: usize,
+    allowance: u32,
+) -> RunAnswer {
     let instructions = code.instructions.as_slice();
     let last = instructions.len() - 1;
-    let mut due = 0usize;
     let mut left = allowance;
     // Leaves the loop with the check that stopped the statement due, or as stuck.
     let halted = loop {

@@ -1,7 +1,8 @@
 //! The proved implementation behind the seam, through the wrapper that Rust programs use.
 
 use crate::proved::{CheckWords, Checked, Implementation, RunWords};
-use mizzengrape::{Outcome, Refusal, Verdict};
+use crate::turns::{Parts, TurnsWords};
+use mizzengrape::{Outcome, Refusal, Room, Turns, Verdict};
 use oracle::answer::RunInput;
 
 pub struct Proved;
@@ -53,5 +54,21 @@ impl Implementation for Proved {
     fn run_alone(&self, table: &[i32], input: &mut RunInput) -> RunWords {
         let RunInput { directory, cells, values, origins, allowance } = input;
         outcome_words(mizzengrape::run(table, directory, cells, values, origins, *allowance))
+    }
+
+    fn dispatch(&self, parts: &mut Parts) -> TurnsWords {
+        let Parts { tables, facts, directories, cells, values, origins, lengths, quantum, total } = parts;
+        let (quantum, total) = (*quantum, *total);
+        let mut parts = mizzengrape::Parts { tables, facts, directories, cells, values, origins, lengths };
+        match mizzengrape::dispatch_parts(&mut parts, quantum, total, &mut Room::default()) {
+            Turns::Refused { routine, refusal } => {
+                let [number, place, pointer] = refusal_words(refusal);
+                vec![3, number, routine, place, pointer]
+            }
+            Turns::Ran(outcomes) => {
+                let words = outcomes.iter().flat_map(|outcome| outcome_words(*outcome));
+                [0, outcomes.len() as u32, 0, 0, 0].into_iter().chain(words).collect()
+            }
+        }
     }
 }

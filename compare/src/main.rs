@@ -3,11 +3,13 @@
 
 mod bench;
 mod differ;
+mod differ_turns;
 mod fast_bounds;
 mod fast_check;
 mod fast_code;
 mod fast_facts;
 mod fast_run;
+mod fast_turns;
 mod generate;
 mod linked;
 mod noninterference;
@@ -18,6 +20,7 @@ mod rng;
 mod shrink;
 mod stack;
 mod stats;
+mod turns;
 mod vectors;
 
 use std::path::Path;
@@ -26,8 +29,8 @@ use std::process::ExitCode;
 const USAGE: &str = "usage: compare vectors DIR
        compare stats SEED COUNT
        compare differ SEED COUNT [FIRST]
-       compare show SEED NUMBER
-       compare bench [check|run|rows|sizes|facts]
+       compare show SEED NUMBER [turns]
+       compare bench [check|run|rows|sizes|facts|turns]
        compare stack [KIB]";
 
 fn main() -> ExitCode {
@@ -39,6 +42,7 @@ fn main() -> ExitCode {
         ["differ", seed, count] => search(seed, count, "0"),
         ["differ", seed, count, first] => search(seed, count, first),
         ["show", seed, number] => show(seed, number),
+        ["show", seed, number, "turns"] => show_turns(seed, number),
         ["bench"] => {
             for (_, part) in bench::PARTS {
                 part();
@@ -101,14 +105,8 @@ fn check_vectors(directory: &Path) -> Result<bool, String> {
 
 /// The differences of one case of the files, of both forms and of every implementation behind the seam.
 fn all_differences(vector: &vectors::Vector) -> Vec<String> {
-    let mut found = vectors::differences(vector);
-    let vectors::Vector { table, facts, input, .. } = vector.clone();
-    let case = generate::Case { table, facts, input };
-    for other in proved::implementations() {
-        let what = differ::difference(&case, other.as_ref())
-            .or_else(|| differ::at_every_limit(&case, other.as_ref()));
-        found.extend(what.map(|what| format!("{} ({}): {what}", vector.name, other.name())));
-    }
+    let mut found = vector.differences();
+    found.extend(proved::implementations().iter().filter_map(|other| vector.difference(other.as_ref())));
     found
 }
 
@@ -121,16 +119,30 @@ fn show_stats(seed: &str, count: &str) -> Result<bool, String> {
     Ok(stats.differences.is_empty())
 }
 
+/// The first difference from a number on among so many cases of a seed.
+type Search = fn(u64, u64, u64, &dyn proved::Implementation) -> Option<String>;
+
+/// For one in so many runs of a routine, a set of routines that run in turn.
+const RUNS_A_SET: u64 = 8;
+
 /// Compares every implementation behind the seam with the plain form.
 fn search(seed: &str, count: &str, first: &str) -> Result<bool, String> {
     let (seed, count, first) = (number(seed)?, number(count)?, number(first)?);
+    let kinds: [(&str, Search, u64); 2] = [
+        ("cases", differ::search, count),
+        ("sets of routines in turn", differ_turns::search, count.div_ceil(RUNS_A_SET)),
+    ];
     let mut same = true;
     for other in proved::implementations() {
-        match differ::search(seed, first, count, other.as_ref()) {
-            None => println!("{}: {count} cases of seed {seed} from {first}, no difference", other.name()),
-            Some(report) => {
-                print!("{report}");
-                same = false;
+        for (kind, search, count) in kinds {
+            match search(seed, first, count, other.as_ref()) {
+                None => {
+                    println!("{}: {count} {kind} of seed {seed} from {first}, no difference", other.name())
+                }
+                Some(report) => {
+                    print!("{report}");
+                    same = false;
+                }
             }
         }
     }
@@ -139,5 +151,10 @@ fn search(seed: &str, count: &str, first: &str) -> Result<bool, String> {
 
 fn show(seed: &str, case: &str) -> Result<bool, String> {
     print!("{}", differ::vector(&generate::case(number(seed)?, number(case)?)));
+    Ok(true)
+}
+
+fn show_turns(seed: &str, case: &str) -> Result<bool, String> {
+    print!("{}", differ_turns::vector(&generate::turns_case(number(seed)?, number(case)?).turns()));
     Ok(true)
 }

@@ -75,6 +75,7 @@ mod tests {
     use crate::differ;
     use crate::generate::Case;
     use crate::proved::{run_words, Checked, Fast, Implementation};
+    use crate::turns::{Parts, TurnsWords};
     use oracle::draft::*;
     use oracle::machine;
     use oracle::table::decode;
@@ -124,6 +125,10 @@ mod tests {
             let mut words = Fast.run(table, facts, input);
             (self.0)(input, &mut words);
             words
+        }
+
+        fn dispatch(&self, parts: &mut Parts) -> TurnsWords {
+            Fast.dispatch(parts)
         }
     }
 

@@ -10,7 +10,7 @@ use oracle::report::Accepted;
 
 /// The run of an accepted routine by the plain machine, or the promise that it breaks.
 pub fn run(accepted: &Accepted, input: &mut RunInput) -> Result<RunAnswer, String> {
-    if let Err(refusal) = check_entry(&accepted.routine, input) {
+    if let Err(refusal) = check_entry(&accepted.routine, &*input) {
         return Ok(RunAnswer::Refused(refusal));
     }
     let RunInput { directory, cells, values, origins, allowance } = input;

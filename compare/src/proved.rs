@@ -3,7 +3,8 @@
 //! against the plain form.
 
 use crate::linked::Proved;
-use crate::{fast_check, fast_run};
+use crate::turns::{turns_words, Parts, TurnsWords};
+use crate::{fast_check, fast_run, fast_turns};
 use oracle::answer::{Refusal, RunAnswer, RunInput};
 
 /// 0 for accepted, else the number of the refusal; its place; for refusal 8 the
@@ -37,6 +38,9 @@ pub trait Implementation: Sync {
     fn run_alone(&self, table: &[i32], input: &mut RunInput) -> RunWords {
         self.run(table, &[], input)
     }
+
+    /// Several routines in turn; may write `cells` and `values`, and nothing else.
+    fn dispatch(&self, parts: &mut Parts) -> TurnsWords;
 }
 
 /// The fast form of this crate behind the seam.
@@ -61,6 +65,13 @@ impl Implementation for Fast {
 
     fn run_alone(&self, table: &[i32], input: &mut RunInput) -> RunWords {
         run_words(&fast_run::run(table, input))
+    }
+
+    fn dispatch(&self, parts: &mut Parts) -> TurnsWords {
+        let mut turns = parts.turns();
+        let answer = fast_turns::dispatch(&mut turns);
+        parts.take(&turns);
+        turns_words(&answer)
     }
 }
 

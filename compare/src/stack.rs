@@ -3,7 +3,9 @@
 
 use crate::linked::Proved;
 use crate::proved::Implementation;
+use crate::turns::Parts;
 use oracle::answer::RunInput;
+use oracle::dispatch::{Member, Turns};
 use oracle::draft::*;
 use oracle::table::MAX_DEPTH;
 use std::process::{Command, Stdio};
@@ -42,20 +44,33 @@ fn input() -> RunInput {
     }
 }
 
+/// The deepest tables in turn, in a memory that they share.
+fn in_turn() -> Parts {
+    let member = |(r, (table, facts)): (usize, (Draft, Vec<i32>))| {
+        let RunInput { mut values, origins, .. } = input();
+        values[0] += 3 * r as u32;
+        Member { table: table.words(), facts, directory: vec![values[0], 3], values, origins }
+    };
+    let members = deepest().into_iter().enumerate().map(member).collect();
+    Parts::of(&Turns { members, cells: vec![0; 10], quantum: 2, total: 300 })
+}
+
 /// All calls for each table on a thread with a stack of so many KiB.
 pub fn probe(kib: usize) {
     let calls = || {
-        deepest().map(|(table, list)| {
+        let turns = Proved.dispatch(&mut in_turn())[0];
+        let alone = deepest().map(|(table, list)| {
             let table = table.words();
             let checks = [Proved.check_alone(&table)[0], Proved.check(&table, &list).words[0]];
             let runs =
                 [Proved.run_alone(&table, &mut input())[0], Proved.run(&table, &list, &mut input())[0]];
             [checks, runs]
-        })
+        });
+        (turns, alone)
     };
     let thread = thread::Builder::new().stack_size(kib * KIB).spawn(calls).expect("a thread");
     let answers = thread.join().expect("all calls return");
-    assert_eq!(answers, [[[0; 2]; 2]; 3], "accepted and done");
+    assert_eq!(answers, (0, [[[0; 2]; 2]; 3]), "ran, accepted and done");
 }
 
 fn survives(kib: usize) -> bool {
@@ -85,7 +100,9 @@ pub fn least() -> Option<usize> {
 #[cfg(test)]
 mod tests {
     use super::*;
+    use crate::turns::turns_words;
     use mizzengrape::STACK_BYTES;
+    use oracle::dispatch::dispatch;
     use oracle::machine;
 
     /// Exactly the stack that the header and the wrapper state. (Where it is too small, the process ends.)
@@ -104,5 +121,7 @@ mod tests {
             let answer = machine::run_with_facts(&table.words(), &list, &mut input()).to_string();
             assert!(depth == MAX_DEPTH && answer.starts_with("done"), "{depth} {answer}");
         }
+        let words = turns_words(&dispatch(&mut in_turn().turns()));
+        assert!(words.len() == 17 && words[5..].chunks(4).all(|words| words[0] == 0), "{words:?}");
     }
 }

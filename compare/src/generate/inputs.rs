@@ -165,7 +165,7 @@ fn fit_counts(rng: &mut Rng, routine: &Routine, input: &mut RunInput) {
 
 /// Makes null every pointer whose bounds are untrue: so all become true.
 fn make_true(routine: &Routine, input: &mut RunInput) {
-    while let Err(refusal) = check_entry(routine, input) {
+    while let Err(refusal) = check_entry(routine, &*input) {
         if refusal.cause != 12 {
             return;
         }

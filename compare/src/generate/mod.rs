@@ -7,6 +7,7 @@ mod kinds;
 mod layout;
 mod lists;
 mod routine;
+mod turns;
 
 use crate::fast_check;
 use crate::rng::Rng;
@@ -16,6 +17,7 @@ use oracle::checker;
 use oracle::draft::{without_statements, Draft, Listed};
 use oracle::table::{decode, Routine, MAX_STATEMENTS};
 use routine::Writer;
+pub use turns::turns_case;
 
 /// A table with its list of loop facts, and what a run of it is lent.
 #[derive(Clone, Debug, PartialEq, Eq)]
