@@ -21,7 +21,8 @@ use Rattle.overlaps.specs.SeatOverlaps.{SeatsRight, seatOverlaps}
 use Rattle.overlaps.specs.OverlapLaws.{overlaps-lent, lowest-most}
 use Rattle.interpreter.specs.ClaimLaws.{launched-begins, refused-alone}
 use Rattle.rounds.specs.InTurnLaws.{turn-begins, relaid}
-use Rattle.seats.specs.Seats.{seatAt, startSeat, Ready, ReadyTo, RefusedAt, AllSeatedAs, CountIs}
+use Rattle.seats.specs.SeatAt.{seatAt}
+use Rattle.seats.specs.Seats.{startSeat, Ready, ReadyTo, RefusedAt, AllSeatedAs, CountIs}
 use Rattle.rounds.specs.Standing.{AllLaunched, Standing, TurnsAsk}
 use Rattle.rounds.specs.StandingLaws.{routines-run}
 use Rattle.seats.specs.declared.AllSeated.{AllSeated}

@@ -13,7 +13,8 @@ ghost use lib.Dec.{eqb, leb};
 ghost use lib.ListN.{length};
 ghost use Rattle.dispatcher.specs.Dispatch.{Promised, countRight, roomRight};
 ghost use Rattle.seats.specs.Lends.{countOf};
-ghost use Rattle.seats.specs.Seats.{ReadyTo, seatAt};
+ghost use Rattle.seats.specs.SeatAt.{seatAt};
+ghost use Rattle.seats.specs.Seats.{ReadyTo};
 
 // What a call says.
 pub enum Said {

@@ -8,7 +8,7 @@ ghost use mathlib.Core.Path.{_≡_};
 ghost use Prim.Native.Nat.{_+_, _≤_};
 ghost use lib.ListN.{length};
 ghost use Rattle.answers.specs.Answers.{reads};
-ghost use Rattle.seats.specs.Seats.{seatAt};
+ghost use Rattle.seats.specs.SeatAt.{seatAt};
 ghost use Rattle.exports.specs.DispatchWords.{putFive, routineWords, dispatchWords, DispatchAnswer};
 ghost use Rattle.exports.specs.DispatchLaws.{putAt, FewRan, isAnswered};
 

@@ -20,7 +20,8 @@ use Rattle.seats.specs.PartsLaws.{between-part}
 use Rattle.seats.specs.Lends.{Lends, lentTo, sectionsAt, countOf}
 use Rattle.overlaps.specs.Overlaps.{lowest, some, shareCell, overlap, overlapsEarlier, firstOverlap}
 use Rattle.overlaps.specs.SeatOverlaps.{seatsOverlap, seatOverlaps}
-use Rattle.seats.specs.Seats.{seatAt, placesOf}
+use Rattle.seats.specs.SeatAt.{seatAt}
+use Rattle.seats.specs.Seats.{placesOf}
 use Rattle.seats.specs.declared.Seat.{Seat}
 
 -- Nothing below i is such.

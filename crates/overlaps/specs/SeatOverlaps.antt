@@ -5,7 +5,7 @@ use mathlib.Core.List.{List}
 use lib.ListN.{length}
 use Rattle.seats.specs.Parts.{between}
 use Rattle.overlaps.specs.Overlaps.{some, overlap}
-use Rattle.seats.specs.Seats.{seatAt}
+use Rattle.seats.specs.SeatAt.{seatAt}
 use Rattle.seats.specs.declared.Seat.{Seat}
 
 -- The directory of a seat lies in its slice, and its objects are few.

@@ -7,7 +7,7 @@ ghost use lib.Dec.{ltb};
 ghost use Rattle.machine.specs.Machine.{low, high};
 ghost use Rattle.overlaps.specs.Overlaps.{lowest, some, shareCell};
 ghost use Rattle.overlaps.specs.SeatOverlaps.{SeatRight, SeatsRight, seatsOverlap, seatOverlaps};
-ghost use Rattle.seats.specs.Seats.{seatAt};
+ghost use Rattle.seats.specs.SeatAt.{seatAt};
 
 fn least(a: u64, b: u64) -> u64
     ensures { λ r. ⌜ r ≡ min a b ⌝ }

@@ -16,7 +16,7 @@ use Rattle.turns.specs.TurnsLaws.{after-start, after-next, after-received, afte
 use Rattle.turns.specs.TurnsLaws.{idle-more, idle-ends, turns-end}
 use Rattle.seats.specs.Lends.{Lends, countOf}
 use Rattle.rounds.specs.Rounds.{routinesOf, stepsOf, AllRan}
-use Rattle.seats.specs.Seats.{seatAt, nobody}
+use Rattle.seats.specs.SeatAt.{seatAt, nobody}
 use Rattle.rounds.specs.Standing.{seated, Standing, InPlace, MayTurn, Turned, TurnsAsk, Looping, idleAfter}
 use Rattle.overlaps.specs.OverlapLaws.{AllApart, all-apart}
 use Rattle.rounds.specs.StandingLaws.{routines-run, in-place, may-turn, one-turn, seat-steps}

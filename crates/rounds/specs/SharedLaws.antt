@@ -21,7 +21,7 @@ use Rattle.rounds.specs.Rounds.{routinesOf, stepsOf, AllRan, goesOn, mem
 use Rattle.overlaps.specs.Overlaps.{firstOverlap}
 use Rattle.interpreter.specs.ClaimLaws.{launched-begins}
 use Rattle.rounds.specs.InTurnLaws.{in-turns, goes-alike, goes-leaves, made-same, others-same}
-use Rattle.seats.specs.Seats.{seatAt}
+use Rattle.seats.specs.SeatAt.{seatAt}
 use Rattle.rounds.specs.Standing.{AllLaunched, Standing}
 use Rattle.overlaps.specs.OverlapLaws.{AllApart}
 use Rattle.rounds.specs.StandingLaws.{routines-run, memory-gone, memory-skipped}

@@ -20,7 +20,8 @@ use Rattle.seats.specs.Parts.{valuesKind, partOf, startAt, between, Replaced}
 use Rattle.seats.specs.Lends.{Lends, lentTo, sectionsAt, countOf}
 use Rattle.rounds.specs.Rounds.{routinesOf, memoryAfter}
 use Rattle.overlaps.specs.Overlaps.{firstOverlap}
-use Rattle.seats.specs.Seats.{seatAt, placesOf, endsAt, successorsAt}
+use Rattle.seats.specs.SeatAt.{seatAt}
+use Rattle.seats.specs.Seats.{placesOf, endsAt, successorsAt}
 use Rattle.rounds.specs.InTurn.{InTurn}
 use Rattle.seats.specs.declared.Seat.{Seat}
 

@@ -28,7 +28,8 @@ use Rattle.overlaps.specs.Overlaps.{some}
 use Rattle.rounds.specs.InTurn.{InTurn, LeftOthers}
 use Rattle.rounds.specs.InTurnLaws.{made-most, made-all, made-more, values-count, others-turn, turn-reads, turn-steps, turn-prepared, turn-safe}
 use Rattle.rounds.specs.InTurnLaws.{turn-taken, turn-cells, turn-leaves, others-same, answer-steps}
-use Rattle.seats.specs.Seats.{seatAt, nobody, placesOf, endsAt, successorsAt}
+use Rattle.seats.specs.SeatAt.{seatAt, nobody}
+use Rattle.seats.specs.Seats.{placesOf, endsAt, successorsAt}
 use Rattle.rounds.specs.Standing.{seated, InPlace, MayGoOn, MayTurn, AllLaunched, Standing, GoneOn, Skipped, Turned}
 use Rattle.overlaps.specs.OverlapLaws.{AllApart}
 use Rattle.seats.specs.declared.Seat.{Seat}

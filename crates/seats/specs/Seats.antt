@@ -2,9 +2,8 @@
 use Prim.Native.Nat.{ℕ, _*_, _/_, _<_, _≤_}
 use mathlib.Core.Path.{_≡_}
 use mathlib.Core.List.{List}
-use lib.ListN.{length, getD, take}
+use lib.ListN.{length, take}
 use Rattle.answers.specs.declared.refusals.Refusal.{Refusal}
-use Rattle.answers.specs.declared.refusals.Refusal.the-variants.{Length}
 use Rattle.answers.specs.declared.stops.Outcome.the-variants.{Refused}
 use Rattle.rules.specs.Stored.{store}
 use Rattle.machine.specs.Machine.{going}
@@ -13,20 +12,13 @@ use Rattle.interpreter.specs.Starts.{Launched, First}
 use Rattle.interpreter.specs.Outcomes.{outcomeShown}
 use Rattle.seats.specs.Lends.{Lends, lentTo, sectionsAt, countOf}
 use Rattle.seats.specs.Parts.{tableKind, directoryKind, valuesKind, window, spanOf}
+use Rattle.seats.specs.SeatAt.{seatAt}
 use Rattle.seats.specs.declared.Places.{Places}
 use Rattle.seats.specs.declared.Seat.{Seat}
 use Rattle.seats.specs.declared.Seated.{Seated}
 use Rattle.seats.specs.declared.Seated.the-variants as one
 use Rattle.seats.specs.declared.AllSeated.{AllSeated}
 use Rattle.seats.specs.declared.AllSeated.the-variants as all
-
--- A seat of nobody: what an array of seats has where there is none.
-abbrev pub nobody : Seat
-nobody = record {
-  sections = record { start = 0; objects = 0; variables = 0; statements = 0; rows = 0 };
-  places = record { table = record { start = 0; end = 0 }; directory = record { start = 0; end = 0 }; values = record { start = 0; end = 0 } };
-  outcome = Refused Length;
-}
 
 -- Where the parts of routine r lie.
 abbrev pub placesOf : Lends → ℕ → Places
@@ -35,9 +27,6 @@ placesOf l r = record {
   directory = spanOf (l .lengths) directoryKind r (length (l .directories));
   values = spanOf (l .lengths) valuesKind r (length (l .values));
 }
-
-abbrev pub seatAt : List Seat → ℕ → Seat
-seatAt seats r = getD seats r nobody
 
 -- The scratch of routine r: 512 numbers for the ends in force, 2,048 for the successors of its statements.
 abbrev pub endsAt : List ℕ → ℕ → List ℕ

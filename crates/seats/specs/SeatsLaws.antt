@@ -24,7 +24,8 @@ use Rattle.seats.specs.Parts.{window, between, spanOf}
 use Rattle.seats.specs.PartsLaws.{between-part, window-before, put-replaced}
 use Rattle.seats.specs.Lends.{Lends, lentTo, sectionsAt, countOf}
 use Rattle.interpreter.specs.ClaimLaws.{launched-begins}
-use Rattle.seats.specs.Seats.{nobody, endsAt, successorsAt, startSeat, LaidOut, SeatedAs, SeatResult, Ready, ReadyTo, RefusedAt}
+use Rattle.seats.specs.SeatAt.{nobody}
+use Rattle.seats.specs.Seats.{endsAt, successorsAt, startSeat, LaidOut, SeatedAs, SeatResult, Ready, ReadyTo, RefusedAt}
 use Rattle.seats.specs.declared.Seat.{Seat}
 use Rattle.seats.specs.declared.Span.{Span}
 use Rattle.seats.specs.declared.Seated.{Seated}

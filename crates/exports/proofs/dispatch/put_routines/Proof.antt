@@ -5,7 +5,7 @@ use native.Mathlib.Omega.{arith}
 use borrow.Author.Needs.{needs}
 use lib.ListN.{length}
 use Rattle.answers.specs.Answers.{reads}
-use Rattle.seats.specs.Seats.{seatAt}
+use Rattle.seats.specs.SeatAt.{seatAt}
 use Rattle.exports.specs.DispatchWords.{routineWords}
 use Rattle.exports.specs.DispatchLaws.{routine-none, routine-more, routine-all}
 use Rattle.exports.proofs.dispatch.put_routines.Statement.{statement}
