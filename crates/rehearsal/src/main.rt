@@ -1,21 +1,24 @@
 // The incident replayed with the blocks touching: rows 1 to 4 of the memory are this laptop's block, rows 5 to 8 the other laptop's, rows 9 to 12 the
-// block that the scorer opens next. The routines for late entries of both clubs stand in data/ as files.
+// block that the scorer opens next. The routines for late entries of both clubs stand in data/ as files. Then the first club's routine on both laptops,
+// in turn.
+mod laptops; // laptops.rt: both laptops in turn
+
 use libc::STDOUT_FILENO;
 ghost use Prim.Native.Nat.{_≤_};
 ghost use lib.ListN.{length};
 
-const FIRST_ROW: u32 = 1; // of this laptop's block
+pub(crate) const FIRST_ROW: u32 = 1; // of this laptop's block
 
-const OTHER_ROW: usize = 5; // the other laptop's first row
+pub(crate) const OTHER_ROW: usize = 5; // the other laptop's first row
 
 const NEXT_ROW: u32 = 9; // of the block that the scorer opens
 
-const ROWS: u32 = 4; // of each block
+pub(crate) const ROWS: u32 = 4; // of each block
 
-const LIMIT: u32 = 1000;
+pub(crate) const LIMIT: u32 = 1000;
 
 // Prints the verdict on the routine in a file and answers its words.
-fn read_routine(name: &[u8], table: &mut [i32]) -> usize
+pub(crate) fn read_routine(name: &[u8], table: &mut [i32]) -> usize
     ensures { λ r. ⌜ r ≤ length (now (table .exit)) ⌝ }
 {
     let file = os::open_read(name);
@@ -47,7 +50,7 @@ fn show_first_row(before: u32, after: u32) {
 }
 
 // The entry table, row by row.
-fn show_rows(cells: &[u32])
+pub(crate) fn show_rows(cells: &[u32])
     requires { ⌜ 13 ≤ length (now cells) ⌝ }
 {
     for row in 1usize..13 {
@@ -93,4 +96,9 @@ fn main() {
         b"Second club: the count is raised before anything allows it, and the block is full.\n",
     );
     second_club();
+    io::write_all(
+        STDOUT_FILENO,
+        b"Both laptops in turn, a step each, their blocks touching.\n",
+    );
+    laptops::both_laptops();
 }
