@@ -18,6 +18,8 @@ pub enum Repair {
     Else { head: usize, written: String },
     /// A statement before another one, in place of where it stands.
     Move { statement: usize, before: usize },
+    /// Several repairs at once, of different places.
+    Several(Vec<Repair>),
     /// These loop facts at a while, in place of those that it has.
     Facts { head: usize, facts: Vec<String> },
 }
@@ -68,6 +70,12 @@ pub fn edits(repair: &Repair, text: &str, map: &RoutineMap) -> Option<Vec<Edit>>
             let mut edits = vec![Edit::insert(at, layout.before(at, &[moved])), layout.removal(from, to)];
             edits.sort_by_key(|edit| edit.from);
             edits
+        }
+        Repair::Several(repairs) => {
+            let all: Option<Vec<Vec<Edit>>> = repairs.iter().map(|repair| edits(repair, text, map)).collect();
+            let mut all = all?.concat();
+            all.sort_by_key(|edit| edit.from);
+            all
         }
         Repair::Facts { head, facts } => {
             let (_, Span { from, to }) = *map.loops.iter().find(|(number, _)| number == head)?;

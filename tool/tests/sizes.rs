@@ -29,7 +29,7 @@ fn ends_in_equal_elements_are_compared() {
         [
             "note: not shown: declared upper end row + n <= known upper end other + m: nothing relates them (line 4: row = other)",
             "note: known here: row == other",
-            "help: write dynamic_check(n <= m); before line 4",
+            "help: in place of line 4 write bundled { row = other; where row : bounds(other, other + m); }",
             "refused 8 0 0",
         ]
     );
@@ -40,7 +40,10 @@ fn ends_in_equal_elements_are_compared() {
     // Eleven cells are three rows, and two cells more.
     assert_eq!(
         explained(&routine(3, "row = o;"))[2..],
-        ["help: write dynamic_check(n <= 3); before line 4", "refused 8 0 0"]
+        [
+            "help: in place of line 4 write bundled { row = o; where row : bounds(row, (array_ptr<unsigned>)row + 11); }",
+            "refused 8 0 0"
+        ]
     );
 }
 

@@ -35,19 +35,21 @@ impl Check {
     }
 }
 
-/// What would show the bounds after a refused statement: checks before it, or a bundle with its neighbours, or both.
-pub fn for_bounds(place: &Place, refused: usize) -> Option<Help> {
+/// A bundle with its neighbours that shows the bounds after a refused statement.
+pub fn bundled(place: &Place, refused: usize) -> Option<Help> {
+    let routine = Draft::of(place);
+    let mut groups = groups(&routine.table, refused).into_iter();
+    let alone = groups.find(|&(first, count)| passes(&routine.with_bundle(first, count), first));
+    alone.map(|group| in_one(place, group, Vec::new()))
+}
+
+/// Checks before a refused statement that show the bounds after it, or a bundle with its neighbours and checks before that.
+pub fn checked(place: &Place, refused: usize) -> Option<Help> {
     let routine = Draft::of(place);
     if let Some((at, conditions)) = checks(&routine, refused) {
         return Some(checks_before(place, at, &conditions));
     }
-    let groups = groups(&routine.table, refused);
-    let alone =
-        groups.iter().copied().find(|&(first, count)| passes(&routine.with_bundle(first, count), first));
-    if let Some(group) = alone {
-        return Some(in_one(place, group, Vec::new()));
-    }
-    groups.into_iter().find_map(|group| {
+    groups(&routine.table, refused).into_iter().find_map(|group| {
         let (at, conditions) = checks(&routine.with_bundle(group.0, group.1), group.0)?;
         (at == group.0).then(|| in_one(place, group, written(place, &conditions)))
     })
@@ -56,7 +58,7 @@ pub fn for_bounds(place: &Place, refused: usize) -> Option<Help> {
 /// Checks before a statement.
 fn checks_before(place: &Place, statement: usize, conditions: &[[i32; 4]]) -> Help {
     let written = written(place, conditions);
-    let message = format!("write {} before {}", written.join(" and "), place.line(statement));
+    let message = format!("write {} before {}", written.join(" "), place.line(statement));
     Help { message, repair: Some(Repair::Before { statement, written }) }
 }
 
@@ -167,7 +169,7 @@ fn in_one(place: &Place, (first, count): (usize, usize), checks: Vec<String>) ->
         }
     };
     if !checks.is_empty() {
-        message.push_str(&format!(", with {} before it", checks.join(" and ")));
+        message.push_str(&format!(", with {} before it", checks.join(" ")));
     }
     Help { message, repair: Some(repair) }
 }

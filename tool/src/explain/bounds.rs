@@ -3,7 +3,7 @@
 use super::advice::Check;
 use super::facts::note;
 use super::walk::{Moment, Walk};
-use super::{Explanation, Help, Note, Place};
+use super::{ways, Explanation, Help, Note, Place};
 use crate::library::Refusal;
 use crate::repair::Repair;
 use crate::rows::InForce;
@@ -28,6 +28,8 @@ pub fn not_shown(place: &Place, seen: &Walk, refusal: &Refusal) -> Explanation {
     if let Some(moment) = &seen.after {
         notes(place, moment, pointer, &mut explanation);
     }
+    let lost = ways::lost_by_loop(place, s).into_iter().next();
+    explanation.notes.extend(lost.map(|kept| Note::new(kept.note(place))));
     explanation
 }
 
@@ -182,7 +184,7 @@ impl Side {
         let gap = match gap {
             Gap::Lost => {
                 return match by {
-                    Some(s) => format!("the known {which} end was lost at {}", lost(place, s)),
+                    Some(s) => format!("the known {which} end was lost at {}", lost(place, s, self.upper)),
                     None => format!("the known {which} end is unknown"),
                 }
             }
@@ -222,9 +224,10 @@ fn counted(cells: i64) -> String {
 }
 
 /// The statement that made an end unknown, and why it could not be turned round.
-fn lost(place: &Place, s: usize) -> String {
+fn lost(place: &Place, s: usize, is_upper: bool) -> String {
     let printer = &place.printer;
     let why = match may_wrap(printer.table, s) {
+        Some((_, k)) if k > 0 && is_upper => "raises it, and nothing allows more".to_string(),
         Some((n, k)) if k > 0 => {
             format!("may wrap: {} <= {} is not shown there", printer.name(n), GREATEST - k)
         }

@@ -17,8 +17,10 @@ mod report;
 mod rows;
 mod state;
 pub mod stops;
+mod trial;
 mod values;
 mod walk;
+mod ways;
 
 use crate::diagnostics::{Pos, Source};
 use crate::image::Image;
@@ -35,6 +37,7 @@ use oracle::checker::Value;
 pub use replay::{same_end, Replay};
 pub use report::{access, report};
 pub use state::state;
+pub use trial::progress;
 use walk::Walk;
 
 /// A refusal in words.
@@ -207,13 +210,34 @@ pub fn help(program: &Program, refusal: &Refusal) -> Vec<Help> {
         return Vec::new();
     };
     let help = match refusal.number {
-        8 => advice::for_bounds(&place, refusal.place),
+        8 => for_bounds(program, &place, refusal),
         9 => bounds::help_for_access(&place, &Draft::of(&place).walk(None), refusal),
-        13 => rows::help(&place, refusal),
+        13 => rows::help(program, &place, refusal),
         17 => advice::for_entry(&place, refusal.place),
         _ => None,
     };
     help.into_iter().collect()
+}
+
+/// What would show the bounds. What keeps every run as it is comes before checks, which stop some.
+fn for_bounds(program: &Program, place: &Place, refusal: &Refusal) -> Option<Help> {
+    let refused = refusal.place;
+    let bundled = || advice::bundled(place, refused);
+    let tried = |helps: Vec<Help>| trial::first_that_helps(program, refusal, helps.into_iter());
+    let mut recounted = ways::recounted(place, refused);
+    let checked = (!recounted.is_empty()).then(|| recounted.split_off(1)).unwrap_or_default();
+    // Bounds that follow a pointer come before checks, and other bounds that are known where nothing else helps.
+    let known = || declare_known(program, refusal).filter(narrow::is_unchecked);
+    let follows = || known().filter(|_| narrow::gives_address(place, refused));
+    let declared = || known().and_then(|help| tried(vec![help]));
+    bundled()
+        .or_else(|| tried(ways::joined(place, refused)))
+        .or_else(|| tried(recounted))
+        .or_else(|| follows().and_then(|help| tried(vec![help])))
+        .or_else(|| tried(ways::kept(place, refused)))
+        .or_else(|| advice::checked(place, refused))
+        .or_else(|| tried(checked))
+        .or_else(declared)
 }
 
 /// The second implementation's view of a program: its verdict, and what it saw on the way to a refusal.

@@ -32,9 +32,10 @@ pub fn declare_known(program: &Program, refusal: &Refusal) -> Option<Help> {
         let last = vec![format!("where {};", wheres.join(" and "))];
         let check = |condition: &[i32; 4]| format!("dynamic_check({});", place.printer.condition(*condition));
         let before: Vec<String> = conditions.iter().map(check).collect();
-        let mut message = format!("declare the bounds that are known: {}", last[0]);
+        let (line, statement) = (place.line(refused), place.printer.statement(refused));
+        let mut message = format!("in place of {line} write bundled {{ {statement}; {} }}", last[0]);
         if !before.is_empty() {
-            message.push_str(&format!(" with {} before it", before.join(" and ")));
+            message.push_str(&format!(", with {} before it", before.join(" ")));
         }
         Some(Help { message, repair: Some(Repair::Bundle { first: refused, count: 1, before, last }) })
     })
@@ -66,4 +67,18 @@ fn known_bounds(place: &Place, table: &Table, moment: &Moment) -> Option<Vec<Str
         counts_alike.then(written)
     };
     unshown.map(bounds).collect()
+}
+
+/// Whether a statement gives a pointer another address.
+pub fn gives_address(place: &Place, statement: usize) -> bool {
+    match place.printer.table.statements[statement] {
+        [4 | 5, ..] => true,
+        [6 | 7, p, q, ..] => p != q,
+        _ => false,
+    }
+}
+
+/// Whether a help writes no check, so that no run stops that did not before.
+pub fn is_unchecked(help: &Help) -> bool {
+    matches!(&help.repair, Some(Repair::Bundle { before, .. }) if before.is_empty())
 }

@@ -1,8 +1,10 @@
 //! Refusal 13: rows of different numbers are in force behind the two sides of an if, or at the head and at the end of a while's body.
 
 use super::advice::{self, Differing};
-use super::{Explanation, Help, Note, Place};
+use super::trial::first_that_helps;
+use super::{ways, Explanation, Help, Note, Place};
 use crate::library::Refusal;
+use crate::program::Program;
 use crate::rows::InForce;
 
 pub fn differ(place: &Place, refusal: &Refusal) -> Explanation {
@@ -30,9 +32,13 @@ pub fn differ(place: &Place, refusal: &Refusal) -> Explanation {
 }
 
 /// What would give both ways the same rows.
-pub fn help(place: &Place, refusal: &Refusal) -> Option<Help> {
+pub fn help(program: &Program, place: &Place, refusal: &Refusal) -> Option<Help> {
     let sides = sides(place, refusal.place);
-    advice::same_rows(place, refusal.place, &differing(place, &sides))
+    let differing = differing(place, &sides);
+    advice::same_rows(place, refusal.place, &differing).or_else(|| {
+        let both = ways::on_both_sides(place, refusal.place, &differing);
+        first_that_helps(program, refusal, both.into_iter())
+    })
 }
 
 /// The pointers whose rows are not the same on both sides.

@@ -2,11 +2,10 @@
 
 use super::document::{Analysed, Analysis, Document};
 use super::text::Position;
-use crate::explain::{declare_known, help, Help};
-use crate::library::{self, Refusal, Verdict};
+use crate::explain::{declare_known, help, progress, Help};
+use crate::library::{Refusal, Verdict};
 use crate::program::Program;
 use crate::repair::{apply, edits};
-use crate::table::Table;
 use std::ops::Range;
 
 pub struct Fix {
@@ -34,31 +33,8 @@ pub fn fixes(document: &Document) -> Vec<Fix> {
 fn fix(document: &Document, program: &Program, refusal: &Refusal, help: &Help) -> Option<Fix> {
     let (repair, text) = (help.repair.as_ref()?, program.text.as_ref()?);
     let edits = edits(repair, &text.source, text.map.routines.get(refusal.routine.unwrap_or(0))?)?;
-    let is_preferred = is_accepted(program, refusal, apply(&text.source, &edits)?)?;
+    let is_preferred = progress(program, refusal, repair, apply(&text.source, &edits)?)?;
     let lines = &document.text;
     let edits = edits.into_iter().map(|edit| (lines.position(edit.from)..lines.position(edit.to), edit.text));
     Some(Fix { title: help.message.clone(), edits: edits.collect(), is_preferred })
-}
-
-/// Whether a repaired text is accepted; none where the refusal is not left behind.
-fn is_accepted(program: &Program, refusal: &Refusal, text: String) -> Option<bool> {
-    let repaired = Program::of_text(&program.name, text, true).ok()?;
-    let routine = refusal.routine.unwrap_or(0);
-    match library::check(&repaired.tables, &repaired.facts).ok()?.verdict {
-        Verdict::Accepted => Some(true),
-        Verdict::Refused(next) => {
-            let [old, new] = [program, &repaired].map(|program| program.text.as_ref()?.parts.get(routine));
-            is_behind(old?, refusal, new?, &next).then_some(false)
-        }
-    }
-}
-
-/// Whether a refusal stands behind another one, which had so many statements behind it, or is one of a head around it, which is found later.
-fn is_behind(old: &Table, refusal: &Refusal, new: &Table, next: &Refusal) -> bool {
-    let Some(refused) = (new.statements.len() + refusal.place).checked_sub(old.statements.len()) else {
-        return false;
-    };
-    let head = new.statements.get(next.place);
-    let is_around = head.is_some_and(|head| head[0] != 13) && next.place + new.extent(next.place) > refused;
-    next.number >= 7 && (next.place > refused || next.place < refused && is_around)
 }

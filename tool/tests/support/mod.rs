@@ -7,7 +7,9 @@ pub mod client;
 pub mod damage;
 pub mod generate;
 pub mod loops;
+pub mod mistakes;
 pub mod proposals;
+pub mod repaired;
 pub mod round_trip;
 
 /// Numbers from a seed (splitmix64).
