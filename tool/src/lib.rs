@@ -5,6 +5,7 @@ mod comments;
 pub mod diagnostics;
 pub mod explain;
 pub mod files;
+pub mod findings;
 pub mod form;
 pub mod image;
 mod lexer;

@@ -1,5 +1,6 @@
 //! What words do not hold: names, how many variables stand in the parentheses, void or unsigned.
 
+use crate::files::{read_text, Loaded, NAMES};
 use crate::table::Table;
 use crate::tokens::is_name;
 use std::collections::HashSet;
@@ -137,6 +138,12 @@ impl Names {
             _ => None,
         }
     }
+}
+
+/// A names file.
+pub fn read_names(path: &str, short: bool) -> Loaded<Names> {
+    let read = Names::read(&read_text(path, &NAMES, short)?);
+    read.map_err(|line| format!("{path}:{line}: error: no line of a names file\n"))
 }
 
 /// Names are listed in order.

@@ -105,6 +105,18 @@ impl Program {
         Program { name, tables, facts, text, of_words: true, warnings, first_comment, ragged }
     }
 
+    /// Tables by other names than the canonical ones; a text has its own.
+    pub fn renamed(self, names: &Names) -> Loaded<Program> {
+        let Some(text) = self.text.filter(|_| self.of_words) else {
+            return Err("error: --names names what is in a table; a text has its names\n".to_string());
+        };
+        let names = names.completed(&text.parts);
+        let source = print(&text.parts, &self.facts, &names);
+        let again = assemble(&source).ok().filter(|again| again.tables == self.tables);
+        let map = again.ok_or("error: these names do not fit the table\n")?.map;
+        Ok(Program { text: Some(Text { source, map, names, ..text }), ..self })
+    }
+
     /// What diagnostics quote.
     pub fn source(&self) -> Option<Source<'_>> {
         self.text.as_ref().map(|text| Source { name: &self.name, text: &text.source })

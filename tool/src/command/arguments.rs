@@ -1,4 +1,4 @@
-//! The arguments of a command: files, flags, options with a value.
+//! The arguments of a command: files, flags, options with a value (`--allowance 5` or `--allowance=5`); behind `--` all are files.
 
 /// What a command may be given.
 pub struct Usage {
@@ -21,11 +21,16 @@ impl Arguments {
         let mut read = Arguments::default();
         let mut rest = arguments.iter();
         while let Some(argument) = rest.next() {
-            if usage.flags.contains(&argument.as_str()) {
+            let with_value = argument.split_once('=').filter(|(name, _)| usage.options.contains(name));
+            if argument == "--" {
+                read.files.extend(rest.by_ref().cloned());
+            } else if usage.flags.contains(&argument.as_str()) {
                 read.flags.push(argument.clone());
             } else if usage.options.contains(&argument.as_str()) {
                 let value = rest.next().ok_or(format!("{argument} wants a value"))?;
                 read.options.push((argument.clone(), value.clone()));
+            } else if let Some((name, value)) = with_value {
+                read.options.push((name.to_string(), value.to_string()));
             } else if argument.starts_with('-') && argument != "-" {
                 return Err(format!("no option {argument} here"));
             } else {

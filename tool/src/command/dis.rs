@@ -5,10 +5,9 @@ use super::{Output, REFUSED};
 use crate::comments::{comments, with_comments};
 use crate::diagnostics::{fail, Diagnostic, Fallible};
 use crate::explain;
-use crate::files::{read_text, NAMES};
 use crate::form::list_fault;
 use crate::library::form_refusal;
-use crate::names::Names;
+use crate::names::{read_names, Names};
 use crate::printer::{print, print_numbered};
 use crate::program::{Program, Text};
 use crate::words::assemble;
@@ -60,10 +59,7 @@ pub fn dis(arguments: &Arguments) -> Result<Output, String> {
     let Some(text) = &program.text else { return Err(no_text(&program)) };
     let mut names = text.names.clone();
     if let Some(path) = arguments.option("--names") {
-        let read = Names::read(&read_text(path, &NAMES, short)?);
-        names = read
-            .map_err(|line| format!("{path}:{line}: error: no line of a names file\n"))?
-            .completed(&text.parts);
+        names = read_names(path, short)?.completed(&text.parts);
     }
     let comments = program.first_comment.zip(program.source());
     let err = comments.map_or_else(String::new, |(at, source)| {

@@ -8,6 +8,7 @@ mod color;
 mod dis;
 mod explain;
 mod facts;
+mod header;
 mod lsp;
 mod run;
 mod session;
@@ -124,7 +125,7 @@ enum Call {
 /// Each command with its usage.
 const COMMANDS: [(&str, &Usage, Call); 9] = [
     ("check", &check::USAGE, Call::AtOnce(check::check)),
-    ("asm", &asm::USAGE, Call::AtOnce(asm::asm)),
+    ("asm", &asm::USAGE, Call::AsItGoes(asm::asm)),
     ("dis", &dis::DIS_USAGE, Call::AtOnce(dis::dis)),
     ("fmt", &dis::FMT_USAGE, Call::AtOnce(dis::fmt)),
     ("run", &run::USAGE, Call::AtOnce(run::run)),

@@ -11,7 +11,7 @@ use crate::program::Program;
 
 pub const USAGE: Usage = Usage {
     help: "\
-mizzengrape run FILE IMAGE [--allowance N] [--facts F] [--short]
+mizzengrape run FILE IMAGE [--allowance N] [--facts F] [--names N] [--short]
 
 Runs a routine and says how it ended, which values and cells it changed. At a
 stop the blocks that the statement is about are drawn. IMAGE says what the
@@ -27,10 +27,11 @@ Objects without `at` touch, the first at cell 1; what is not given is 0.
 
     --allowance N   the steps at most, 0 to 4294967295, whatever the image says
     --facts F       the list of loop facts of a table, as words in a file
+    --names N       the names file of a table, which asm wrote
     --short         the outcome, the values and the cells as in the vectors
 ",
     flags: &["--short"],
-    options: &["--allowance", "--facts"],
+    options: &["--allowance", "--facts", "--names"],
     least_files: 2,
     most_files: 2,
 };

@@ -9,6 +9,7 @@ use crate::files::{read_text, IMAGE};
 use crate::image::{read_image, Image};
 use crate::library::{self, Lent, Outcome, Refusal};
 use crate::memory::Memory;
+use crate::names::read_names;
 use crate::printer::Printer;
 use crate::program::{Program, Text};
 
@@ -30,7 +31,10 @@ pub struct Wanted {
 /// The session that the arguments name, or what ends the call before a run.
 pub fn read(arguments: &Arguments) -> Result<Result<Session, Output>, String> {
     let short = arguments.is_short();
-    let program = Program::load(&arguments.files[..1], arguments.option("--facts"), short)?;
+    let mut program = Program::load(&arguments.files[..1], arguments.option("--facts"), short)?;
+    if let Some(path) = arguments.option("--names") {
+        program = program.renamed(&read_names(path, short)?)?;
+    }
     let image = read_text(&arguments.files[1], &IMAGE, short)?;
     open(program, &arguments.files[1], image, Wanted { short, allowance: arguments.number("--allowance")? })
 }

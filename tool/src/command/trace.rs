@@ -19,7 +19,8 @@ use std::time::{Duration, Instant};
 
 pub const USAGE: Usage = Usage {
     help: "\
-mizzengrape trace FILE IMAGE [--from T] [--steps N] [--allowance N] [--facts F]
+mizzengrape trace FILE IMAGE [--from T] [--steps N] [--allowance N]
+                             [--facts F] [--names N]
 
 Runs a routine and prints a line for each step: its number, place, statement,
 what it changed, of a condition what it compared; then how the run ends, which
@@ -29,9 +30,10 @@ is the exit status too, also where not all steps are printed.
     --steps N       prints so many, 1000 by default
     --allowance N   the steps at most, whatever the image says
     --facts F       the list of loop facts of a table, as words in a file
+    --names N       the names file of a table, which asm wrote
 ",
     flags: &["--short"],
-    options: &["--from", "--steps", "--allowance", "--facts"],
+    options: &["--from", "--steps", "--allowance", "--facts", "--names"],
     least_files: 2,
     most_files: 2,
 };
