@@ -131,17 +131,20 @@ fn fixes_and_formatting_hold() {
         let line = random.below(text.lines().count()) as u32;
         let position = Json::object([("line", line.into()), ("character", 9.into())]);
         document.ask("textDocument/hover", &[("position", position)]);
-        if !text.contains('/') {
-            let untidy = text.replace("    ", "  ").replace(" = ", "=");
-            let before = refusal(&document.set(&untidy), &untidy).map(|refusal| refusal.number);
-            let edits = document.ask("textDocument/formatting", &[]);
-            let tidy = applied(&untidy, edits.as_array().expect("edits"));
-            assert_eq!(tidy, text);
-            let after = refusal(&document.set(&tidy), &tidy).map(|refusal| refusal.number);
-            assert_eq!(before, after, "{text}");
-            assert_eq!(document.ask("textDocument/formatting", &[]), Json::Array(Vec::new()));
-            formatted += 1;
+        let untidy = text.replace("    ", "  ").replace(" = ", "=");
+        let before = refusal(&document.set(&untidy), &untidy).map(|refusal| refusal.number);
+        let edits = document.ask("textDocument/formatting", &[]);
+        let tidy = applied(&untidy, edits.as_array().expect("edits"));
+        let after = refusal(&document.set(&tidy), &tidy).map(|refusal| refusal.number);
+        assert_eq!(before, after, "{text}\n{tidy}");
+        assert_eq!(document.ask("textDocument/formatting", &[]), Json::Array(Vec::new()), "{tidy}");
+        match text.matches("/*").count() + text.matches("//").count() {
+            0 => assert_eq!(tidy, text),
+            comments => {
+                assert_eq!(comments, tidy.matches("/*").count() + tidy.matches("//").count(), "{tidy}")
+            }
         }
+        formatted += 1;
     }
     println!("{fixed} fixes, {accepted} accepted; {formatted} formatted");
     assert!(
