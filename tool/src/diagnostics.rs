@@ -1,5 +1,6 @@
 //! What is said of a place in a text: `FILE:LINE:COLUMN: error: MESSAGE`, the source line, a caret under the column.
 
+use crate::repair::Edit;
 use std::fmt::Write;
 
 /// A line and a column, both from 1; a column is a character.
@@ -27,11 +28,17 @@ pub struct Span {
 pub struct Diagnostic {
     pub at: Pos,
     pub message: String,
+    /// What would repair it, where that is plain.
+    pub edit: Option<Edit>,
 }
 
 impl Diagnostic {
     pub fn new(at: Pos, message: impl Into<String>) -> Diagnostic {
-        Diagnostic { at, message: message.into() }
+        Diagnostic { at, message: message.into(), edit: None }
+    }
+
+    pub fn repaired_by(self, edit: Option<Edit>) -> Diagnostic {
+        Diagnostic { edit, ..self }
     }
 }
 

@@ -33,8 +33,14 @@ pub struct Edit {
 }
 
 impl Edit {
-    fn insert(at: Pos, text: String) -> Edit {
+    pub fn insert(at: Pos, text: String) -> Edit {
         Edit { from: at, to: at, text }
+    }
+
+    /// Another word in place of one.
+    pub fn word(at: Pos, old: &str, new: &str) -> Edit {
+        let to = Pos { column: at.column + old.chars().count() as u32, ..at };
+        Edit { from: at, to, text: new.to_string() }
     }
 }
 

@@ -18,8 +18,8 @@ pub fn nearest<'a>(word: &str, names: impl Iterator<Item = &'a str>) -> Option<&
 }
 
 /// `: did you mean `rows`?`, or nothing.
-pub fn did_you_mean<'a>(word: &str, names: impl Iterator<Item = &'a str>) -> String {
-    nearest(word, names).map_or_else(String::new, |name| format!(": did you mean `{name}`?"))
+pub fn did_you_mean(near: Option<&str>) -> String {
+    near.map_or_else(String::new, |name| format!(": did you mean `{name}`?"))
 }
 
 /// How many letters are put in, left out, changed or exchanged with their neighbour; 3 stands for more.

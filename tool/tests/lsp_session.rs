@@ -66,13 +66,14 @@ fn a_routine_is_opened_repaired_broken_and_mended() {
     client.change(URI, 2, changes(&offered[0]));
     assert_eq!(codes(&client.diagnostics()), []);
     assert_eq!(actions(&mut client, 9), []);
-    // A letter too many, and back again.
+    // A letter too many, which a fix takes out again.
     client.change(URI, 3, vec![replaced(9, 8, 8, "x")]);
     assert_eq!(codes(&client.diagnostics()), [None]);
-    client.change(URI, 4, vec![replaced(9, 8, 9, "")]);
+    let offered = actions(&mut client, 9);
+    client.change(URI, 4, changes(&offered[0]));
     assert_eq!(codes(&client.diagnostics()), []);
-    // The whole text at once, on one line: as it is formatted it is accepted too.
-    let whole = "void f(array_ptr<unsigned> p : count(n), unsigned n) { dynamic_check(n > 0); n--; }\n";
+    // The whole text at once, on one line: formatted, it has its comment still.
+    let whole = "void f(array_ptr<unsigned> p : count(n), unsigned n) { dynamic_check(n > 0); n--; } // one boat less\n";
     client.change(URI, 5, vec![Json::object([("text", whole.into())])]);
     assert_eq!(codes(&client.diagnostics()), []);
     let options = Json::object([("tabSize", 4.into()), ("insertSpaces", true.into())]);

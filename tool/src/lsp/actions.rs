@@ -1,7 +1,8 @@
 //! The protocol's code actions: quick fixes of what is refused, loop facts for a loop.
 
 use super::document::Document;
-use super::findings::findings;
+use super::findings::{findings, Finding};
+use super::fixes::Fix;
 use super::json::Json;
 use super::loop_facts;
 use super::protocol::{text_edit, Client};
@@ -57,13 +58,17 @@ fn is_wanted(kind: &str, only: Option<&[Json]>) -> bool {
     only.is_none_or(|kinds| kinds.iter().any(includes))
 }
 
-/// The fixes for what is refused on these lines.
+/// The fixes for what is found on these lines.
 fn quick_fixes(document: &Document, known: &Known, lines: &Range<Position>) -> Vec<Json> {
+    let found = findings(document);
     let touches =
         |range: &Range<Position>| range.start.line <= lines.end.line && lines.start.line <= range.end.line;
-    let refused = findings(document).into_iter().find(|finding| finding.number.is_some());
-    let Some(finding) = refused.filter(|finding| touches(&finding.range)) else { return Vec::new() };
-    let action = |fix: &super::fixes::Fix| {
+    if !found.iter().any(|finding| touches(&finding.range)) {
+        return Vec::new();
+    }
+    let on_lines = document.fixes().iter().map(|fix| (fix, &found[fix.finding]));
+    let on_lines = on_lines.filter(|(_, finding)| touches(&finding.range));
+    let action = |(fix, finding): (&Fix, &Finding)| {
         Json::object([
             ("title", fix.title.as_str().into()),
             ("kind", QUICK_FIX.into()),
@@ -72,7 +77,7 @@ fn quick_fixes(document: &Document, known: &Known, lines: &Range<Position>) -> V
             ("edit", known.edit(&fix.edits)),
         ])
     };
-    document.fixes().iter().map(action).collect()
+    on_lines.map(action).collect()
 }
 
 /// An offered action with its edit, made for the text as it is now.

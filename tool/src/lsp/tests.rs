@@ -310,6 +310,33 @@ fn other_kinds_of_actions_are_not_offered() {
     }
 }
 
+/// All errors of a text are told, and what is plain is repaired: a name that is one letter off, a semicolon.
+#[test]
+fn errors_of_a_text_have_fixes() {
+    let mut session = Session::initialized(ALL);
+    session.open("void f(unsigned boats)\n{\n    boats = boast + 1;\n    boats = 1\n}\n");
+    let found =
+        session.answer().at(&["params", "diagnostics"]).and_then(Json::as_array).expect("a list").to_vec();
+    let messages = found.iter().map(|one| one.get("message").and_then(Json::as_str).expect("a message"));
+    let due = ["`boast` is not declared: did you mean `boats`?", "expected `;`, found `}`"];
+    assert_eq!(messages.collect::<Vec<_>>(), due);
+    for (line, title, text) in [(2, "write `boats`", "boats"), (3, "write `;`", ";")] {
+        let range =
+            format!(r#"{{"start":{{"line":{line},"character":0}},"end":{{"line":{line},"character":0}}}}"#);
+        session.ask(
+            1,
+            "textDocument/codeAction",
+            &format!(r#"{{"textDocument":{{"uri":"u"}},"range":{range}}}"#),
+        );
+        let answer = session.answer();
+        let offered = answer.get("result").and_then(Json::as_array).expect("a list");
+        assert_eq!(offered.len(), 1, "{answer}");
+        assert_eq!(offered[0].get("title").and_then(Json::as_str), Some(title));
+        assert_eq!(offered[0].get("diagnostics").and_then(Json::as_array), Some(&found[line - 2..line - 1]));
+        assert!(answer.to_string().contains(&format!(r#""newText":"{text}""#)), "{answer}");
+    }
+}
+
 /// Loop facts are offered on a loop's line and made when they are chosen, for the text as it is then.
 #[test]
 fn loop_facts_are_written() {

@@ -8,6 +8,7 @@ mod values;
 
 use crate::diagnostics::{fail, Diagnostic, Fallible, Pos};
 use crate::lexer::Lexer;
+use crate::repair::Edit;
 use crate::tokens::{is_type, Kind, Token};
 use crate::tree::*;
 pub(crate) use recovery::MOST_ERRORS;
@@ -114,7 +115,8 @@ impl<'a> Parser<'a> {
         }
         match self.behind {
             Some(behind) if !matches!(self.peek().kind, Kind::Wrong(_) | Kind::Mark("++" | "--")) => {
-                fail(behind, format!("expected `;`, found {}", self.peek().shown()))
+                let wrong = Diagnostic::new(behind, format!("expected `;`, found {}", self.peek().shown()));
+                Err(wrong.repaired_by(Some(Edit::insert(behind, ";".to_string()))))
             }
             _ => self.unexpected("`;`"),
         }

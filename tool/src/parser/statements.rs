@@ -2,8 +2,9 @@
 
 use super::values::{ONE_ACCESS, ONE_OPERATION};
 use super::{Parser, MAX_NESTING};
-use crate::diagnostics::{fail, Fallible, Pos, Span};
-use crate::suggest::did_you_mean;
+use crate::diagnostics::{fail, Diagnostic, Fallible, Pos, Span};
+use crate::repair::Edit;
+use crate::suggest::{did_you_mean, nearest};
 use crate::tokens::Kind;
 use crate::tree::*;
 
@@ -198,7 +199,7 @@ impl Parser<'_> {
             }
             arguments.push(self.argument()?);
             if let (true, Callee::Name(name)) = (self.is_relation(), &callee) {
-                return fail(name.at, no_condition(&name.text));
+                return Err(no_condition(name));
             }
             if !self.is(")") {
                 self.expect(",")?;
@@ -244,10 +245,15 @@ fn moved_by(target: Name, term: Term) -> (Name, Value) {
 }
 
 /// What is said of a call that has a condition as its argument.
-fn no_condition(name: &str) -> String {
-    if name == "assert" {
-        return "`assert` is not part of the subset: write dynamic_check".to_string();
-    }
-    let near = did_you_mean(name, ["dynamic_check", "while"].into_iter());
-    format!("`{name}` is no statement that has a condition{near}")
+fn no_condition(name: &Name) -> Diagnostic {
+    let Name { text, at } = name;
+    let near = match text.as_str() {
+        "assert" => Some("dynamic_check"),
+        _ => nearest(text, ["dynamic_check", "while"].into_iter()),
+    };
+    let message = match text.as_str() {
+        "assert" => "`assert` is not part of the subset: write dynamic_check".to_string(),
+        _ => format!("`{text}` is no statement that has a condition{}", did_you_mean(near)),
+    };
+    Diagnostic::new(*at, message).repaired_by(near.map(|near| Edit::word(*at, text, near)))
 }

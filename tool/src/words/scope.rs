@@ -1,7 +1,8 @@
 //! What names stand for: objects, routines and named bounds of the file, variables of a routine.
 
-use crate::diagnostics::{fail, Fallible};
-use crate::suggest::did_you_mean;
+use crate::diagnostics::{fail, Diagnostic, Fallible};
+use crate::repair::Edit;
+use crate::suggest::{did_you_mean, nearest};
 use crate::tree::{Name, Routine, Type, Unit, Variable};
 use std::collections::HashMap;
 
@@ -89,7 +90,10 @@ impl<'a> Scope<'a> {
     /// A name that stands for nothing, and one that is near it.
     fn undeclared<T>(&self, name: &Name) -> Fallible<T> {
         let names = self.numbers.keys().chain(self.globals.0.keys()).copied();
-        fail(name.at, format!("`{}` is not declared{}", name.text, did_you_mean(&name.text, names)))
+        let near = nearest(&name.text, names);
+        let wrong =
+            Diagnostic::new(name.at, format!("`{}` is not declared{}", name.text, did_you_mean(near)));
+        Err(wrong.repaired_by(near.map(|near| Edit::word(name.at, &name.text, near))))
     }
 
     pub fn integer(&self, name: &Name) -> Fallible<i32> {
