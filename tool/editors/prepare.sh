@@ -8,3 +8,11 @@ ln -s "$command" "$work/bin/mizzengrape"
 cp "$folder/../../routines/second_club.c" "$work/routines/"
 export HOME="$work" XDG_CONFIG_HOME="$work" XDG_DATA_HOME="$work" XDG_STATE_HOME="$work" XDG_CACHE_HOME="$work" PATH="$work/bin:$PATH"
 cd "$work/routines"
+
+# What was seen is what a file of this folder holds; with WRITE=1 it is written anew.
+held() {
+    if [ -n "${WRITE:-}" ]; then
+        cp "$work/seen" "$folder/$1"
+    fi
+    diff "$folder/$1" "$work/seen" || { cat "$work/errors"; exit 1; }
+}

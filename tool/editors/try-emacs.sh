@@ -12,5 +12,5 @@ fi
 . "$folder/prepare.sh"
 timeout 120 $emacs -Q --batch -f package-initialize -l "$folder/emacs.el" -l "$folder/try-emacs.el" >"$work/seen" 2>"$work/errors" ||
     { cat "$work/seen" "$work/errors"; exit 1; }
-diff "$folder/try-emacs.txt" "$work/seen" || { cat "$work/errors"; exit 1; }
+held try-emacs.txt
 echo "$($emacs --version | head -n 1): opened, refused, repaired by the quick fix, accepted"
