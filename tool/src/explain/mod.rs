@@ -257,9 +257,15 @@ impl Second {
             Verdict::Accepted => 0,
         };
         let [table] = &program.tables[..] else { return Second { routine, seen: None, safe: Vec::new() } };
-        let accepted = oracle::report::accept(table, &program.facts);
-        let safe = accepted.map_or_else(|_| Vec::new(), |accepted| accepted.report);
-        Second { routine, seen: Some(walk::walk(table, &program.facts, None)), safe }
+        // One walk is enough: an accepted routine's report is compared, a refused one's reason is looked for.
+        let (seen, safe) = match verdict {
+            Verdict::Accepted => match oracle::report::accept(table, &program.facts) {
+                Ok(accepted) => (Walk::unseen(Ok(())), accepted.report),
+                Err(refusal) => (Walk::unseen(Err(refusal)), Vec::new()),
+            },
+            Verdict::Refused(_) => (walk::walk(table, &program.facts, None), Vec::new()),
+        };
+        Second { routine, seen: Some(seen), safe }
     }
 
     /// Its verdict and report, where they are others than the proved ones.

@@ -44,6 +44,13 @@ pub struct Walk {
     pub unshown: Option<Unshown>,
 }
 
+impl Walk {
+    /// A walk of which nothing is known but how it ended.
+    pub fn unseen(answer: CheckAnswer) -> Walk {
+        Walk { answer, before: None, after: None, asked: None, unshown: None }
+    }
+}
+
 /// An entry of the list of loop facts that is not shown, where, and what is known there.
 #[derive(Debug)]
 pub struct Unshown {
@@ -57,9 +64,7 @@ pub fn walk(words: &[i32], facts: &[i32], asked: Option<usize>) -> Walk {
     let read = decode(words).and_then(|routine| Ok((LoopFacts::read(&routine, facts)?, routine)));
     let (loop_facts, routine) = match read {
         Ok(read) => read,
-        Err(refusal) => {
-            return Walk { answer: Err(refusal), before: None, after: None, asked: None, unshown: None }
-        }
+        Err(refusal) => return Walk::unseen(Err(refusal)),
     };
     let bundles = routine.statements.iter().map(|s| matches!(s, oracle::syntax::Statement::Bundle { .. }));
     let mut recorder = Recorder {
