@@ -44,7 +44,7 @@ fn each_example_is_what_was_tried() {
     assert_eq!(screens, 3);
 }
 
-/// The session of neovim is one of the second club's routine as it stands.
+/// What neovim showed is the second club's routine as it stands.
 #[test]
 fn the_screen_shows_the_routine() {
     let seen = read("editors/try-neovim.txt");

@@ -10,21 +10,21 @@ const ALL: &str = r#"{"capabilities":{"textDocument":{"publishDiagnostics":{"rel
 const REFUSED: &str =
     "void f(array_ptr<unsigned> p : count(n), unsigned n, unsigned x)\n{\n    n = n - 1;\n    x = 0;\n}\n";
 
-struct Session {
+struct Conversation {
     server: Server<Vec<u8>>,
     read: usize,
 }
 
-impl Session {
-    fn new() -> Session {
-        Session { server: Server::new(Vec::new()), read: 0 }
+impl Conversation {
+    fn new() -> Conversation {
+        Conversation { server: Server::new(Vec::new()), read: 0 }
     }
 
-    fn initialized(params: &str) -> Session {
-        let mut session = Session::new();
-        session.ask(0, "initialize", params);
-        session.answers();
-        session
+    fn initialized(params: &str) -> Conversation {
+        let mut conversation = Conversation::new();
+        conversation.ask(0, "initialize", params);
+        conversation.answers();
+        conversation
     }
 
     fn send(&mut self, message: &str) {
@@ -93,13 +93,13 @@ fn shown(hover: &Json) -> &str {
 
 #[test]
 fn a_request_that_is_overtaken_is_answered_with_the_new_text() {
-    let mut session = Session::initialized(ALL);
-    session.open(REFUSED);
-    session.answers();
-    session.hover(1, 2);
-    session.change(r#"[{"range":{"start":{"line":2,"character":0},"end":{"line":2,"character":0}},"text":"    dynamic_check(n > 3);\n"}]"#);
-    session.hover(2, 3);
-    let answers = session.answers();
+    let mut conversation = Conversation::initialized(ALL);
+    conversation.open(REFUSED);
+    conversation.answers();
+    conversation.hover(1, 2);
+    conversation.change(r#"[{"range":{"start":{"line":2,"character":0},"end":{"line":2,"character":0}},"text":"    dynamic_check(n > 3);\n"}]"#);
+    conversation.hover(2, 3);
+    let answers = conversation.answers();
     // One list of diagnostics for all changes, then the answers, both of the new text.
     assert_eq!(answers.len(), 3, "{answers:?}");
     assert_eq!(answers[0].at(&["params", "diagnostics"]), Some(&Json::Array(Vec::new())));
@@ -109,21 +109,21 @@ fn a_request_that_is_overtaken_is_answered_with_the_new_text() {
 
 #[test]
 fn changes_that_come_together_are_checked_once() {
-    let mut session = Session::initialized(ALL);
-    session.open(REFUSED);
-    (0..5).for_each(|_| session.change(r#"[{"text":"void f(unsigned n) { n = 1; }"}]"#));
-    assert_eq!(session.answers().len(), 1);
+    let mut conversation = Conversation::initialized(ALL);
+    conversation.open(REFUSED);
+    (0..5).for_each(|_| conversation.change(r#"[{"text":"void f(unsigned n) { n = 1; }"}]"#));
+    assert_eq!(conversation.answers().len(), 1);
 }
 
 /// What closes a document waits for the requests before it.
 #[test]
 fn requests_are_answered_before_a_document_is_closed() {
-    let mut session = Session::initialized(ALL);
-    session.open(REFUSED);
-    session.hover(1, 2);
-    session.tell("textDocument/didClose", r#"{"textDocument":{"uri":"u"}}"#);
-    session.hover(2, 2);
-    let answers = session.answers();
+    let mut conversation = Conversation::initialized(ALL);
+    conversation.open(REFUSED);
+    conversation.hover(1, 2);
+    conversation.tell("textDocument/didClose", r#"{"textDocument":{"uri":"u"}}"#);
+    conversation.hover(2, 2);
+    let answers = conversation.answers();
     assert_eq!(answers.len(), 4, "{answers:?}");
     assert!(shown(&answers[1]).contains("before n = n - 1"), "{}", answers[1]);
     assert_eq!(answers[2].at(&["params", "diagnostics"]), Some(&Json::Array(Vec::new())));
@@ -132,42 +132,42 @@ fn requests_are_answered_before_a_document_is_closed() {
 
 #[test]
 fn a_request_can_be_cancelled() {
-    let mut session = Session::initialized(ALL);
-    session.open(REFUSED);
-    session.answers();
-    session.hover(7, 2);
-    session.tell("$/cancelRequest", r#"{"id":7}"#);
-    session.tell("$/cancelRequest", r#"{"id":8}"#);
-    is_error(&session.answer(), "7", "-32800");
+    let mut conversation = Conversation::initialized(ALL);
+    conversation.open(REFUSED);
+    conversation.answers();
+    conversation.hover(7, 2);
+    conversation.tell("$/cancelRequest", r#"{"id":7}"#);
+    conversation.tell("$/cancelRequest", r#"{"id":8}"#);
+    is_error(&conversation.answer(), "7", "-32800");
 }
 
 #[test]
 fn stages_are_kept() {
-    let mut session = Session::new();
-    session.hover(1, 2);
-    is_error(&session.answer(), "1", "-32002");
+    let mut conversation = Conversation::new();
+    conversation.hover(1, 2);
+    is_error(&conversation.answer(), "1", "-32002");
     // Before it is initialized the server follows no notification, and tells none.
-    session.open(REFUSED);
-    assert_eq!(session.answers(), []);
-    session.ask(2, "initialize", "{}");
-    session.answers();
-    session.ask(3, "initialize", "{}");
-    is_error(&session.answer(), "3", "-32600");
-    session.ask(4, "textDocument/unknown", "null");
-    is_error(&session.answer(), "4", "-32601");
-    session.tell("textDocument/unknown", "null");
-    session.send(r#"{"jsonrpc":"2.0","id":9,"result":null}"#);
-    assert_eq!(session.answers(), []);
-    session.ask(5, "shutdown", "null");
-    assert_eq!(session.answer().get("result"), Some(&Json::Null));
-    session.hover(6, 2);
-    is_error(&session.answer(), "6", "-32600");
-    assert_eq!(session.server.status(), 0);
+    conversation.open(REFUSED);
+    assert_eq!(conversation.answers(), []);
+    conversation.ask(2, "initialize", "{}");
+    conversation.answers();
+    conversation.ask(3, "initialize", "{}");
+    is_error(&conversation.answer(), "3", "-32600");
+    conversation.ask(4, "textDocument/unknown", "null");
+    is_error(&conversation.answer(), "4", "-32601");
+    conversation.tell("textDocument/unknown", "null");
+    conversation.send(r#"{"jsonrpc":"2.0","id":9,"result":null}"#);
+    assert_eq!(conversation.answers(), []);
+    conversation.ask(5, "shutdown", "null");
+    assert_eq!(conversation.answer().get("result"), Some(&Json::Null));
+    conversation.hover(6, 2);
+    is_error(&conversation.answer(), "6", "-32600");
+    assert_eq!(conversation.server.status(), 0);
 }
 
 #[test]
 fn what_is_no_request_is_an_error() {
-    let mut session = Session::initialized(ALL);
+    let mut conversation = Conversation::initialized(ALL);
     for (message, id) in [
         ("7", "null"),
         ("[]", "null"),
@@ -177,15 +177,15 @@ fn what_is_no_request_is_an_error() {
         (r#"{"id":null,"method":"shutdown"}"#, "null"),
         (r#"{"id":[1],"method":"shutdown"}"#, "null"),
     ] {
-        session.send(message);
-        is_error(&session.answer(), id, "-32600");
+        conversation.send(message);
+        is_error(&conversation.answer(), id, "-32600");
     }
     let damaged = Received::Damaged("no JSON".to_string());
-    assert!(matches!(session.server.take(damaged), Ok(Next::GoOn)));
-    is_error(&session.answer(), "null", "-32700");
+    assert!(matches!(conversation.server.take(damaged), Ok(Next::GoOn)));
+    is_error(&conversation.answer(), "null", "-32700");
     // An id goes back exactly as it came.
-    session.send(r#"{"id":123456789012345678901.50,"method":"unknown"}"#);
-    is_error(&session.answer(), "123456789012345678901.50", "-32601");
+    conversation.send(r#"{"id":123456789012345678901.50,"method":"unknown"}"#);
+    is_error(&conversation.answer(), "123456789012345678901.50", "-32601");
 }
 
 #[test]
@@ -198,80 +198,80 @@ fn a_fault_is_an_answer() {
 /// A damaged change leaves the text as it was and is told to the log.
 #[test]
 fn damaged_changes_are_told() {
-    let mut session = Session::initialized(ALL);
-    session.open(REFUSED);
-    session.answers();
+    let mut conversation = Conversation::initialized(ALL);
+    conversation.open(REFUSED);
+    conversation.answers();
     for changes in [
         "null",
         "[{}]",
         "[{\"text\":7}]",
         r#"[{"text":"x"},{"range":{"start":{"line":-1,"character":0}},"text":"y"}]"#,
     ] {
-        session.change(changes);
+        conversation.change(changes);
         assert_eq!(
-            session.answer().get("method").and_then(Json::as_str),
+            conversation.answer().get("method").and_then(Json::as_str),
             Some("window/logMessage"),
             "{changes}"
         );
     }
-    session.hover(1, 2);
-    assert!(shown(&session.answer()).contains("before n = n - 1"));
+    conversation.hover(1, 2);
+    assert!(shown(&conversation.answer()).contains("before n = n - 1"));
 }
 
 #[test]
 fn a_refusal_has_its_page() {
-    let mut session = Session::initialized(ALL);
-    session.open(REFUSED);
-    session.answers();
-    session.hover(1, 2);
-    let hover = session.answer();
+    let mut conversation = Conversation::initialized(ALL);
+    conversation.open(REFUSED);
+    conversation.answers();
+    conversation.hover(1, 2);
+    let hover = conversation.answer();
     assert!(
         shown(&hover)
             .starts_with("```text\nu:3:5: before n = n - 1\ndeclared: p : count(n)\nknown: nothing\n```\n"),
         "{hover}"
     );
     assert!(shown(&hover).contains("\n---\n\nRefusal 8: declared bounds are not shown\n"), "{hover}");
-    session.hover(2, 3);
+    conversation.hover(2, 3);
     assert_eq!(
-        shown(&session.answer()),
+        shown(&conversation.answer()),
         "```text\nrefused 8 0 0: the check ended before this statement\n```\n"
     );
-    session.hover(3, 1);
-    assert_eq!(session.answer().get("result"), Some(&Json::Null));
+    conversation.hover(3, 1);
+    assert_eq!(conversation.answer().get("result"), Some(&Json::Null));
 }
 
 /// An access that the library reports stops no run; of another one it is said what is not known.
 #[test]
 fn an_access_says_whether_it_can_stop() {
-    let mut session = Session::initialized("{}");
+    let mut conversation = Conversation::initialized("{}");
     let head = "void f(array_ptr<unsigned> p : count(n), unsigned n, unsigned i)\n{\n    dynamic_check(p != NULL);\n";
-    session.open(&format!("{head}    dynamic_check(i < n);\n    n = p[i]; i = p[i + 1];\n}}\n"));
-    session.answers();
-    session.change(
+    conversation.open(&format!("{head}    dynamic_check(i < n);\n    n = p[i]; i = p[i + 1];\n}}\n"));
+    conversation.answers();
+    conversation.change(
         r#"[{"range":{"start":{"line":4,"character":4},"end":{"line":4,"character":5}},"text":"i"}]"#,
     );
-    session.answers();
-    session.hover(1, 4);
-    let hover = session.answer();
+    conversation.answers();
+    conversation.hover(1, 4);
+    let hover = conversation.answer();
     assert!(shown(&hover).ends_with("\nsafe: i = p[i]\n"), "{hover}");
     let second = r#"{"textDocument":{"uri":"u"},"position":{"line":4,"character":16}}"#;
-    session.ask(2, "textDocument/hover", second);
-    let hover = session.answer();
+    conversation.ask(2, "textDocument/hover", second);
+    let hover = conversation.answer();
     assert!(shown(&hover).contains("\nmay stop: i = p[i + 1]: "), "{hover}");
 }
 
 /// A client that says nothing of itself gets plain forms.
 #[test]
 fn simple_clients_are_served() {
-    let mut session = Session::initialized("{}");
-    session.open(REFUSED);
-    let diagnostics = session.answer().at(&["params", "diagnostics"]).cloned().expect("a list");
+    let mut conversation = Conversation::initialized("{}");
+    conversation.open(REFUSED);
+    let diagnostics = conversation.answer().at(&["params", "diagnostics"]).cloned().expect("a list");
     let first = &diagnostics.as_array().expect("a list")[0];
     assert_eq!(first.get("relatedInformation"), None);
     let message = first.get("message").and_then(Json::as_str).expect("a message");
     assert!(message.contains("\nnote: declared here: p : count(n)\n"), "{message}");
-    session.ask(1, "textDocument/documentSymbol", r#"{"textDocument":{"uri":"u"}}"#);
-    let symbols = session.answer().get("result").cloned().expect("symbols");
+    conversation.ask(1, "textDocument/documentSymbol", r#"{"textDocument":{"uri":"u"}}"#);
+    let symbols = conversation.answer().get("result").cloned().expect("symbols");
     let containers = symbols
         .as_array()
         .expect("a list")
@@ -279,19 +279,19 @@ fn simple_clients_are_served() {
         .map(|symbol| symbol.get("containerName").and_then(Json::as_str));
     assert_eq!(containers.collect::<Vec<_>>(), [None, Some("f"), Some("f"), Some("f")]);
     let range = r#"{"start":{"line":2,"character":0},"end":{"line":2,"character":0}}"#;
-    session.ask(
+    conversation.ask(
         2,
         "textDocument/codeAction",
         &format!(r#"{{"textDocument":{{"uri":"u"}},"range":{range}}}"#),
     );
-    assert_eq!(session.answer().get("result"), Some(&Json::Array(Vec::new())));
+    assert_eq!(conversation.answer().get("result"), Some(&Json::Array(Vec::new())));
 }
 
 #[test]
 fn other_kinds_of_actions_are_not_offered() {
-    let mut session = Session::initialized(ALL);
-    session.open(REFUSED);
-    session.answers();
+    let mut conversation = Conversation::initialized(ALL);
+    conversation.open(REFUSED);
+    conversation.answers();
     let range = r#"{"start":{"line":2,"character":0},"end":{"line":2,"character":0}}"#;
     for (only, offered) in [
         ("[]", false),
@@ -303,8 +303,8 @@ fn other_kinds_of_actions_are_not_offered() {
     ] {
         let context = format!(r#"{{"diagnostics":[],"only":{only}}}"#);
         let params = format!(r#"{{"textDocument":{{"uri":"u"}},"range":{range},"context":{context}}}"#);
-        session.ask(1, "textDocument/codeAction", &params);
-        let answer = session.answer();
+        conversation.ask(1, "textDocument/codeAction", &params);
+        let answer = conversation.answer();
         let count = answer.get("result").and_then(Json::as_array).map_or(0, <[Json]>::len);
         assert_eq!(count > 0, offered, "{only}: {answer}");
     }
@@ -313,22 +313,26 @@ fn other_kinds_of_actions_are_not_offered() {
 /// All errors of a text are told, and what is plain is repaired: a name that is one letter off, a semicolon.
 #[test]
 fn errors_of_a_text_have_fixes() {
-    let mut session = Session::initialized(ALL);
-    session.open("void f(unsigned boats)\n{\n    boats = boast + 1;\n    boats = 1\n}\n");
-    let found =
-        session.answer().at(&["params", "diagnostics"]).and_then(Json::as_array).expect("a list").to_vec();
+    let mut conversation = Conversation::initialized(ALL);
+    conversation.open("void f(unsigned boats)\n{\n    boats = boast + 1;\n    boats = 1\n}\n");
+    let found = conversation
+        .answer()
+        .at(&["params", "diagnostics"])
+        .and_then(Json::as_array)
+        .expect("a list")
+        .to_vec();
     let messages = found.iter().map(|one| one.get("message").and_then(Json::as_str).expect("a message"));
     let due = ["`boast` is not declared: did you mean `boats`?", "expected `;`, found `}`"];
     assert_eq!(messages.collect::<Vec<_>>(), due);
     for (line, title, text) in [(2, "write `boats`", "boats"), (3, "write `;`", ";")] {
         let range =
             format!(r#"{{"start":{{"line":{line},"character":0}},"end":{{"line":{line},"character":0}}}}"#);
-        session.ask(
+        conversation.ask(
             1,
             "textDocument/codeAction",
             &format!(r#"{{"textDocument":{{"uri":"u"}},"range":{range}}}"#),
         );
-        let answer = session.answer();
+        let answer = conversation.answer();
         let offered = answer.get("result").and_then(Json::as_array).expect("a list");
         assert_eq!(offered.len(), 1, "{answer}");
         assert_eq!(offered[0].get("title").and_then(Json::as_str), Some(title));
@@ -340,52 +344,52 @@ fn errors_of_a_text_have_fixes() {
 /// Loop facts are offered on a loop's line and made when they are chosen, for the text as it is then.
 #[test]
 fn loop_facts_are_written() {
-    let mut session = Session::initialized(ALL);
+    let mut conversation = Conversation::initialized(ALL);
     let routine = concat!(env!("CARGO_MANIFEST_DIR"), "/../routines/elapsed_times.c");
     let text = std::fs::read_to_string(routine).expect("the routine");
     let bare = text.replace(" where i <= rows", "");
     assert!(bare != text);
-    session.open(&bare);
-    session.answers();
+    conversation.open(&bare);
+    conversation.answers();
     let line = bare.lines().position(|line| line.contains("while")).expect("a loop");
-    let offered = |session: &mut Session, line: usize| {
+    let offered = |conversation: &mut Conversation, line: usize| {
         let at = format!(r#"{{"line":{line},"character":0}}"#);
         let range = format!(r#"{{"start":{at},"end":{at}}}"#);
         let context = r#"{"diagnostics":[],"only":["refactor"]}"#;
         let params = format!(r#"{{"textDocument":{{"uri":"u"}},"range":{range},"context":{context}}}"#);
-        session.ask(1, "textDocument/codeAction", &params);
-        session.answer().get("result").and_then(Json::as_array).expect("a list").to_vec()
+        conversation.ask(1, "textDocument/codeAction", &params);
+        conversation.answer().get("result").and_then(Json::as_array).expect("a list").to_vec()
     };
-    assert_eq!(offered(&mut session, line - 1), []);
-    let action = offered(&mut session, line)[0].clone();
+    assert_eq!(offered(&mut conversation, line - 1), []);
+    let action = offered(&mut conversation, line)[0].clone();
     assert_eq!(action.get("edit"), None);
-    session.ask(2, "codeAction/resolve", &action.to_string());
-    let resolved = session.answer();
+    conversation.ask(2, "codeAction/resolve", &action.to_string());
+    let resolved = conversation.answer();
     let changes = resolved.at(&["result", "edit", "documentChanges"]).and_then(Json::as_array);
     let written = changes.and_then(|changes| changes[0].get("edits")).expect("edits").to_string();
     assert!(written.contains("where i <= rows"), "{resolved}");
-    session.change(r#"[{"text":"void f(unsigned n) { n = 1; }"}]"#);
-    session.answers();
-    session.ask(3, "codeAction/resolve", &action.to_string());
-    is_error(&session.answer(), "3", "-32803");
+    conversation.change(r#"[{"text":"void f(unsigned n) { n = 1; }"}]"#);
+    conversation.answers();
+    conversation.ask(3, "codeAction/resolve", &action.to_string());
+    is_error(&conversation.answer(), "3", "-32803");
 }
 
 /// The outline of a text that does not read just now is the last one.
 #[test]
 fn an_outline_stays_while_one_writes() {
-    let mut session = Session::initialized(ALL);
-    session.open(REFUSED);
-    let symbols = |session: &mut Session| {
-        session.answers();
-        session.ask(1, "textDocument/documentSymbol", r#"{"textDocument":{"uri":"u"}}"#);
-        session.answer().get("result").cloned().expect("symbols")
+    let mut conversation = Conversation::initialized(ALL);
+    conversation.open(REFUSED);
+    let symbols = |conversation: &mut Conversation| {
+        conversation.answers();
+        conversation.ask(1, "textDocument/documentSymbol", r#"{"textDocument":{"uri":"u"}}"#);
+        conversation.answer().get("result").cloned().expect("symbols")
     };
-    let whole = symbols(&mut session);
-    session.change(
+    let whole = symbols(&mut conversation);
+    conversation.change(
         r#"[{"range":{"start":{"line":3,"character":4},"end":{"line":3,"character":10}},"text":"x ="}]"#,
     );
-    assert_eq!(symbols(&mut session), whole);
-    session.change(r#"[{"text":"void f"}]"#);
-    let clamped = symbols(&mut session);
+    assert_eq!(symbols(&mut conversation), whole);
+    conversation.change(r#"[{"text":"void f"}]"#);
+    let clamped = symbols(&mut conversation);
     assert!(clamped.to_string().contains(r#""name":"f","#), "{clamped}");
 }

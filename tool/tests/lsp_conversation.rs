@@ -90,16 +90,16 @@ fn a_routine_is_opened_repaired_broken_and_mended() {
     client.notify("textDocument/didClose", Json::object([document()]));
     assert_eq!(codes(&client.diagnostics()), []);
     assert_eq!(client.end(), 0);
-    held("tests/lsp/session.txt", &client.transcript.replace(env!("CARGO_PKG_VERSION"), "VERSION"));
+    held("tests/lsp/conversation.txt", &client.transcript.replace(env!("CARGO_PKG_VERSION"), "VERSION"));
 }
 
 /// What was said is what the file holds; otherwise it is written beside the test's other files, to be looked at.
 fn held(path: &str, said: &str) {
     let file = Path::new(env!("CARGO_MANIFEST_DIR")).join(path);
-    let written = Path::new(env!("CARGO_TARGET_TMPDIR")).join("session.txt");
+    let written = Path::new(env!("CARGO_TARGET_TMPDIR")).join("conversation.txt");
     if fs::read_to_string(&file).unwrap_or_default() != said {
         fs::write(&written, said).expect("a file");
-        panic!("{path} holds another session than {}", written.display());
+        panic!("{path} holds another conversation than {}", written.display());
     }
 }
 
