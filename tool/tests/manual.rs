@@ -52,7 +52,7 @@ fn each_example_prints_what_is_said() {
                 let table = words.map(|word| word.parse().expect("a word")).collect();
                 verdict(&Program::of_tables("example.tbl", vec![table], Vec::new()), false)
             }
-            "image" => run_program(program(&routine), "image", text.clone(), false, true),
+            "image" => run_program(program(&routine), "image", text.clone(), false, false),
             other => panic!("no example is in {other}"),
         };
         let output = output.unwrap_or_else(|message| panic!("{message}\n{text}"));
