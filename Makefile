@@ -5,6 +5,7 @@
 #   make test                every Rust and C test over the built library; `bash .ci/run` proves everything first
 #   make release             target/mizzengrape-VERSION.tar.gz
 #   make install PREFIX=DIR  the same files below DIR (default /usr/local)
+#   make uninstall PREFIX=DIR  takes them away again
 
 VERSION := $(shell cat VERSION)
 PREFIX ?= /usr/local
@@ -15,7 +16,7 @@ NAME := mizzengrape-$(VERSION)
 CARGO := cargo
 SEED ?= 1
 
-.PHONY: build try test test-tool install release clean command
+.PHONY: build try test test-tool install uninstall release clean command
 .DELETE_ON_ERROR:
 
 build: $(LIBRARY) command
@@ -51,6 +52,9 @@ test-tool: build
 
 install: build
 	sh release/install.sh '$(DESTDIR)$(PREFIX)'
+
+uninstall:
+	sh release/uninstall.sh '$(DESTDIR)$(PREFIX)'
 
 release: build
 	rm -rf target/$(NAME) && sh release/install.sh target/$(NAME)

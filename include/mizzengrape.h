@@ -119,6 +119,43 @@ typedef enum mizzengrape_stop {
     MIZZENGRAPE_STOP_TERMINATOR = 6  /* a number other than 0 stored at the upper end of a pointer of kind 2 */
 } mizzengrape_stop;
 
+/* What a refusal's number means, in a line; "refused" for a number that is none. */
+static inline const char *mizzengrape_refusal_text(uint32_t number)
+{
+    switch (number) {
+    case MIZZENGRAPE_ACCEPTED: return "accepted";
+    case MIZZENGRAPE_REFUSED_LENGTH: return "the table has too few or too many words";
+    case MIZZENGRAPE_REFUSED_DIRECTORY: return "its sections do not fit, or hold too many or too few records";
+    case MIZZENGRAPE_REFUSED_OBJECT: return "an object's length is not 1 to 1,000,000 cells";
+    case MIZZENGRAPE_REFUSED_VARIABLE: return "a variable's record or a bounds row is wrong";
+    case MIZZENGRAPE_REFUSED_STATEMENT: return "a statement's record is wrong";
+    case MIZZENGRAPE_REFUSED_BLOCK: return "a block does not fit, is too deep, or is no bundle";
+    case MIZZENGRAPE_REFUSED_BOUNDS: return "declared bounds are not shown";
+    case MIZZENGRAPE_REFUSED_ACCESS: return "an access in a bundle before the bounds are right";
+    case MIZZENGRAPE_REFUSED_MEMORY: return "the memory or its directory does not fit";
+    case MIZZENGRAPE_REFUSED_VALUES: return "not one value and one origin for each variable";
+    case MIZZENGRAPE_REFUSED_ENTRY: return "an origin is wrong, or bounds are untrue at entry";
+    case MIZZENGRAPE_REFUSED_ROWS: return "bounds that depend on the way";
+    case MIZZENGRAPE_REFUSED_TERMINATOR: return "the last cell of a terminated object is not 0";
+    case MIZZENGRAPE_REFUSED_FACT: return "a loop fact that is not shown or does not fit";
+    default: return "refused";
+    }
+}
+
+/* What the check of a stopped run means, in a line; "stopped" for a number that is none. */
+static inline const char *mizzengrape_stop_text(uint32_t number)
+{
+    switch (number) {
+    case MIZZENGRAPE_STOP_CONDITION: return "a dynamic check is false";
+    case MIZZENGRAPE_STOP_NULL: return "an access through null";
+    case MIZZENGRAPE_STOP_BOUNDS: return "an access outside of the declared bounds";
+    case MIZZENGRAPE_STOP_ARITHMETIC: return "arithmetic on null";
+    case MIZZENGRAPE_STOP_ADDRESS: return "no address";
+    case MIZZENGRAPE_STOP_TERMINATOR: return "a letter where only 0 may stand";
+    default: return "stopped";
+    }
+}
+
 /* Checks a routine table. The answer's words, the others stay:
      answer[0]  0 accepted, else the number of the refusal, 1 to 9 (7 is unused) or 13
      answer[1]  0 accepted, else the refusal's place

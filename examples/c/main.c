@@ -66,7 +66,7 @@ static void show_check(const char *what, mizzengrape_call call, const uint32_t *
     if (call != MIZZENGRAPE_ANSWERED)
         printf("%s: call %d\n", what, (int)call);
     else
-        printf("%s: answer %u %u %u\n", what, (unsigned)answer[0], (unsigned)answer[1], (unsigned)answer[2]);
+        printf("%s: answer %u %u %u, %s\n", what, (unsigned)answer[0], (unsigned)answer[1], (unsigned)answer[2], mizzengrape_refusal_text(answer[0]));
 }
 
 static void show_run(const char *what, mizzengrape_call call, const uint32_t *answer)
@@ -78,6 +78,8 @@ static void show_run(const char *what, mizzengrape_call call, const uint32_t *an
     printf("%s: answer %u %u %u %u, cells", what, (unsigned)answer[0], (unsigned)answer[1], (unsigned)answer[2], (unsigned)answer[3]);
     for (size_t i = 0; i < LENGTH(cells); i++)
         printf(" %u", (unsigned)cells[i]);
+    if (answer[0] == MIZZENGRAPE_STOPPED)
+        printf(", %s", mizzengrape_stop_text(answer[3]));
     printf("\n");
 }
 

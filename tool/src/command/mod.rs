@@ -10,6 +10,7 @@ mod explain;
 mod facts;
 mod header;
 mod lsp;
+mod pages;
 mod run;
 mod session;
 mod trace;
@@ -107,6 +108,8 @@ mizzengrape: routines for late entries and scoring, in Checked C
     mizzengrape explain FILE [LINE]   what is known before a line
     mizzengrape facts FILE.c          a text with loop facts that make it safe
     mizzengrape lsp                   a language server for editors
+    mizzengrape man                   all of this as a manual page
+    mizzengrape completion            a script that completes it in bash
 
 A FILE ending in .tbl is a table, .words a table in decimal words, all others
 are texts; - is standard input. `mizzengrape COMMAND --help` says more. Every
@@ -123,7 +126,7 @@ enum Call {
 }
 
 /// Each command with its usage.
-const COMMANDS: [(&str, &Usage, Call); 9] = [
+const COMMANDS: [(&str, &Usage, Call); 11] = [
     ("check", &check::USAGE, Call::AtOnce(check::check)),
     ("asm", &asm::USAGE, Call::AsItGoes(asm::asm)),
     ("dis", &dis::DIS_USAGE, Call::AtOnce(dis::dis)),
@@ -133,6 +136,8 @@ const COMMANDS: [(&str, &Usage, Call); 9] = [
     ("explain", &explain::USAGE, Call::AtOnce(explain::explain)),
     ("facts", &facts::USAGE, Call::AtOnce(facts::facts)),
     ("lsp", &lsp::USAGE, Call::AsItGoes(lsp::lsp)),
+    ("man", &pages::MAN_USAGE, Call::AtOnce(pages::man)),
+    ("completion", &pages::COMPLETION_USAGE, Call::AtOnce(pages::completion)),
 ];
 
 /// The command with these arguments, all that it prints kept.

@@ -1,0 +1,33 @@
+"""Three late entries in a block of two rows: the third stops, and the neighbour's row is not touched."""
+
+import mizzengrape
+
+# The routine of examples/c/main.c: check rows > 0, row[0] := boat, and a bundle that steps both.
+ROUTINE = (
+    [6, 2, 8, 24, 32, 35, 2, 2, 1, 0, 0, -1, 0, 0, 1, 0] + [0] * 16 + [10, 1, 2, 1, 0, 0, 0, 9, 0, -1, 0, 2, 0, 0]
+    + [13, 2, 0, 0, 0, 0, 0, 6, 0, 0, 1, 0, 0, 0, 2, 1, 1, -1, 0, 0, 0]
+)
+print("safe", mizzengrape.check(ROUTINE))
+cells, values = [0, 0, 0, 201, 0], [1, 2, 0]
+for boat in (101, 102, 103):
+    values[2] = boat
+    run = mizzengrape.run(ROUTINE, [1, 2, 3, 2], cells, values, [1, 0, 0])
+    cells, values = run.cells, run.values
+    print("boat", boat, run.outcome, run.steps, run.check, cells)
+try:
+    mizzengrape.run(ROUTINE, [1, 2, 3, 2], cells, values, [1, 0, 0], raise_stop=True)
+except mizzengrape.Stopped as stop:
+    print(stop)
+try:
+    mizzengrape.run(ROUTINE, [1, 2, 3, 2], cells, [1, 3, 0], [1, 0, 0])
+except mizzengrape.Refused as refused:
+    print(refused, refused.number, refused.place)
+try:
+    mizzengrape.check(ROUTINE[:-7] + [2, 1, 1, 1, 0, 0, 0])
+except mizzengrape.Refused as refused:
+    print(refused, refused.pointer)
+for wrong in ([1 << 31], ["a"]):
+    try:
+        mizzengrape.check(wrong)
+    except (ValueError, TypeError) as error:
+        print(type(error).__name__)

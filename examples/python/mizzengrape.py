@@ -1,0 +1,181 @@
+"""Mizzengrape: the proved checker and interpreter for routine tables, over the shared library.
+
+    import mizzengrape
+    routine = mizzengrape.Routine.load("late.tbl")          # raises Refused where the rules refuse it
+    run = routine.run(directory=[1, 4], cells=[0] * 5, values=[1, 4, 77], origins=[1, 0, 0])
+    run.outcome, run.steps, run.values, run.cells           # "done", 5, [..], [..]
+
+The library is found by the variable MIZZENGRAPE_LIBRARY, beside this file, in the folder `lib` above it, or by the system.
+"""
+
+import ctypes
+import ctypes.util
+import os
+import struct
+from dataclasses import dataclass
+from pathlib import Path
+from typing import List, Optional, Sequence
+
+REFUSALS = {
+    1: "the table has too few or too many words",
+    2: "its sections do not fit, or hold too many or too few records",
+    3: "an object's length is not 1 to 1,000,000 cells",
+    4: "a variable's record or a bounds row is wrong",
+    5: "a statement's record is wrong",
+    6: "a block does not fit, is too deep, or is no bundle",
+    8: "declared bounds are not shown",
+    9: "an access in a bundle before the bounds are right",
+    10: "the memory or its directory does not fit",
+    11: "not one value and one origin for each variable",
+    12: "an origin is wrong, or bounds are untrue at entry",
+    13: "bounds that depend on the way",
+    16: "the last cell of a terminated object is not 0",
+    17: "a loop fact that is not shown or does not fit",
+}
+STOPS = {
+    1: "a dynamic check is false",
+    2: "an access through null",
+    3: "an access outside of the declared bounds",
+    4: "arithmetic on null",
+    5: "no address",
+    6: "a letter where only 0 may stand",
+}
+REPORT_WORDS = 1024
+
+
+class Refused(Exception):
+    """A routine or a run that is refused: its number, its place, for 8 the pointer, what the number means."""
+
+    def __init__(self, number: int, place: int, pointer: int):
+        self.number, self.place = number, place
+        self.pointer = pointer if number == 8 else None
+        self.text = REFUSALS.get(number, "refused")
+        super().__init__(f"refused {number} {place}: {self.text}")
+
+
+class Stopped(Exception):
+    """A run that stopped, where it was asked to raise: the run has its values and cells."""
+
+    def __init__(self, run: "Run"):
+        self.run, self.number, self.place = run, run.check, run.statement
+        self.text = STOPS.get(run.check or 0, "stopped")
+        super().__init__(f"stopped at check {run.check}, statement {run.statement}: {self.text}")
+
+
+@dataclass
+class Run:
+    """How a run ended: `done`, `spent` or `stopped`, and what it left."""
+
+    outcome: str
+    steps: int
+    statement: Optional[int]
+    check: Optional[int]
+    values: List[int]
+    cells: List[int]
+
+
+def _load() -> ctypes.CDLL:
+    here = Path(__file__).resolve()
+    folders = [here.parent] + [parent / "lib" for parent in here.parents]
+    names = [os.environ.get("MIZZENGRAPE_LIBRARY")] + [str(folder / "libmizzengrape.so") for folder in folders]
+    for name in names + [ctypes.util.find_library("mizzengrape")]:
+        if name and (os.sep not in name or Path(name).exists()):
+            return ctypes.CDLL(name)
+    raise OSError("libmizzengrape.so is not found: set MIZZENGRAPE_LIBRARY to its path")
+
+
+_library = _load()
+for _name in ("mizzengrape_check_with_facts", "mizzengrape_run_with_facts"):
+    getattr(_library, _name).restype = ctypes.c_bool
+_library.mizzengrape_version.restype = ctypes.c_uint32
+
+
+def version() -> str:
+    number = _library.mizzengrape_version()
+    return f"{number // 10000}.{number // 100 % 100}.{number % 100}"
+
+
+def _signed(words: Sequence[int]) -> ctypes.Array:
+    for word in words:
+        if not -(2**31) <= word < 2**31:
+            raise ValueError(f"{word} is no word of a table")
+    return (ctypes.c_int32 * max(1, len(words)))(*words)
+
+
+def _unsigned(words: Sequence[int]) -> ctypes.Array:
+    for word in words:
+        if not 0 <= word < 2**32:
+            raise ValueError(f"{word} is no word: 0 to 4294967295")
+    return (ctypes.c_uint32 * max(1, len(words)))(*words)
+
+
+def _slices(*parts):
+    """Pointer and length of each slice."""
+    return [argument for part, length in parts for argument in (part, ctypes.c_size_t(length))]
+
+
+def check(table: Sequence[int], facts: Sequence[int] = ()) -> List[int]:
+    """The statements of the accesses that stop no run at check 2 or 3; raises Refused."""
+    report, answer = (ctypes.c_uint32 * REPORT_WORDS)(), (ctypes.c_uint32 * 4)()
+    words, listed = _signed(table), _signed(facts)
+    _library.mizzengrape_check_with_facts(*_slices((words, len(table)), (listed, len(facts)), (report, REPORT_WORDS), (answer, 4)))
+    number, place, pointer, count = answer
+    if number != 0:
+        raise Refused(number, place, pointer)
+    return list(report[:count])
+
+
+def run(table, directory, cells, values, origins, limit=1_000_000, facts=(), raise_stop=False) -> Run:
+    """Runs a routine on copies of cells and values; raises Refused, and Stopped where that is asked for."""
+    answer, memory, variables = (ctypes.c_uint32 * 4)(), _unsigned(cells), _unsigned(values)
+    _library.mizzengrape_run_with_facts(
+        *_slices((_signed(table), len(table)), (_signed(facts), len(facts)), (_unsigned(directory), len(directory))),
+        *_slices((memory, len(cells)), (variables, len(values)), (_unsigned(origins), len(origins))),
+        ctypes.c_uint32(_limit(limit)),
+        *_slices((answer, 4)),
+    )
+    outcome, first, second, third = answer
+    if outcome == 3:
+        raise Refused(first, second, third)
+    ended = Run(
+        outcome=("done", "spent", "stopped")[outcome],
+        steps=first,
+        statement=second if outcome != 0 else None,
+        check=third if outcome == 2 else None,
+        values=list(variables)[: len(values)],
+        cells=list(memory)[: len(cells)],
+    )
+    if raise_stop and outcome == 2:
+        raise Stopped(ended)
+    return ended
+
+
+def _limit(limit: int) -> int:
+    if not 0 <= limit < 2**32:
+        raise ValueError(f"{limit} is no limit: 0 to 4294967295")
+    return limit
+
+
+def load_words(path) -> List[int]:
+    """The words of a file that `mizzengrape asm` wrote: a table, or a list of loop facts."""
+    content = Path(path).read_bytes()
+    if len(content) % 4 != 0:
+        raise Refused(1, 0, 0)
+    return list(struct.unpack(f"<{len(content) // 4}i", content))
+
+
+@dataclass
+class Routine:
+    """A checked routine: its table, its loop facts, the accesses that cannot stop."""
+
+    table: List[int]
+    facts: List[int]
+    safe: List[int]
+
+    @classmethod
+    def load(cls, table, facts=None) -> "Routine":
+        words, listed = load_words(table), load_words(facts) if facts else []
+        return cls(words, listed, check(words, listed))
+
+    def run(self, directory, cells, values, origins, limit=1_000_000, raise_stop=False) -> Run:
+        return run(self.table, directory, cells, values, origins, limit, self.facts, raise_stop)
