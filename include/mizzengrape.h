@@ -2,7 +2,7 @@
 
    A routine is a table of 32-bit words (docs/FORMAT.md; the command `mizzengrape` makes tables from Checked C text). mizzengrape_check answers whether the
    rules accept it; mizzengrape_run runs an accepted one on memory that the caller lends. With a list of loop facts beside the table they are
-   mizzengrape_check_with_facts, which also reports the accesses that cannot fail, and mizzengrape_run_with_facts.
+   mizzengrape_check_with_facts, which also reports the accesses that cannot fail, and mizzengrape_run_with_facts. mizzengrape_dispatch runs several in turn.
 
    Tables. A table begins with pairs of offset and length: objects, variables, statements; the first offset is 6, and the table has at most 7,318 words.
    - A first offset of 8 means a fourth pair and section, bounds rows of six words behind the statements: bounds that statements of kind 14 declare for a
@@ -18,12 +18,12 @@
    Then they are known in the body and after the loop; else the list is refused with 17. Nobody has to trust who wrote the list.
 
    Calls. Every slice is a pointer and a length in elements. Nothing is kept after a call, and nothing is allocated. There are two ways in:
-   - mizzengrape_check, mizzengrape_run and the same .._with_facts are the proved functions. Their caller promises of each slice that its pointer is not
-     null (also where the length is 0), is aligned to four bytes and has that many elements of memory behind it; and that a slice that is written overlaps
-     no other.
-   - mizzengrape_try_check, mizzengrape_try_run and the same .._with_facts, below, ask for less: they look at null, alignment and overlap first, and answer
-     what is wrong without calling. What no program can see is left to the caller: that a pointer has that many elements behind it, and that no other
-     thread writes them.
+   - mizzengrape_check, mizzengrape_run, the same .._with_facts and mizzengrape_dispatch are the proved functions. Their caller promises of each slice that
+     its pointer is not null (also where the length is 0), is aligned to four bytes (one of uint64_t to the alignment of that type, mostly eight) and has
+     that many elements of memory behind it; and that a slice that is written overlaps no other.
+   - mizzengrape_try_check, mizzengrape_try_run, the same .._with_facts and mizzengrape_try_dispatch, below, ask for less: they look at null, alignment and
+     overlap first, and answer what is wrong without calling. What no program can see is left to the caller: that a pointer has that many elements behind
+     it, and that no other thread writes them.
 
    Stack. A thread with a stack of MIZZENGRAPE_STACK_BYTES, 128 KiB, has room for each call at the deepest nesting, with 8 KiB left for its caller
    (examples/c/stack.c runs all of them on exactly that stack; `compare stack` measures the least).
@@ -50,7 +50,13 @@
    Going on after a spent run. No call begins in the middle, so the values that a spent run left are not where the next call would go on: lent again, they begin
    another run at the first statement, and where the run was spent inside a bundle that is refused with 12 if the bounds are untrue there. To go on, keep a
    copy of cells and values from before the run, and run that copy again with a greater limit: the run takes the same steps, passes the point where it was spent
-   (inside a bundle or not) and goes on from there. A run is the same each time: it depends on nothing but what it is lent. */
+   (inside a bundle or not) and goes on from there. A run is the same each time: it depends on nothing but what it is lent.
+
+   Several routines in turn. mizzengrape_dispatch runs 1 to 8 routines over one memory: each has a table, a list, a directory, values and origins of its own,
+   and objects that share no cell with another's; they may touch. It goes round by number, skips those that ended, and gives each a turn of quantum steps, 1
+   to 1,000, until all have ended or the total is used. A turn that ends early gives its rest to nobody. So of n routines one that waits is served again
+   after at most (n - 1) times quantum steps of the others, unless the total runs out; and each ends, with its values and its cells, as a run of it alone
+   with the steps that it received. All that is said of a run above holds of each of them. */
 #ifndef MIZZENGRAPE_H
 #define MIZZENGRAPE_H
 
@@ -71,6 +77,11 @@
 /* The words that a report has room for: a table has at most so many statements. */
 #define MIZZENGRAPE_REPORT_WORDS 1024
 
+/* The room that a dispatch is lent, in elements, and the words of its answer. */
+#define MIZZENGRAPE_DISPATCH_ENDS 4096
+#define MIZZENGRAPE_DISPATCH_SUCCESSORS 16384
+#define MIZZENGRAPE_DISPATCH_ANSWER_WORDS 37
+
 #ifdef __cplusplus
 extern "C" {
 #endif
@@ -78,7 +89,7 @@ extern "C" {
 /* The version of the library that the program is linked with. Where it is not MIZZENGRAPE_VERSION_NUMBER, header and library come from two releases. */
 uint32_t mizzengrape_version(void);
 
-/* Refusals, with the paper's numbers: answer[0] of a check, answer[1] of a run that is refused. In brackets their place. */
+/* Refusals, with the paper's numbers: answer[0] of a check, answer[1] of a run or a dispatch that is refused. In brackets their place. */
 typedef enum mizzengrape_refusal {
     MIZZENGRAPE_ACCEPTED = 0,
     MIZZENGRAPE_REFUSED_LENGTH = 1,      /* [0] the table has fewer than 6 or more than 7,318 words; 7,704 where its first word is 8 */
@@ -95,13 +106,14 @@ typedef enum mizzengrape_refusal {
     MIZZENGRAPE_REFUSED_VALUES = 11,     /* [0] not one value and one origin for each variable */
     MIZZENGRAPE_REFUSED_ENTRY = 12,      /* [variable] an origin is wrong, or the bounds are untrue at entry */
     MIZZENGRAPE_REFUSED_ROWS = 13,       /* [if or while] its two sides, or head and end of its body, leave different rows in force */
-    /* 14 and 15 are unused. */
+    MIZZENGRAPE_REFUSED_OVERLAP = 14,    /* [routine] of a dispatch: the first that has an object with a cell in common with an earlier routine's */
+    MIZZENGRAPE_REFUSED_TURNS = 15,      /* [0] of a dispatch: not 1 to 8 routines, or turns of other than 1 to 1,000 steps */
     MIZZENGRAPE_REFUSED_TERMINATOR = 16, /* [object] the last cell of a terminated object is not 0 at entry */
     MIZZENGRAPE_REFUSED_FACT = 17        /* [entry] of the list of loop facts: it is cut short, unsorted or names wrongly, or its fact is not shown before
                                             the loop or at the body's end; 256 where there are more entries */
 } mizzengrape_refusal;
 
-/* How a run ended: answer[0] of a run. */
+/* How a run ended: answer[0] of a run; of a dispatch DONE where it ran, or REFUSED, and behind it a word for each routine. */
 typedef enum mizzengrape_outcome {
     MIZZENGRAPE_DONE = 0,    /* no statement is due any more */
     MIZZENGRAPE_SPENT = 1,   /* the limit is used and a statement is due */
@@ -194,11 +206,40 @@ bool mizzengrape_run_with_facts(const int32_t *table, size_t table_len, const in
                                 size_t directory_len, uint32_t *cells, size_t cells_len, uint32_t *values, size_t values_len, const uint32_t *origins,
                                 size_t origins_len, uint32_t limit, uint32_t *answer, size_t answer_len);
 
+/* The room that a dispatch works in, 96 KB, as one object: lent, so that the stated stack is enough. Nobody has to set its contents, and nobody may rely on
+   them. */
+typedef struct mizzengrape_dispatch_room {
+    uint64_t ends[MIZZENGRAPE_DISPATCH_ENDS];
+    uint32_t successors[MIZZENGRAPE_DISPATCH_SUCCESSORS];
+} mizzengrape_dispatch_room;
+
+/* Runs several routines in turn on lent cells, quantum steps a turn, total steps in all. Their parts lie one behind the other in tables, facts, directories,
+   values and origins; lengths has five words a routine: of its table, list, directory, values and origins. A length of lengths that is no multiple of five
+   is a wrong number of routines (15). A part that reaches past its slice is cut there, and what is missing then refuses the routine by its own causes. ends
+   and successors are the room above. The answer's words, the others stay:
+                                 ran                      refused
+     answer[0]                   0                        3
+     answer[1]                   number of routines       number of the refusal
+     answer[2]                   0                        routine; of 15 0
+     answer[3]                   0                        place; of 14 the routine again, of 15 0
+     answer[4]                   0                        for refusal 8 the pointer variable as for a check, else 0
+     answer[5 + 4 r] and 3 more  routine r's four words   stay
+                                 as mizzengrape_run
+                                 answers them
+   15 comes before all else. Then the first routine is named whose run alone would be refused, with that refusal; 14 comes last. A refusal changes no cell
+   and no value.
+   True; or false, and nothing written, where answer_len is below MIZZENGRAPE_DISPATCH_ANSWER_WORDS, ends_len below MIZZENGRAPE_DISPATCH_ENDS or
+   successors_len below MIZZENGRAPE_DISPATCH_SUCCESSORS. */
+bool mizzengrape_dispatch(const int32_t *tables, size_t tables_len, const int32_t *facts, size_t facts_len, const uint32_t *directories,
+                          size_t directories_len, uint32_t *cells, size_t cells_len, uint32_t *values, size_t values_len, const uint32_t *origins,
+                          size_t origins_len, const uint32_t *lengths, size_t lengths_len, uint32_t quantum, uint32_t total, uint64_t *ends,
+                          size_t ends_len, uint32_t *successors, size_t successors_len, uint32_t *answer, size_t answer_len);
+
 /* What a guarded call says. Unless it says ANSWERED nothing has been written. */
 typedef enum mizzengrape_call {
     MIZZENGRAPE_ANSWERED = 0,
-    MIZZENGRAPE_NO_ROOM = 1,   /* the answer or the report has too few words */
-    MIZZENGRAPE_BAD_SLICE = 2, /* null with a length above 0, not aligned to four bytes, or past the end of the address space */
+    MIZZENGRAPE_NO_ROOM = 1,   /* the answer, the report or the room of a dispatch has too few elements */
+    MIZZENGRAPE_BAD_SLICE = 2, /* null with a length above 0, not aligned as its elements are, or past the end of the address space */
     MIZZENGRAPE_OVERLAP = 3    /* a slice that is written overlaps another */
 } mizzengrape_call;
 
@@ -295,6 +336,42 @@ static inline mizzengrape_call mizzengrape_try_run(const int32_t *table, size_t 
 {
     return mizzengrape_try_run_with_facts(table, table_len, NULL, 0, directory, directory_len, cells, cells_len, values, values_len, origins, origins_len,
                                           limit, answer, answer_len);
+}
+
+/* Whether a pointer has the alignment of a uint64_t. */
+static inline bool mizzengrape_is_aligned_64(const void *start)
+{
+    struct aligned {
+        char before;
+        uint64_t word;
+    };
+    return (uintptr_t)start % offsetof(struct aligned, word) == 0;
+}
+
+/* mizzengrape_dispatch, guarded. */
+static inline mizzengrape_call mizzengrape_try_dispatch(const int32_t *tables, size_t tables_len, const int32_t *facts, size_t facts_len,
+                                                        const uint32_t *directories, size_t directories_len, uint32_t *cells, size_t cells_len,
+                                                        uint32_t *values, size_t values_len, const uint32_t *origins, size_t origins_len,
+                                                        const uint32_t *lengths, size_t lengths_len, uint32_t quantum, uint32_t total,
+                                                        uint64_t *ends, size_t ends_len, uint32_t *successors, size_t successors_len,
+                                                        uint32_t *answer, size_t answer_len)
+{
+    /* The room of 64-bit elements as twice as many words; a length that cannot be doubled is too great either way. */
+    const size_t ends_words = ends_len <= SIZE_MAX / 2 ? 2 * ends_len : SIZE_MAX;
+    const void *const start[10] = {answer, cells, values, ends, successors, tables, facts, directories, origins, lengths};
+    const size_t len[10] = {answer_len, cells_len, values_len, ends_words, successors_len, tables_len, facts_len, directories_len, origins_len, lengths_len};
+    const mizzengrape_call call = mizzengrape_is_aligned_64(ends) ? mizzengrape_guard(start, len, 10, 5) : MIZZENGRAPE_BAD_SLICE;
+    if (call != MIZZENGRAPE_ANSWERED)
+        return call;
+    if (answer_len < MIZZENGRAPE_DISPATCH_ANSWER_WORDS || ends_len < MIZZENGRAPE_DISPATCH_ENDS || successors_len < MIZZENGRAPE_DISPATCH_SUCCESSORS)
+        return MIZZENGRAPE_NO_ROOM;
+    mizzengrape_dispatch((const int32_t *)mizzengrape_start(tables, tables_len), tables_len, (const int32_t *)mizzengrape_start(facts, facts_len), facts_len,
+                         (const uint32_t *)mizzengrape_start(directories, directories_len), directories_len,
+                         (uint32_t *)mizzengrape_start(cells, cells_len), cells_len, (uint32_t *)mizzengrape_start(values, values_len), values_len,
+                         (const uint32_t *)mizzengrape_start(origins, origins_len), origins_len,
+                         (const uint32_t *)mizzengrape_start(lengths, lengths_len), lengths_len, quantum, total, ends, ends_len, successors,
+                         successors_len, answer, answer_len);
+    return MIZZENGRAPE_ANSWERED;
 }
 
 #ifdef __cplusplus

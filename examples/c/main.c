@@ -1,4 +1,5 @@
-/* Embedding in C: checks a routine for late entries, runs it for three boats, shows what wrong arguments are answered, and what a list of loop facts adds.
+/* Embedding in C: checks a routine for late entries, runs it for three boats, shows what wrong arguments are answered, and what a list of loop facts adds;
+   then runs both laptops' routines in turn.
    The memory: cell 0 is in no object, cells 1 and 2 are one laptop's block, cells 3 and 4 the other's. */
 #include <stdio.h>
 
@@ -55,6 +56,25 @@ static const int32_t sum[] = {
 };
 static const int32_t i_up_to_rows[] = {2, 2, 1, 0};   /* at each test of statement 2: i <= rows */
 static const int32_t i_below_rows[] = {2, 2, 1, -1};  /* i <= rows - 1, which is wrong at the last test */
+
+/* The routine of one laptop, which knows of its own block alone: boats boats get the next rows, with the numbers from boat on. */
+#define LAPTOP                                                                  \
+    6, 1, 7, 32, 39, 56,                                                        \
+    2,                          /* object 0: this laptop's block of 2 cells */  \
+    1, 0, 0, -1, 0, 0, 1, 0,    /* variable 0: row, array_ptr with count(rows) */ \
+    0, 0, 0, 0, 0, 0, 0, 0,     /* variable 1: rows */                          \
+    0, 0, 0, 0, 0, 0, 0, 0,     /* variable 2: boat */                          \
+    0, 0, 0, 0, 0, 0, 0, 0,     /* variable 3: boats */                         \
+    12, 3, 2, 1, 0, 7, 0,       /* 0: while boats > 0 */                        \
+    10, 1, 2, 1, 0, 0, 0,       /* 1:   check rows > 0 */                       \
+    9, 0, -1, 0, 2, 0, 0,       /* 2:   row[0] := boat */                       \
+    13, 2, 0, 0, 0, 0, 0,       /* 3:   bundle of 2 */                          \
+    6, 0, 0, 1, 0, 0, 0,        /* 4:     row := row + 1 */                     \
+    2, 1, 1, -1, 0, 0, 0,       /* 5:     rows := rows - 1 */                   \
+    2, 2, 2, 1, 0, 0, 0,        /* 6:   boat := boat + 1 */                     \
+    2, 3, 3, -1, 0, 0, 0        /* 7:   boats := boats - 1 */
+static const int32_t laptops[] = {LAPTOP, LAPTOP};
+static const uint32_t laptop_lengths[] = {95, 0, 2, 4, 4, 95, 0, 2, 4, 4};
 
 static const uint32_t directory[] = {1, 2, 3, 2};
 static const uint32_t origins[] = {1, 0, 0};
@@ -126,6 +146,76 @@ static void loop_facts(void)
     printf("total %u\n", (unsigned)entry[4]);
 }
 
+/* Both laptops' routines in turn, each from the beginning of its block on: the first has two boats, the second so many. */
+static void in_turn(const char *what, const uint32_t *directories, uint32_t second_boats, size_t lengths_len, uint32_t quantum, uint32_t total)
+{
+    static mizzengrape_dispatch_room room;
+    static const uint32_t of_blocks[] = {1, 0, 0, 0, 1, 0, 0, 0};
+    uint32_t memory[] = {0, 0, 0, 0, 0}, entry[] = {directories[0], 2, 101, 2, directories[2], 2, 201, second_boats}, answer[MIZZENGRAPE_DISPATCH_ANSWER_WORDS];
+    mizzengrape_call call = mizzengrape_try_dispatch(laptops, LENGTH(laptops), NULL, 0, directories, 4, memory, LENGTH(memory), entry, LENGTH(entry),
+                                                     of_blocks, LENGTH(of_blocks), laptop_lengths, lengths_len, quantum, total, room.ends,
+                                                     LENGTH(room.ends), room.successors, LENGTH(room.successors), answer, LENGTH(answer));
+    if (call != MIZZENGRAPE_ANSWERED) {
+        printf("%s: call %d\n", what, (int)call);
+        return;
+    }
+    if (answer[0] == MIZZENGRAPE_REFUSED) {
+        printf("%s: refused %u, routine %u, place %u\n", what, (unsigned)answer[1], (unsigned)answer[2], (unsigned)answer[3]);
+        return;
+    }
+    printf("%s:", what);
+    for (uint32_t r = 0; r < answer[1]; r++) {
+        const uint32_t *words = answer + 5 + 4 * r;
+        printf(" routine %u answers %u %u %u %u,", (unsigned)r, (unsigned)words[0], (unsigned)words[1], (unsigned)words[2], (unsigned)words[3]);
+    }
+    printf(" cells");
+    for (size_t i = 0; i < LENGTH(memory); i++)
+        printf(" %u", (unsigned)memory[i]);
+    printf("\n");
+}
+
+static void turns(void)
+{
+    static const uint32_t overlapping[] = {1, 2, 2, 2}, past_the_end[] = {1, 2, 4, 2};
+    in_turn("both laptops in turn", directory, 2, 10, 1, 100);
+    in_turn("a boat too many at the second", directory, 3, 10, 3, 100);
+    in_turn("ten steps for both", directory, 2, 10, 4, 10);
+    in_turn("one laptop alone", directory, 2, 5, 1000, 100);
+    in_turn("blocks that overlap", overlapping, 2, 10, 1, 100);
+    in_turn("a block past the memory", past_the_end, 2, 10, 1, 100);
+    in_turn("no routine", directory, 2, 0, 1, 100);
+    in_turn("nine words for two", directory, 2, 9, 1, 100);
+    in_turn("turns of no step", directory, 2, 10, 0, 100);
+    in_turn("turns of 1001 steps", directory, 2, 10, 1001, 100);
+}
+
+/* Room that is too small, misaligned, or lies in what is lent. */
+static void wrong_room(void)
+{
+    static mizzengrape_dispatch_room room;
+    const struct {
+        const char *what;
+        uint64_t *ends;
+        size_t ends_len, successors_len;
+        uint32_t *values;
+        size_t answer_len;
+    } rooms[] = {
+        {"room one end short", room.ends, LENGTH(room.ends) - 1, LENGTH(room.successors), values, 37},
+        {"room one successor short", room.ends, LENGTH(room.ends), LENGTH(room.successors) - 1, values, 37},
+        {"36 words for the answer", room.ends, LENGTH(room.ends), LENGTH(room.successors), values, 36},
+        {"misaligned room", (uint64_t *)(uintptr_t)((uintptr_t)room.ends + 4), LENGTH(room.ends), LENGTH(room.successors), values, 37},
+        {"room past the address space", room.ends, SIZE_MAX, LENGTH(room.successors), values, 37},
+        {"no room, null", NULL, LENGTH(room.ends), LENGTH(room.successors), values, 37},
+        {"values in the room", room.ends, LENGTH(room.ends), LENGTH(room.successors), (uint32_t *)room.ends + 2 * LENGTH(room.ends) - 1, 37},
+    };
+    uint32_t answer[MIZZENGRAPE_DISPATCH_ANSWER_WORDS];
+    for (size_t i = 0; i < LENGTH(rooms); i++)
+        printf("%s: call %d\n", rooms[i].what,
+               (int)mizzengrape_try_dispatch(laptops, LENGTH(laptops), NULL, 0, directory, 4, cells, 5, rooms[i].values, 1, origins, 3, laptop_lengths, 10, 1,
+                                             100, rooms[i].ends, rooms[i].ends_len, room.successors, rooms[i].successors_len, answer,
+                                             rooms[i].answer_len));
+}
+
 static void wrong_pointers(void)
 {
     uint32_t answer[4];
@@ -174,5 +264,7 @@ int main(void)
     run("room for three words", 4, 5, 3, 3, 100, 3);
     wrong_pointers();
     loop_facts();
+    turns();
+    wrong_room();
     return 0;
 }

@@ -1,4 +1,5 @@
-/* All calls, for the deepest tables, on a thread whose stack has exactly MIZZENGRAPE_STACK_BYTES and a page below it that ends the program. */
+/* All calls, for the deepest tables and eight of them in turn, on a thread whose stack has exactly MIZZENGRAPE_STACK_BYTES and a page below it that ends the
+   program. */
 #define _DEFAULT_SOURCE
 #include <pthread.h>
 #include <stdio.h>
@@ -8,7 +9,7 @@
 
 #include "mizzengrape.h"
 
-enum { DEPTH = 6, WORDS = 256, ENTRIES = 256 };
+enum { DEPTH = 6, WORDS = 256, ENTRIES = 256, ROUTINES = 8 };
 
 static int32_t table[WORDS];
 static size_t table_len;
@@ -101,14 +102,43 @@ static int answers(size_t facts_len)
            && mizzengrape_try_run(table, table_len, directory, 2, cells, 4, values, 2, origins, 2, 100, ran, 4) == MIZZENGRAPE_ANSWERED && ran[0] == 0;
 }
 
+/* Whether eight routines of that table, each with an object of its own behind the one before, end done in turn. */
+static int dispatched(size_t facts_len)
+{
+    static int32_t tables[ROUTINES * WORDS], lists[ROUTINES * 4 * ENTRIES];
+    static mizzengrape_dispatch_room room;
+    uint32_t directories[2 * ROUTINES], cells[1 + 3 * ROUTINES] = {0}, values[2 * ROUTINES], origins[2 * ROUTINES], lengths[5 * ROUTINES];
+    uint32_t answer[MIZZENGRAPE_DISPATCH_ANSWER_WORDS];
+    for (uint32_t r = 0; r < ROUTINES; r++) {
+        const uint32_t parts[] = {(uint32_t)table_len, (uint32_t)facts_len, 2, 2, 2};
+        memcpy(tables + r * table_len, table, table_len * sizeof *table);
+        memcpy(lists + r * facts_len, facts, facts_len * sizeof *facts);
+        memcpy(lengths + 5 * r, parts, sizeof parts);
+        directories[2 * r] = values[2 * r] = 1 + 3 * r;
+        directories[2 * r + 1] = values[2 * r + 1] = 3;
+        origins[2 * r] = 1;
+        origins[2 * r + 1] = 0;
+    }
+    if (mizzengrape_try_dispatch(tables, ROUTINES * table_len, lists, ROUTINES * facts_len, directories, 2 * ROUTINES, cells, 1 + 3 * ROUTINES, values,
+                                 2 * ROUTINES, origins, 2 * ROUTINES, lengths, 5 * ROUTINES, 1, 1000, room.ends, MIZZENGRAPE_DISPATCH_ENDS,
+                                 room.successors, MIZZENGRAPE_DISPATCH_SUCCESSORS, answer, MIZZENGRAPE_DISPATCH_ANSWER_WORDS)
+            != MIZZENGRAPE_ANSWERED
+        || answer[0] != 0 || answer[1] != ROUTINES)
+        return 0;
+    for (uint32_t r = 0; r < ROUTINES; r++)
+        if (answer[5 + 4 * r] != 0)
+            return 0;
+    return 1;
+}
+
 static void *calls(void *wrong)
 {
     for (int with_row = 0; with_row < 2; with_row++) {
         deepest(with_row);
-        *(int *)wrong |= !answers(0);
+        *(int *)wrong |= !answers(0) || !dispatched(0);
     }
     deepest_loops();
-    *(int *)wrong |= !answers(4 * ENTRIES);
+    *(int *)wrong |= !answers(4 * ENTRIES) || !dispatched(4 * ENTRIES);
     return NULL;
 }
 
