@@ -13,7 +13,7 @@ const MOST_CELLS: u64 = (1 << 24) + 1;
 const ALLOWANCE: u32 = 1_000_000;
 
 /// An image as it was read, with the lines that refusals of a run point at.
-#[derive(Debug)]
+#[derive(Debug, Default)]
 pub struct Image {
     pub lent: Lent,
     /// The cells that the memory was to have.
@@ -24,6 +24,47 @@ pub struct Image {
 }
 
 pub fn read_image(text: &str, tables: &[Table], names: &Names) -> Fallible<Image> {
+    let mut laid = [lay_image(text, tables, names, 1)?];
+    let cells = one_memory(&mut laid);
+    let [Laid { mut image, .. }] = laid;
+    image.lent.cells = cells;
+    Ok(image)
+}
+
+/// An image whose objects have their places; the cells are lent apart from it, so that several images have one memory.
+#[derive(Debug, Default)]
+pub struct Laid {
+    pub image: Image,
+    /// The cell behind all its objects.
+    pub end: u64,
+    /// The cells that the memory is given.
+    memory: Option<u32>,
+    /// First cell and contents of objects.
+    contents: Vec<(u32, Vec<u32>)>,
+}
+
+/// The memory of these images: as great as the greatest that is given, or up to the last object.
+pub fn one_memory(laid: &mut [Laid]) -> Vec<u32> {
+    let given = laid.iter().filter_map(|laid| laid.memory).max();
+    let ends = laid.iter().map(|laid| laid.end).max();
+    let memory = given.map_or(ends.unwrap_or(1), u64::from);
+    let mut cells = vec![0; memory.min(MOST_CELLS) as usize];
+    for laid in laid {
+        laid.image.memory = memory;
+        for (first, contents) in laid.contents.drain(..) {
+            for (cell, value) in (first as usize..).zip(contents) {
+                // What lies outside of the memory is not lent; the library refuses such an object.
+                if let Some(slot) = cells.get_mut(cell) {
+                    *slot = value;
+                }
+            }
+        }
+    }
+    cells
+}
+
+/// Reads an image. Its first object lies at that cell, each next one touches the one before, unless it is given a place.
+pub fn lay_image(text: &str, tables: &[Table], names: &Names, first_cell: u64) -> Fallible<Laid> {
     let (Some(first), Some(last), Some(routine)) = (tables.first(), tables.last(), names.routines.last())
     else {
         return fail(Pos { line: 1, column: 1 }, "there is no routine to run");
@@ -42,7 +83,7 @@ pub fn read_image(text: &str, tables: &[Table], names: &Names) -> Fallible<Image
     while reader.parser.peek().kind != Kind::End {
         reader.item()?;
     }
-    reader.image(start)
+    reader.laid(start, first_cell)
 }
 
 #[derive(Clone)]
@@ -174,10 +215,9 @@ impl Reader<'_> {
         Ok(())
     }
 
-    fn image(self, start: Pos) -> Fallible<Image> {
+    fn laid(self, start: Pos, first_cell: u64) -> Fallible<Laid> {
         let mut lent = Lent { allowance: self.allowance.unwrap_or(ALLOWANCE), ..Lent::default() };
-        // Each object touches the one before; cell 0 is in none.
-        let mut end = 1u64;
+        let mut end = first_cell;
         for (placed, length) in self.placed.iter().zip(&self.lengths) {
             let offset = placed.offset.map_or(end, u64::from);
             let Ok(word) = u32::try_from(offset) else {
@@ -187,27 +227,19 @@ impl Reader<'_> {
             end = offset + u64::from(*length);
         }
         let ends = lent.directory.chunks_exact(2).map(|pair| u64::from(pair[0]) + u64::from(pair[1]));
-        let memory = self.memory.map_or(ends.max().unwrap_or(1), u64::from);
-        lent.cells = vec![0; memory.min(MOST_CELLS) as usize];
-        for (placed, pair) in self.placed.iter().zip(lent.directory.chunks_exact(2)) {
-            for (cell, value) in (pair[0] as usize..).zip(placed.cells.iter().flatten()) {
-                // What lies outside of the memory is not lent; the library refuses such an object.
-                if let Some(slot) = lent.cells.get_mut(cell) {
-                    *slot = *value;
-                }
-            }
-        }
+        let end = ends.max().unwrap_or(1);
         for given in &self.given {
             let (value, origin) = given.as_ref().map_or(Ok((0, 0)), |given| entry(given, &lent.directory))?;
             lent.values.push(value);
             lent.origins.push(origin);
         }
-        Ok(Image {
-            lent,
-            memory,
-            objects: self.placed.iter().map(|placed| placed.at).collect(),
-            variables: self.given.iter().map(|given| given.map_or(start, |given| given.at)).collect(),
-        })
+        let objects = self.placed.iter().map(|placed| placed.at).collect();
+        let variables = self.given.iter().map(|given| given.map_or(start, |given| given.at)).collect();
+        let firsts = lent.directory.iter().step_by(2).copied();
+        let contents = firsts.zip(self.placed).filter_map(|(first, placed)| Some((first, placed.cells?)));
+        let contents = contents.collect();
+        let image = Image { lent, memory: 0, objects, variables };
+        Ok(Laid { image, end, memory: self.memory, contents })
     }
 }
 

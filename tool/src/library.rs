@@ -2,7 +2,7 @@
 
 use std::fmt;
 
-pub use mizzengrape::{Check, Outcome};
+pub use mizzengrape::{dispatch, Check, Outcome, Routine, Turns};
 
 /// A refusal, and in a set the routine that is refused.
 #[derive(Clone, Copy, Debug, PartialEq, Eq)]
@@ -116,4 +116,11 @@ pub fn run(tables: &[Vec<i32>], facts: &[i32], lent: &mut Lent) -> Asked<Outcome
     let table = single(tables)?;
     let Lent { directory, cells, values, origins, allowance } = lent;
     Ok(mizzengrape::run_with_facts(table, facts, directory, cells, values, origins, *allowance))
+}
+
+/// A routine of several that run in turn: what it is lent beside the memory. Its values then hold what its turns left.
+pub fn routine<'a>(tables: &'a [Vec<i32>], facts: &'a [i32], lent: &'a mut Lent) -> Asked<Routine<'a>> {
+    let table = single(tables)?;
+    let Lent { directory, values, origins, .. } = lent;
+    Ok(Routine { table, facts, directory, values, origins })
 }

@@ -9,11 +9,26 @@ pub struct Memory<'a> {
     pub printer: Printer<'a>,
     pub directory: &'a [u32],
     dimensions: &'a [Vec<u32>],
+    /// The objects of the routines that run in turn with it.
+    others: &'a [Neighbour],
+}
+
+/// An object of another routine, with the name that people know it by.
+#[derive(Clone, Debug)]
+pub struct Neighbour {
+    pub first: u32,
+    pub length: u32,
+    pub name: String,
 }
 
 impl<'a> Memory<'a> {
-    pub fn new(printer: Printer<'a>, text: &'a Text, directory: &'a [u32]) -> Memory<'a> {
-        Memory { printer, directory, dimensions: &text.map.dimensions }
+    pub fn new(
+        printer: Printer<'a>,
+        text: &'a Text,
+        directory: &'a [u32],
+        others: &'a [Neighbour],
+    ) -> Memory<'a> {
+        Memory { printer, directory, dimensions: &text.map.dimensions, others }
     }
 
     /// First cell and length of an object.
@@ -33,6 +48,14 @@ impl<'a> Memory<'a> {
             (cell >= low && cell < low + length).then_some((object, cell - low))
         };
         (0..self.directory.len() / 2).find_map(inside)
+    }
+
+    /// The name of the object that a cell lies in, another routine's too.
+    pub fn name_at(&self, cell: i64) -> Option<&'a str> {
+        let within =
+            |other: &&Neighbour| (0..i64::from(other.length)).contains(&(cell - i64::from(other.first)));
+        let own = self.object_at(cell).map(|(object, _)| self.name(object));
+        own.or_else(|| self.others.iter().find(within).map(|other| other.name.as_str()))
     }
 
     /// The value of a variable. Where the origin of a pointer is not known, an address inside of an object tells it.

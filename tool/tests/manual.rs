@@ -1,6 +1,6 @@
 //! docs/FORMAT.md: each example prints what stands below it. The golden explanations of `tests/language` too.
 
-use mizzengrape_tool::command::{call, run_program, verdict, Output};
+use mizzengrape_tool::command::{call, run_in_turn, run_program, verdict, Asked, Given, Output};
 use mizzengrape_tool::program::Program;
 use std::fs;
 use std::path::{Path, PathBuf};
@@ -36,6 +36,17 @@ fn program(routine: &str) -> Program {
     Program::of_text("example.c", routine.to_string(), false).expect("a text")
 }
 
+/// The routine in turn with each image of a block; a blank line is between two.
+fn in_turn(routine: &str, images: &str) -> Result<Output, String> {
+    let given = |image: &str| Given {
+        program: program(routine),
+        image_path: "image".to_string(),
+        image_text: image.to_string(),
+    };
+    let asked = Asked { quantum: 1, allowance: None, turns: false, short: true };
+    run_in_turn(images.split("\n\n").map(given).collect(), asked)
+}
+
 #[test]
 fn each_example_prints_what_is_said() {
     let manual = fs::read_to_string(repository().join("docs/FORMAT.md")).expect("the manual");
@@ -53,6 +64,7 @@ fn each_example_prints_what_is_said() {
                 verdict(&Program::of_tables("example.tbl", vec![table], Vec::new()), false)
             }
             "image" => run_program(program(&routine), "image", text.clone(), false, false),
+            "images" => in_turn(&routine, &text),
             other => panic!("no example is in {other}"),
         };
         let output = output.unwrap_or_else(|message| panic!("{message}\n{text}"));
@@ -68,7 +80,7 @@ fn explain_prints_the_page() {
         let arguments: Vec<String> = ["explain"].iter().chain(words).map(|word| word.to_string()).collect();
         call(&arguments)
     };
-    for number in (1..=13).filter(|&number| number != 7).chain([16, 17]) {
+    for number in (1..=17).filter(|&number| number != 7) {
         let page = explain(&[&number.to_string()]);
         assert!(page.out.starts_with(&format!("Refusal {number}: ")), "{number}");
         assert!(page.out.matches("Refusal ").count() == 1 && !page.out.contains("```"), "{}", page.out);
@@ -76,7 +88,7 @@ fn explain_prints_the_page() {
     for number in 1..=6 {
         assert!(explain(&["stop", &number.to_string()]).out.starts_with(&format!("Stop {number}: ")));
     }
-    assert_eq!(explain(&["14"]), Output::wrong("error: there is no refusal 14\n".to_string()));
+    assert_eq!(explain(&["18"]), Output::wrong("error: there is no refusal 18\n".to_string()));
 }
 
 /// As `check` prints them, diagnostics first; those of forms that the library does not have yet come later.

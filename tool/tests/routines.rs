@@ -1,6 +1,6 @@
 //! The routines of `routines/`, checked and run; the tables that the proved programs read are made from them.
 
-use mizzengrape_tool::command::{run_program, verdict, Output};
+use mizzengrape_tool::command::{run_in_turn, run_program, verdict, Asked, Given, Output};
 use mizzengrape_tool::image::read_image;
 use mizzengrape_tool::library::Lent;
 use mizzengrape_tool::program::Program;
@@ -107,4 +107,38 @@ fn the_bounds_follow_the_block() {
         "done after 10 steps\nrow: NULL -> keelboats + 3\nrows: 0 -> 1\nkeelboats[2] (cell 6): 0 -> 77\n\
                     bounds of row: count(0) -> count(rows) (cell 7)\n";
     assert_eq!(run("two_blocks", "keelboat.img").out, expected);
+}
+
+/// The incident: the first laptop has one boat more than rows, and behind its block lies the first row of the other's.
+#[test]
+fn both_laptops_run_in_turn_over_touching_blocks() {
+    let given = |(name, image_name): (&str, &str)| Given {
+        program: routine(name),
+        image_path: image_name.to_string(),
+        image_text: image(image_name),
+    };
+    let run = |lent: [(&str, &str); 2], quantum| {
+        let asked = Asked { quantum, allowance: None, turns: false, short: true };
+        let output = run_in_turn(lent.map(given).into(), asked).expect("an answer");
+        (output.out, output.status)
+    };
+    let laptops = [("late_boats", "first_laptop.img"), ("late_boats", "second_laptop.img")];
+    let expected = "\
+routine 0: stopped 18 1 1
+values: 5 0 105 1
+routine 1: done 17
+values: 8 1 204 0
+cells: 0 101 102 103 104 201 202 203 0
+";
+    // Whatever the turns, each boat has its own row, and the first laptop stops at its check.
+    for quantum in 1..=20 {
+        assert_eq!(run(laptops, quantum), (expected.to_string(), 3), "{quantum}");
+    }
+    // The other laptop's block before this one's: nobody stops the second laptop either.
+    let [first, second] = laptops;
+    let (out, _) = run([second, first], 3);
+    assert!(out.ends_with("cells: 0 201 202 203 0 101 102 103 104\n"), "{out}");
+    // The second club's routine gets no turn, and neither does the first club's beside it.
+    let clubs = [("first_club", "last_row.img"), ("second_club", "last_row.img")];
+    assert_eq!(run(clubs, 3), ("refused routine 1 8 0 0\n".to_string(), 1));
 }

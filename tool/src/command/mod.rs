@@ -9,6 +9,7 @@ mod dis;
 mod explain;
 mod facts;
 mod header;
+mod in_turn;
 mod lsp;
 mod pages;
 mod run;
@@ -22,6 +23,7 @@ pub use check::verdict;
 use color::{colored, Color};
 pub use dis::formatted;
 pub use facts::fact_edits;
+pub use in_turn::{run_in_turn, Asked, Given};
 pub use run::run_program;
 use std::io::{self, Write};
 
@@ -101,7 +103,8 @@ mizzengrape: routines for late entries and scoring, in Checked C
     mizzengrape asm FILE.c            a text as a table
     mizzengrape dis FILE.tbl          a table as text
     mizzengrape fmt FILE.c            a text in its canonical form
-    mizzengrape run FILE IMAGE        a run: how it ended, what it changed
+    mizzengrape run FILE IMAGE ..     a run: how it ended, what it changed;
+                                      of several routines in turn
     mizzengrape trace FILE IMAGE      a run step by step
     mizzengrape explain NUMBER        what a refusal means and what repairs it
     mizzengrape explain stop NUMBER   the same of a stop

@@ -2,16 +2,18 @@
 
 use super::arguments::{Arguments, Usage};
 use super::changes::{changes, due, Point};
+use super::in_turn::in_turn;
 use super::session::{end_line, open, read, Session, Wanted};
 use super::trace::traced_whole;
 use super::Output;
 use crate::explain::{second_run, SecondRun};
-use crate::library::Outcome;
+use crate::library::{Lent, Outcome};
 use crate::program::Program;
 
 pub const USAGE: Usage = Usage {
     help: "\
 mizzengrape run FILE IMAGE [--allowance N] [--facts F] [--names N] [--short]
+mizzengrape run FILE IMAGE FILE IMAGE .. [--quantum Q] [--turns] [--allowance N]
 
 Runs a routine and says how it ended, which values and cells it changed. At a
 stop the blocks that the statement is about are drawn. IMAGE says what the
@@ -25,18 +27,30 @@ routine is lent:
 
 Objects without `at` touch, the first at cell 1; what is not given is 0.
 
-    --allowance N   the steps at most, 0 to 4294967295, whatever the image says
+Several routines, 1 to 8, each with its image, run in turn over one memory: the
+objects of an image lie behind those of the images before, the first touching
+the last, unless `at` gives them a place. They may touch, not overlap. The
+memory is the greatest that an image gives.
+
+    --quantum Q     the steps of a turn, 1 to 1000, by default 1
+    --turns         lists the turns
+    --allowance N   the steps at most, 0 to 4294967295, whatever the image says;
+                    in turn of all together, by default what the images say
     --facts F       the list of loop facts of a table, as words in a file
     --names N       the names file of a table, which asm wrote
     --short         the outcome, the values and the cells as in the vectors
 ",
-    flags: &["--short"],
-    options: &["--allowance", "--facts", "--names"],
+    flags: &["--short", "--turns"],
+    options: &["--allowance", "--facts", "--names", "--quantum"],
     least_files: 2,
-    most_files: 2,
+    most_files: usize::MAX,
 };
 
 pub fn run(arguments: &Arguments) -> Result<Output, String> {
+    let is_alone = arguments.files.len() == 2 && arguments.option("--quantum").is_none();
+    if !is_alone || arguments.flag("--turns") {
+        return in_turn(arguments);
+    }
     read(arguments)?.map_or_else(Ok, |session| whole(&session))
 }
 
@@ -52,7 +66,7 @@ pub fn run_program(
     session.map_or_else(Ok, |session| if traced { traced_whole(&session) } else { whole(&session) })
 }
 
-fn listed(words: &[u32]) -> String {
+pub fn listed(words: &[u32]) -> String {
     words.iter().map(|word| format!(" {word}")).collect()
 }
 
@@ -75,12 +89,23 @@ fn whole(session: &Session) -> Result<Output, String> {
         output.out = format!("{outcome}\nvalues:{}\ncells:{}\n", listed(&left.values), listed(&left.cells));
         return Ok(output);
     }
+    output.out = told(session, lent, &left, &outcome, second.origins.as_deref())?;
+    Ok(output)
+}
+
+/// How a run ended and what it changed, in words.
+pub fn told(
+    session: &Session,
+    lent: &Lent,
+    left: &Lent,
+    outcome: &Outcome,
+    origins: Option<&[u32]>,
+) -> Result<String, String> {
     let memory = session.memory()?;
-    let due = due(&memory.printer, &outcome);
-    let end = Point { values: &left.values, cells: &left.cells, origins: second.origins.as_deref(), due };
+    let due = due(&memory.printer, outcome);
+    let end = Point { values: &left.values, cells: &left.cells, origins, due };
     let changes = changes(&memory, Point::start(lent), end);
     let nothing = if changes.is_empty() { "; nothing changed" } else { "" };
-    output.out = format!("{}{nothing}\n", end_line(&outcome));
-    changes.iter().for_each(|change| output.out.push_str(&format!("{change}\n")));
-    Ok(output)
+    let lines: String = changes.iter().map(|change| format!("{change}\n")).collect();
+    Ok(format!("{}{nothing}\n{lines}", end_line(outcome)))
 }

@@ -8,16 +8,18 @@ use crate::explain::{self, bundle, stops, Place};
 use crate::files::{read_text, IMAGE};
 use crate::image::{read_image, Image};
 use crate::library::{self, Lent, Outcome, Refusal};
-use crate::memory::Memory;
+use crate::memory::{Memory, Neighbour};
 use crate::names::read_names;
 use crate::printer::Printer;
 use crate::program::{Program, Text};
 
 pub struct Session {
     pub program: Program,
-    image_path: String,
-    image_text: String,
+    pub image_path: String,
+    pub image_text: String,
     pub image: Image,
+    /// The objects of the routines that run in turn with this one.
+    pub others: Vec<Neighbour>,
     pub short: bool,
 }
 
@@ -55,7 +57,7 @@ pub fn open(
     let read = read_image(&image_text, &text.parts, &text.names);
     let mut image = read.map_err(|wrong| source.error(&wrong, wanted.short))?;
     image.lent.allowance = wanted.allowance.unwrap_or(image.lent.allowance);
-    Ok(Ok(Session { program, image_path, image_text, image, short: wanted.short }))
+    Ok(Ok(Session { program, image_path, image_text, image, others: Vec::new(), short: wanted.short }))
 }
 
 fn text_of(program: &Program) -> Result<&Text, String> {
@@ -94,7 +96,7 @@ impl Session {
     }
 
     pub fn memory(&self) -> Result<Memory<'_>, String> {
-        Ok(Memory::new(self.printer()?, self.text()?, &self.image.lent.directory))
+        Ok(Memory::new(self.printer()?, self.text()?, &self.image.lent.directory, &self.others))
     }
 
     pub fn position(&self, statement: usize) -> Result<Pos, String> {

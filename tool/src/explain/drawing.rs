@@ -99,7 +99,7 @@ fn shown(scene: &Scene, object: usize, cell: u32) -> String {
 /// The name of a block, and of the one that touches it from before: `keelboats  dinghies #`.
 fn label(scene: &Scene, object: usize, low: i64) -> String {
     let memory = &scene.memory;
-    let before = memory.object_at(low - 1).map(|(before, _)| format!("{} #", memory.name(before)));
+    let before = memory.name_at(low - 1).map(|before| format!("{before} #"));
     format!("{}  {}", memory.name(object), before.unwrap_or_default())
 }
 
@@ -181,8 +181,8 @@ impl<'a> Block<'a> {
         }
         let is_whole = self.rows.end * self.size >= self.length;
         line.push_str(if is_whole { "|" } else { "| .." });
-        let next = memory.object_at(self.low + self.length).filter(|_| is_whole);
-        line + &next.map_or_else(String::new, |(next, _)| format!("# {}", memory.name(next)))
+        let next = memory.name_at(self.low + self.length).filter(|_| is_whole);
+        line + &next.map_or_else(String::new, |next| format!("# {next}"))
     }
 
     /// The address of the first cell of each row, below it.

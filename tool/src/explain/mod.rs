@@ -18,6 +18,7 @@ mod rows;
 mod state;
 pub mod stops;
 mod trial;
+pub mod turns;
 mod values;
 mod walk;
 mod ways;
