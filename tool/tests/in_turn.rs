@@ -192,7 +192,7 @@ fn wrong_calls_end_with_2() {
     let routine = folder.write("late.c", LATE);
     let image = folder.write("late.img", "");
     let wrong = folder.write("wrong.img", "rows = 3");
-    let set = folder.write("set.c", &format!("{WAITS}{}", WAITS.replace("wait", "other")));
+    let set = folder.write("set.c", format!("{WAITS}{}", WAITS.replace("wait", "other")));
     let ends = |words: &[&str], message: &str| {
         let output = folder.command(&[&["run", "--short"], words].concat());
         assert_eq!((output.err.as_str(), output.status), (message, 2));

@@ -1,8 +1,9 @@
 //! Damaged texts, tables and images: whatever they hold, every command answers.
 
 use super::generate::case;
+use super::loops::routine;
 use super::Random;
-use mizzengrape_tool::command::{run_program, verdict, Output};
+use mizzengrape_tool::command::{run_in_turn, run_program, verdict, Asked, Given, Output};
 use mizzengrape_tool::files::{as_text, IMAGE as IMAGES, TEXT};
 use mizzengrape_tool::names::Names;
 use mizzengrape_tool::printer::print;
@@ -24,10 +25,11 @@ pub const IMAGE: &str =
 
 /// One damaged text, table or image through the commands that take it.
 pub fn one(random: &mut Random, texts: &[String]) {
-    match random.below(4) {
+    match random.below(5) {
         0 | 1 => text(random, texts),
         2 => table(random),
-        _ => image(random, texts),
+        3 => image(random, texts),
+        _ => in_turn(random, texts),
     }
 }
 
@@ -99,22 +101,52 @@ fn table(random: &mut Random) {
 }
 
 fn image(random: &mut Random, texts: &[String]) {
+    let Some(Given { program, image_path, image_text }) = given(random, texts) else { return };
+    answered(run_program(program, &image_path, image_text, random.chance(50), random.chance(30)));
+}
+
+/// Some routines in turn with such images, now and then more than there may be, or turns that are too long.
+fn in_turn(random: &mut Random, texts: &[String]) {
+    let count = random.pick(&[1, 2, 2, 2, 3, 3, 8, 9]);
+    let mut lent: Vec<Given> = (0..count).map(|_| with_loop(random)).collect();
+    if random.chance(20) {
+        let at = random.below(lent.len());
+        lent.splice(at..=at, given(random, texts));
+    }
+    if lent.is_empty() {
+        return;
+    }
+    let quantum = random.pick(&[1, 1, 2, 3, 7, 1_000, 0, 1_001]);
+    let allowance = random.chance(50).then(|| random.below(100) as u32);
+    let asked = Asked { quantum, allowance, turns: random.chance(50), short: random.chance(30) };
+    answered(run_in_turn(lent, asked));
+}
+
+/// A routine with a loop and an image for it; now and then the entry is untrue, or the block overlaps another one.
+fn with_loop(random: &mut Random) -> Given {
+    let program = Program::of_text("loop.c", routine(random), true).unwrap_or_else(|wrong| panic!("{wrong}"));
+    let has_block = program.text.as_ref().is_some_and(|text| !text.names.objects.is_empty());
+    let (n, t) = (random.below(9) + random.below(100) / 98, random.below(4));
+    let place = if random.chance(5) { format!("block at {};", random.below(30)) } else { String::new() };
+    let image_text = match has_block {
+        true => format!("{place} p = block + {}; n = {n}; t = {t};", 8 - n.min(8)),
+        false => format!("t = {t};"),
+    };
+    Given { program, image_path: "image".to_string(), image_text }
+}
+
+/// A routine and a damaged image.
+fn given(random: &mut Random, texts: &[String]) -> Option<Given> {
     let source = if random.chance(30) { texts[random.below(texts.len())].clone() } else { generated(random) };
-    let Ok(program) = Program::of_text("routine.c", source, true) else { return };
+    let program = Program::of_text("routine.c", source, true).ok()?;
     let mut bytes = IMAGE.as_bytes().to_vec();
     for _ in 0..random.below(4) {
         damage(random, &mut bytes);
     }
-    let Ok(image) = as_text("image", bytes, &IMAGES, true) else { return };
+    let image_text = as_text("image", bytes, &IMAGES, true).ok()?;
     // A memory of the greatest size for every fifth case would take all the time.
-    if image.contains("65536")
-        || image.contains("65537")
-        || image.contains("2147483648")
-        || image.contains("42949672")
-    {
-        return;
-    }
-    answered(run_program(program, "image", image, random.chance(50), random.chance(30)));
+    let is_great = ["65536", "65537", "2147483648", "42949672"].iter().any(|size| image_text.contains(size));
+    (!is_great).then(|| Given { program, image_path: "image".to_string(), image_text })
 }
 
 /// No call may end with the two implementations at odds.
