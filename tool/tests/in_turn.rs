@@ -76,7 +76,13 @@ fn turns_are_listed_in_their_order() {
     let folder = Folder::new("turns");
     let images = ["row = block; rows = 2; boats = 1;", "", "row = block; rows = 2; boats = 1;"];
     let output = run(&folder, &["--quantum", "5", "--turns"], &images);
-    let turns = "#1 routine 0: 5 steps\n#2 routine 1: 1 step\n#3 routine 2: 5 steps\n#4 routine 0: 3 steps\n#5 routine 2: 3 steps\n";
+    let turns = "\
+#1 routine 0: 5 steps, line 10 is next; row: block -> block + 1, block[0] (cell 1): 0 -> 1
+#2 routine 1: 1 step, done
+#3 routine 2: 5 steps, line 10 is next; row: block -> block + 1, block[0] (cell 5): 0 -> 1
+#4 routine 0: 3 steps, done; rows: 2 -> 1, boats: 1 -> 0
+#5 routine 2: 3 steps, done; rows: 2 -> 1, boats: 1 -> 0
+";
     assert!(output.out.starts_with(&format!("{turns}routine 0, ")), "{}", output.out);
     assert!(output.out.contains("routine 1, r1.c lent i1.img: done after 1 step; nothing changed\n"));
     // For programs as in the vectors; the turns too where they are asked for.
@@ -105,8 +111,31 @@ fn only_so_many_turns_are_listed() {
     let folder = Folder::new("many-turns");
     let output = run_each(&folder, &["--turns"], &[(WAITS, "n = 700;"), (WAITS, "n = 3;")]);
     let lines: Vec<&str> = output.out.lines().collect();
-    assert_eq!(lines[13..16], ["#14 routine 1: 1 step", "#15 routine 0: 1 step", "#16 routine 0: 1 step"]);
-    assert_eq!(lines[999..1001], ["#1000 routine 0: 1 step", "and 408 turns more"]);
+    let end = "#14 routine 1: 1 step, done";
+    let alone = "#17 routine 0: 1 step, line 3 is next; n: 696 -> 695";
+    assert_eq!((lines[13], lines[16]), (end, alone));
+    assert_eq!(lines[999..1001], ["#1000 routine 0: 1 step, line 4 is next", "and 408 turns more"]);
+}
+
+const FILLS: &str = "\
+unsigned block checked[20];
+
+void fill(array_ptr<unsigned> p : count(20), unsigned i, unsigned n)
+{
+    while (i < n) {
+        p[i] = n;
+        i = i + 1;
+    }
+}
+";
+
+#[test]
+fn of_a_turn_so_many_changes_are_told() {
+    let folder = Folder::new("many-changes");
+    let output = run_each(&folder, &["--turns", "--quantum", "1000"], &[(FILLS, "p = block; n = 21;")]);
+    let cells: String = (0..7).map(|i| format!(", block[{i}] (cell {}): 0 -> 21", i + 1)).collect();
+    let line = format!("#1 routine 0: 62 steps, stopped at line 6; i: 0 -> 20{cells}, and 13 more");
+    assert_eq!(output.out.lines().next(), Some(line.as_str()));
 }
 
 #[test]

@@ -3,6 +3,7 @@
 use super::arguments::Arguments;
 use super::run::{listed, told};
 use super::session::Session;
+use super::turns::listing;
 use super::{Output, DIFFER, REFUSED, STOPPED};
 use crate::diagnostics::Source;
 use crate::explain::turns::{other_turns, out_of_range, overlap, shown, Order, Seat};
@@ -12,11 +13,10 @@ use crate::image::{lay_image, one_memory, Laid};
 use crate::library::{self, steps, Lent, Outcome, Turns};
 use crate::memory::Neighbour;
 use crate::program::Program;
-use oracle::dispatch::{Member, Turn};
+use oracle::dispatch::Member;
 
-/// More turns are not listed for people, and more words not for programs.
-const MOST_LISTED: usize = 1_000;
-const MOST_WORDS: usize = 1_000_000;
+/// More turns are not listed for programs.
+const MOST_TURNS: usize = 1_000_000;
 
 /// A routine, and the image that it is lent.
 pub struct Given {
@@ -188,7 +188,8 @@ impl Round {
     fn ran(&self, outcomes: &[Outcome], left: &Left) -> Result<Output, String> {
         let mut output = Output::default();
         if self.asked.turns && !self.asked.short {
-            output.out = self.turns(outcomes);
+            output.out =
+                listing(&self.sessions, self.cells.clone(), Order::of(outcomes, self.asked.quantum))?;
         }
         for (routine, outcome) in outcomes.iter().enumerate() {
             self.end(routine, outcome, left, &mut output)?;
@@ -241,25 +242,10 @@ impl Round {
         cells
     }
 
-    /// `#1 routine 0: 3 steps`, a line a turn.
-    fn turns(&self, outcomes: &[Outcome]) -> String {
-        let mut order = Order::of(outcomes, self.asked.quantum);
-        let mut lines = String::new();
-        for (number, turn) in order.by_ref().take(MOST_LISTED).enumerate() {
-            let Turn { routine, steps } = turn;
-            let plural = if steps == 1 { "step" } else { "steps" };
-            lines.push_str(&format!("#{} routine {routine}: {steps} {plural}\n", number + 1));
-        }
-        match order.count() {
-            0 => lines,
-            more => lines + &format!("and {more} turns more\n"),
-        }
-    }
-
     /// ` 0:3 1:3 0:2`, as in the vectors.
     fn order(&self, outcomes: &[Outcome]) -> String {
         let mut order = Order::of(outcomes, self.asked.quantum);
-        let words = order.by_ref().take(MOST_WORDS).map(|turn| format!(" {}:{}", turn.routine, turn.steps));
+        let words = order.by_ref().take(MOST_TURNS).map(|turn| format!(" {}:{}", turn.routine, turn.steps));
         let words: String = words.collect();
         words + if order.next().is_some() { " .." } else { "" }
     }

@@ -15,6 +15,7 @@ mod pages;
 mod run;
 mod session;
 mod trace;
+mod turns;
 
 use crate::diagnostics::without_controls;
 use crate::program::Program;

@@ -33,7 +33,7 @@ the last, unless `at` gives them a place. They may touch, not overlap. The
 memory is the greatest that an image gives.
 
     --quantum Q     the steps of a turn, 1 to 1000, by default 1
-    --turns         lists the turns
+    --turns         lists the turns: their steps, what they changed
     --allowance N   the steps at most, 0 to 4294967295, whatever the image says;
                     in turn of all together, by default what the images say
     --facts F       the list of loop facts of a table, as words in a file

@@ -11,7 +11,7 @@ use crate::library::{steps, Outcome};
 use crate::memory::Memory;
 use crate::printer::Printer;
 use crate::rows::InForce;
-use crate::table::accessed;
+use crate::table::{accessed, Table};
 use crate::tree::RELATIONS;
 use oracle::answer::RunAnswer;
 use std::io::{self, Write};
@@ -132,7 +132,7 @@ impl<'a> Listing<'a> {
         for step in from..=last {
             let Some(statement) = machine.due() else { break };
             let before = (machine.values().to_vec(), machine.origins().to_vec());
-            let stored = self.stored(statement, &before.0);
+            let stored = stored(self.memory.printer.table, statement, &before.0);
             let old = stored.and_then(|cell| cells.get(cell).copied());
             answer = machine.go(cells, u64::from(step));
             let point = |values, origins| Point { values, cells: &[], origins: Some(origins), due: 0 };
@@ -152,19 +152,6 @@ impl<'a> Listing<'a> {
         is_unread = is_unread || self.write().map_err(lost)?;
         let (values, origins) = (machine.values().to_vec(), machine.origins().to_vec());
         Ok(Seen { is_unread, answer, values, origins })
-    }
-
-    /// The cell that a statement stores to.
-    fn stored(&self, statement: usize, values: &[u32]) -> Option<usize> {
-        let table = self.memory.printer.table;
-        let record = &table.statements[statement];
-        if record[0] != 9 {
-            return None;
-        }
-        let (p, i, k) = accessed(record);
-        let index = if i == -1 { 0 } else { i64::from(values[i as usize]) };
-        let address = i64::from(values[p as usize]) + i64::from(table.size(p)) * index + i64::from(k);
-        usize::try_from(address).ok()
     }
 
     /// `3 < 4, yes`: what a condition compared.
@@ -224,6 +211,18 @@ impl<'a> Listing<'a> {
             other => other.map(|()| false),
         }
     }
+}
+
+/// The cell that a statement stores to.
+pub fn stored(table: &Table, statement: usize, values: &[u32]) -> Option<usize> {
+    let record = &table.statements[statement];
+    if record[0] != 9 {
+        return None;
+    }
+    let (p, i, k) = accessed(record);
+    let index = if i == -1 { 0 } else { i64::from(values[i as usize]) };
+    let address = i64::from(values[p as usize]) + i64::from(table.size(p)) * index + i64::from(k);
+    usize::try_from(address).ok()
 }
 
 /// `FILE:9:5   1 row[0] = boat;    ` for each statement, all of one width.

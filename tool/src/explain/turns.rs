@@ -82,6 +82,10 @@ impl Order {
     pub fn of(outcomes: &[Outcome], quantum: u32) -> Order {
         Order { left: outcomes.iter().map(steps).collect(), quantum, next: 0 }
     }
+
+    pub fn turns_left(&self) -> u64 {
+        self.left.iter().map(|steps| u64::from(steps.div_ceil(self.quantum))).sum()
+    }
 }
 
 impl Iterator for Order {
@@ -157,7 +161,8 @@ mod tests {
         let order: Vec<(usize, u64)> =
             Order::of(&outcomes, 4).map(|turn| (turn.routine, turn.steps)).collect();
         assert_eq!(order, [(0, 4), (2, 2), (3, 4), (0, 1), (3, 4), (3, 1)]);
-        assert_eq!(Order::of(&[], 4).count(), 0);
+        assert_eq!(Order::of(&outcomes, 4).turns_left(), 6);
+        assert_eq!((Order::of(&[], 4).count(), Order::of(&[], 4).turns_left()), (0, 0));
     }
 
     /// A library that answers something else, or leaves something else, than the second implementation is found out.
