@@ -56,7 +56,8 @@
    and objects that share no cell with another's; they may touch. It goes round by number, skips those that ended, and gives each a turn of quantum steps, 1
    to 1,000, until all have ended or the total is used. A turn that ends early gives its rest to nobody. So of n routines one that waits is served again
    after at most (n - 1) times quantum steps of the others, unless the total runs out; and each ends, with its values and its cells, as a run of it alone
-   with the steps that it received. All that is said of a run above holds of each of them. */
+   with the steps that it received. All that is said of a run above holds of each of them. To go on after the total is used, run a copy of cells and values
+   from before again, with a greater total: the turns are the same up to there. */
 #ifndef MIZZENGRAPE_H
 #define MIZZENGRAPE_H
 
@@ -215,8 +216,8 @@ typedef struct mizzengrape_dispatch_room {
 
 /* Runs several routines in turn on lent cells, quantum steps a turn, total steps in all. Their parts lie one behind the other in tables, facts, directories,
    values and origins; lengths has five words a routine: of its table, list, directory, values and origins. A length of lengths that is no multiple of five
-   is a wrong number of routines (15). A part that reaches past its slice is cut there, and what is missing then refuses the routine by its own causes. ends
-   and successors are the room above. The answer's words, the others stay:
+   is a wrong number of routines (15). A part that reaches past its slice is cut there, and the routine is judged by what is left of it. ends and successors
+   are the room above. The answer's words, the others stay:
                                  ran                      refused
      answer[0]                   0                        3
      answer[1]                   number of routines       number of the refusal
