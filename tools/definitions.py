@@ -8,7 +8,7 @@ import re
 import sys
 from pathlib import Path
 
-ENTRY_POINTS = ["checker", "interpreter", "files", "exports", "lines"]  # crates whose open functions are what others call
+ENTRY_POINTS = ["checker", "interpreter", "dispatcher", "files", "exports", "lines"]  # crates whose open functions are what others call
 USE = re.compile(r"^\s*(?:ghost )?use Rattle·(\w+?)(?:·specs)?\.specs\.([\w.·-]+?)(?:\.\{([^}]*)\})?(?: as [\w-]+)?;?$")
 
 
@@ -27,10 +27,11 @@ def uses(path):
 
 
 def cited(crate):
-    """The files that the contracts of the open functions of a crate's root cite."""
-    for source in [Path(f"crates/{crate}/src/lib.rt")]:
+    """The files that the contracts of the open functions of a crate's root cite, and those of functions for C wherever they stand."""
+    root = Path(f"crates/{crate}/src/lib.rt")
+    for source in sorted(root.parent.glob("*.rt")):
         text = source.read_text()
-        contracts = "".join(re.findall(r'^pub (?:extern "C" )?fn .*?^\{$', text, re.M | re.S))
+        contracts = "".join(re.findall(r'^pub (?:extern "C" )?fn .*?^\{$' if source == root else r'^pub extern "C" fn .*?^\{$', text, re.M | re.S))
         words = set(re.findall(r"[^\s(){};,.]+", contracts))
         for path, names in uses(source):
             if words & set(names):
