@@ -56,7 +56,8 @@ pub fn examine(path: &str, facts: Option<&str>) -> Loaded<Found> {
     })
 }
 
-fn of_program(program: &Program) -> Found {
+/// The findings of a program that is in memory already.
+pub fn of_program(program: &Program) -> Found {
     let source = program.text.as_ref().map_or("", |text| &text.source);
     let warnings = program.warnings.iter().map(|warning| of_text(&program.name, source, "warning", warning));
     let mut findings: Vec<Finding> = warnings.collect();

@@ -3,11 +3,15 @@
 use super::generate::case;
 use super::loops::routine;
 use super::Random;
-use mizzengrape_tool::command::{run_in_turn, run_program, verdict, Asked, Given, Output};
+use mizzengrape_tool::command::{formatted, run_in_turn, run_program, verdict, Asked, Given, Output};
 use mizzengrape_tool::files::{as_text, IMAGE as IMAGES, TEXT};
+use mizzengrape_tool::findings::{json, of_program, sarif};
+use mizzengrape_tool::library::{check_table, form_refusal};
+use mizzengrape_tool::lsp::json::Json;
 use mizzengrape_tool::names::Names;
 use mizzengrape_tool::printer::print;
 use mizzengrape_tool::program::{printable, Program};
+use mizzengrape_tool::propose::propose;
 use mizzengrape_tool::words::assemble;
 
 /// Pieces that a damaged text gets.
@@ -46,9 +50,33 @@ fn text(random: &mut Random, texts: &[String]) {
     let Ok(program) = Program::of_text("damaged.c", source, random.chance(50)) else { return };
     answered(verdict(&program, random.chance(50)));
     let text = program.text.as_ref().expect("a text that was assembled");
-    let formatted = print(&text.parts, &program.facts, &text.names);
-    let again = assemble(&formatted).unwrap_or_else(|wrong| panic!("{wrong:?}\n{formatted}"));
-    assert_eq!((again.tables, again.facts), (program.tables, program.facts), "{formatted}");
+    if random.chance(20) {
+        for_programs(&program);
+    }
+    if let ([table], [part], true) = (&program.tables[..], &text.parts[..], random.chance(5)) {
+        if form_refusal(&program.tables).is_none() {
+            let proposal = propose(part, &program.facts);
+            assert_eq!(check_table(table, &proposal.facts), proposal.checked);
+        }
+    }
+    if let Ok(with_comments) = formatted(&program, text, false) {
+        let again = assemble(&with_comments).unwrap_or_else(|wrong| panic!("{wrong:?}\n{with_comments}"));
+        assert_eq!((&again.tables, &again.facts), (&program.tables, &program.facts), "{with_comments}");
+    }
+    let canonical = print(&text.parts, &program.facts, &text.names);
+    let again = assemble(&canonical).unwrap_or_else(|wrong| panic!("{wrong:?}\n{canonical}"));
+    assert_eq!((again.tables, again.facts), (program.tables, program.facts), "{canonical}");
+}
+
+/// What programs read is JSON, whatever stands in a text.
+fn for_programs(program: &Program) {
+    let found = of_program(program);
+    assert!(!found.is_at_odds, "{found:?}");
+    for finding in &found.findings {
+        let line = json(finding).to_string();
+        assert!(!line.contains('\n') && Json::read(&line).is_ok(), "{line}");
+    }
+    assert!(Json::read(&sarif(&found.findings).to_string()).is_ok());
 }
 
 fn generated(random: &mut Random) -> String {
