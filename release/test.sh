@@ -59,6 +59,10 @@ for prefix in "$folder/mizzengrape-$version" "$folder/installed"; do
     cc -std=c11 -Wall -Wextra -Werror -pedantic -pthread "$documents/examples/stack.c" -I"$prefix/include" "$prefix/lib/libmizzengrape.a" -o "$folder/stack"
     "$folder/stack" > /dev/null
     in_other_languages
+    # The README's commands: the first routine is refused, the others are well.
+    grep '^    mizzengrape ' "$documents/README.md" | while read -r line; do
+        (cd "$prefix" && PATH="$prefix/bin:$PATH" sh -c "$line" > "$folder/said" 2>&1) || grep -q '^refused 8 0 0$' "$folder/said"
+    done
     cd "$documents/routines"
     test "$("$prefix/bin/mizzengrape" check --short first_club.c)" = accepted
     status=0

@@ -142,6 +142,24 @@ fn a_count_that_is_set_anew_is_declared_before_and_behind() {
     );
 }
 
+/// A step by a variable is made one by one, where the variable is not needed any more.
+#[test]
+fn a_step_by_a_variable_is_a_loop() {
+    let written = "while (x > 0) where x <= rows { bundled { row = row + 1; rows = rows - 1; } x = x - 1; }";
+    followed(
+        "dynamic_check(x <= rows);\nrow = row + x;\nrows = rows - x;",
+        &format!("in place of lines 5 to 6 write {written}"),
+        &format!("dynamic_check(x <= rows);\n{written}"),
+    );
+    followed(
+        "row = row + x;\nrows = rows - x;",
+        &format!("in place of lines 4 to 5 write dynamic_check(x <= rows); {written}"),
+        &format!("dynamic_check(x <= rows);\n{written}"),
+    );
+    let needed = help(&routine("dynamic_check(x <= rows);\nrow = row + x;\nrows = rows - x;\nx = x + 1;"));
+    assert_eq!(needed, (None, "refused 8 1 0".to_string()));
+}
+
 /// `if (k < n) { n = k; }`, help by help.
 #[test]
 fn the_lesser_of_two_counts() {

@@ -233,6 +233,7 @@ fn for_bounds(program: &Program, place: &Place, refusal: &Refusal) -> Option<Hel
     let declared = || known().and_then(|help| tried(vec![help]));
     bundled()
         .or_else(|| tried(ways::joined(place, refused)))
+        .or_else(|| tried(ways::stepped(place, refused)))
         .or_else(|| tried(recounted))
         .or_else(|| follows().and_then(|help| tried(vec![help])))
         .or_else(|| tried(ways::kept(place, refused)))

@@ -58,10 +58,7 @@ fn in_order(place: &Place, group: &[Unit], order: &[Unit]) -> Option<Help> {
     let (first, last) = (group.first()?.start, group.last()?.end);
     let texts: Vec<String> = statements.iter().map(|&s| format!("{};", place.printer.statement(s))).collect();
     let written = format!("bundled {{ {} }}", texts.join(" "));
-    let lines = match (place.statement(first), place.statement(last - 1)) {
-        (Some(from), Some(to)) if from.line < to.line => format!("lines {} to {}", from.line, to.line),
-        _ => place.line(first),
-    };
+    let lines = lines(place, first, last - 1);
     let repair = Repair::AsOne { first, count: last - first, before: Vec::new(), written: written.clone() };
     let message = format!("in place of {lines} write {written}");
     (statements.len() <= MOST_STATEMENTS).then_some(Help { message, repair: Some(repair) })
@@ -99,6 +96,53 @@ pub fn recounted(place: &Place, refused: usize) -> Vec<Help> {
         Help { message, repair: Some(Repair::Several(vec![before, behind])) }
     };
     vec![help(Vec::new()), help(vec![check])]
+}
+
+/// Of p = p + k and n = n - k, where n counts p and k is not needed any more: a loop that steps both by one, with the loop fact that it needs; with a check
+/// where k <= n is not known.
+pub fn stepped(place: &Place, refused: usize) -> Vec<Help> {
+    let (printer, table) = (&place.printer, place.printer.table);
+    let pair = |first: usize| {
+        let (one, other) = (table.statements.get(first)?, table.statements.get(first + 1)?);
+        let (moved, counted) = if one[0] == 7 { (one, other) } else { (other, one) };
+        let ([7, p, q, k, ..], [3, n, m, l, 1, ..]) = (*moved, *counted) else { return None };
+        let is_count = InForce::before(table, first).bounds(table, p as usize) == [p, -1, 0, p, n, 0];
+        let same_block = table.block_around(first) == table.block_around(first + 1);
+        let is_alone = table.bundle_around(first).is_none() && !is_needed(table, first, k);
+        ((p, n, k) == (q, m, l) && is_count && same_block && is_alone).then_some((first, [p, n, k]))
+    };
+    let Some((first, names)) = pair(refused).or_else(|| pair(refused.checked_sub(1)?)) else {
+        return Vec::new();
+    };
+    let [p, n, k] = names.map(|variable| printer.name(variable));
+    let written = format!(
+        "while ({k} > 0) where {k} <= {n} {{ bundled {{ {p} = {p} + 1; {n} = {n} - 1; }} {k} = {k} - 1; }}"
+    );
+    let help = |before: Vec<String>| {
+        let checks: String = before.iter().map(|check| format!("{check} ")).collect();
+        let lines = lines(place, first, first + 1);
+        let message = format!("in place of {lines} write {checks}{written}");
+        let repair = Repair::AsOne { first, count: 2, before, written: written.clone() };
+        Help { message, repair: Some(repair) }
+    };
+    vec![help(Vec::new()), help(vec![format!("dynamic_check({k} <= {n});")])]
+}
+
+/// Whether a variable is named behind two statements, or anywhere in a loop around them.
+fn is_needed(table: &Table, first: usize, variable: i32) -> bool {
+    let loops =
+        (0..first).filter(|&head| table.statements[head][0] == 12 && first < head + table.extent(head));
+    let from = loops.min().unwrap_or(first + 2);
+    let names = |s: usize| s != first && s != first + 1 && table.statements[s][1..].contains(&variable);
+    (from..table.statements.len()).any(names)
+}
+
+/// `line 8` or `lines 8 to 9`.
+fn lines(place: &Place, first: usize, last: usize) -> String {
+    match (place.statement(first), place.statement(last)) {
+        (Some(from), Some(to)) if from.line < to.line => format!("lines {} to {}", from.line, to.line),
+        _ => place.line(first),
+    }
 }
 
 /// A fact that a refused statement lacks and that a loop before it lost: the loop, and the fact as an entry of its list.
