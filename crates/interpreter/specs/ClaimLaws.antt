@@ -108,7 +108,8 @@ entered-none [] e = refl
 entered-none (r ∷ rs) e = cc
 
 pub begun-ran : (T : List ℤ) (h : Sections) (L : List ℤ) (D cs vs os : List ℕ) (limit : ℕ) (r : Outcome) (vs′ cs′ : List ℕ)
-    → formOf T ≡ WellFormed h → faults T L ≡ [] → entryRefusals h (environmentOf T h) D cs vs os ≡ [] → Ran (lends T L D cs vs os) (sectionsOf T) limit (leaves r vs′ cs′)
+    → formOf T ≡ WellFormed h → faults T L ≡ [] → entryRefusals h (environmentOf T h) D cs vs os ≡ [] → Ran (lends T L D cs vs os) (sectionsOf T) limit
+    (leaves r vs′ cs′)
     → RunAnswer (runFaults store (lends T L D cs vs os)) (lends T L D cs vs os) limit (leaves r vs′ cs′)
 unfolding RunAnswer
 begun-ran T h L D cs vs os limit r vs′ cs′ f e n a = rw (entry-only T h L D cs vs os f e, n) a

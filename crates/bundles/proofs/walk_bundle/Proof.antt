@@ -62,11 +62,18 @@ walk-bundle-spec =
     (c .before .before .before .before .enum-told2 .given .1) (c .bounds-after .ensures) (c .before .before .before .with-row .ensures) (c .before .before .seen-in .ensures))
     (λ c. search needs) (λ c κs. search needs) (λ c κs. search needs)
     (λ c. held-access (c .before .before .before .before .before .before .before .before .before .before .before .before .before .before .before .loop .inv) (c .before .before .before .before .before .before .before .before .before .before .before .before .before .before .loop-test .taken)
-    (sym (c .before .before .before .before .before .before .before .before .before .before .before .before .before .read-due .ensures) ∙ c .before .before .before .before .before .before .before .before .before .before .before .got .given .1) (c .before .before .before .before .before .before .before .before .statement .given .1)
+    (sym (c .before .before .before .before .before .before .before .before .before .before .before .before .before .read-due .ensures) ∙ c .before .before .before .before .before .before .before .before .before .before .before .got .given .1)
+    (c .before .before .before .before .before .before .before .before .statement .given .1)
     (c .before .access-shown .ensures) (not-true _ (c .if2 .taken)) refl)
     (λ c κs. (read-ranged _ _ _ _ ((sym (c .before .before .before .before .before .before .before .before .before .before .before .before .before .read-due .ensures) ∙ c .before .before .before .before .before .before .before .before .before .before .before .got .given .1)
     ∙ ap Read (c .before .before .before .before .before .before .before .before .statement .given .1))))
-    (λ c κs. omega (arith, read-within _ _ _ _ (sym (c .before .before .before .before .before .before .before .before .before .before .before .before .before .before .read-due .ensures) ∙ c .before .before .before .before .before .before .before .before .before .before .before .before .got .given .1), read-limits _ _ _ _ (sym (c .before .before .before .before .before .before .before .before .before .before .before .before .before .before .read-due .ensures) ∙ c .before .before .before .before .before .before .before .before .before .before .before .before .got .given .1)))
+    (λ c κs. omega (
+      arith,
+      read-within _ _ _ _ (sym
+          (c .before .before .before .before .before .before .before .before .before .before .before .before .before .before .read-due .ensures) ∙ c .before .before .before .before .before .before .before .before .before .before .before .before .got .given .1),
+      read-limits _ _ _ _ (sym
+          (c .before .before .before .before .before .before .before .before .before .before .before .before .before .before .read-due .ensures) ∙ c .before .before .before .before .before .before .before .before .before .before .before .before .got .given .1),
+    ))
     (λ c κs. (read-ranged _ _ _ _ ((sym (c .before .before .before .before .before .before .before .before .before .before .before .read-due .ensures) ∙ c .before .before .before .before .before .before .before .before .before .got .given .1)
     ∙ ap Read (c .before .before .before .before .before .before .statement .given .1))))
     (λ c κs. search needs)

@@ -20,8 +20,10 @@ mizzengrape-check-with-facts-spec =
     (λ c κs. let q : 3 ≤ length (now (c .before .before .before .before .before .before .args .answer)) = omega (arith, c .before .before .before .if1 .left) in q)
     (λ c κs. let q : 1024 ≤ length (now (c .before .before .before .before .before .before .before .before .before .before .args .report)) = c .before .before .before .before .before .before .if2 .left in q)
     (λ c.
-    let e : length (c .before .before .before .before .before .before .put-verdict .last .0) ≡ length (now (c .before .before .before .before .before .before .before .before .before .before .before .before .before .args .answer)) = ap (λ (w : List ℕ). length w) (c .before .before .before .before .before .before .put-verdict .ensures) ∙ verdict-long _ _ in
+    let e : length (c .before .before .before .before .before .before .put-verdict .last .0) ≡ length (now (c .before .before .before .before .before .before .before .before .before .before .before .before .before .args .answer)) = ap (λ (w : List ℕ). length w)
+    (c .before .before .before .before .before .before .put-verdict .ensures) ∙ verdict-long _ _ in
     let q : 3 < length (c .before .before .before .before .before .before .put-verdict .last .0) = omega (arith, c .before .before .before .before .before .before .before .before .before .before .if1 .left) in q)
     (λ c. search needs)
     (λ c. search needs)
-    (λ c. report-words _ (c .before .before .before .before .before .before .before .before .before .before .if1 .left) (c .before .before .before .before .before .before .before .before .before .if2 .left) (c .before .before .before .before .before .before .before .before .check .ensures .0) (c .before .before .before .before .before .before .before .before .check .ensures .1) (c .before .before .before .before .before .before .put-verdict .ensures) (c .before .before .put-report .ensures) refl))
+    (λ c. report-words _ (c .before .before .before .before .before .before .before .before .before .before .if1 .left) (c .before .before .before .before .before .before .before .before .before .if2 .left) (c .before .before .before .before .before .before .before .before .check .ensures .0)
+    (c .before .before .before .before .before .before .before .before .check .ensures .1) (c .before .before .before .before .before .before .put-verdict .ensures) (c .before .before .put-report .ensures) refl))

@@ -18,4 +18,13 @@ entry-right-spec =
     (λ c κs. tt)
     (λ c κs. search needs)
     (λ c. search needs) (λ c. search needs)
-    (λ c. simp (c .in-order .ensures, c .before .names-while .ensures, c .before .before .word4 .ensures, c .before .before .before .is-constant .ensures, c .before .before .before .before .word3 .ensures, c .before .before .before .before .before .sides-right .ensures, c .before .before .before .before .before .before .word2 .ensures, c .before .before .before .before .before .before .before .word .ensures)))
+    (λ c. simp (
+      c .in-order .ensures,
+      c .before .names-while .ensures,
+      c .before .before .word4 .ensures,
+      c .before .before .before .is-constant .ensures,
+      c .before .before .before .before .word3 .ensures,
+      c .before .before .before .before .before .sides-right .ensures,
+      c .before .before .before .before .before .before .word2 .ensures,
+      c .before .before .before .before .before .before .before .word .ensures,
+    )))
