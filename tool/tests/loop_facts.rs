@@ -36,11 +36,11 @@ fn a_list_makes_accesses_safe() {
     assert_eq!(answer(&sum("")).out, "accepted\n");
     assert_eq!(answer(&sum(" where i <= rows")).out, "accepted\nsafe: 3\n");
     let folder = Folder::new("facts-report");
-    let text = folder.write("sum.c", &sum(" where i <= rows"));
+    let text = folder.write("sum.c", sum(" where i <= rows"));
     let report = folder.command(&["check", "--report", &text]);
     let expected = "accepted\nsafe: 3\nsum.c:7:9: safe: x = row[i]\nsum.c:11:5: may stop: x = row[i]: i < rows is not known\n";
     assert_eq!((report.out.as_str(), report.err.as_str()), (expected, ""));
-    let without = folder.write("without.c", &sum("").replace("    dynamic_check(row != NULL);\n", ""));
+    let without = folder.write("without.c", sum("").replace("    dynamic_check(row != NULL);\n", ""));
     let report = folder.command(&["check", "--report", &without]);
     let why = "row != NULL is not known, i < rows is not known";
     let expected = format!(
@@ -120,7 +120,7 @@ fn entries_of_a_wrong_form_in_a_text() {
 #[test]
 fn entries_of_a_wrong_form_in_words() {
     let folder = Folder::new("facts-words");
-    let text = folder.write("sum.c", &sum(" where i <= rows"));
+    let text = folder.write("sum.c", sum(" where i <= rows"));
     assert_eq!(folder.command(&["asm", &text]), Output::default());
     let table = folder.path("sum.tbl");
     assert_eq!(folder.command(&["check", &table]).out, "accepted\n");
@@ -154,7 +154,7 @@ fn entries_of_a_wrong_form_in_words() {
 #[test]
 fn a_line_of_loop_facts_is_explained() {
     let folder = Folder::new("facts-explain");
-    let text = folder.write("sum.c", &sum("\n        where i <= rows\n          and total >= 0\n   "));
+    let text = folder.write("sum.c", sum("\n        where i <= rows\n          and total >= 0\n   "));
     let known = "declared: row : count(rows)\nknown: row != NULL, i == 0\nloop fact: i <= rows\nloop fact: total >= 0\n";
     let expected = format!("sum.c:6:5: before while (i != rows)\n{known}");
     for line in ["6", "7", "8"] {
@@ -166,7 +166,7 @@ fn a_line_of_loop_facts_is_explained() {
     let behind = folder.command(&["explain", "--short", &text, "14"]);
     assert!(behind.out.ends_with("known: row != NULL, rows == i\n"), "{}", behind.out);
     // The refused entry is looked up by itself.
-    let wrong = folder.write("wrong.c", &sum(" where i < rows"));
+    let wrong = folder.write("wrong.c", sum(" where i < rows"));
     assert!(folder
         .command(&["explain", "--short", &wrong])
         .out

@@ -225,8 +225,7 @@ fn for_bounds(program: &Program, place: &Place, refusal: &Refusal) -> Option<Hel
     let refused = refusal.place;
     let bundled = || advice::bundled(place, refused);
     let tried = |helps: Vec<Help>| trial::first_that_helps(program, refusal, helps.into_iter());
-    let mut recounted = ways::recounted(place, refused);
-    let checked = (!recounted.is_empty()).then(|| recounted.split_off(1)).unwrap_or_default();
+    let [recounted, checked] = ways::recounted(place, refused).map_or([None, None], |helps| helps.map(Some));
     // Bounds that follow a pointer come before checks, and other bounds that are known where nothing else helps.
     let known = || declare_known(program, refusal).filter(narrow::is_unchecked);
     let follows = || known().filter(|_| narrow::gives_address(place, refused));
@@ -234,11 +233,11 @@ fn for_bounds(program: &Program, place: &Place, refusal: &Refusal) -> Option<Hel
     bundled()
         .or_else(|| tried(ways::joined(place, refused)))
         .or_else(|| tried(ways::stepped(place, refused)))
-        .or_else(|| tried(recounted))
+        .or_else(|| tried(recounted.into_iter().collect()))
         .or_else(|| follows().and_then(|help| tried(vec![help])))
         .or_else(|| tried(ways::kept(place, refused)))
         .or_else(|| advice::checked(place, refused))
-        .or_else(|| tried(checked))
+        .or_else(|| tried(checked.into_iter().collect()))
         .or_else(declared)
 }
 

@@ -64,13 +64,13 @@ fn in_order(place: &Place, group: &[Unit], order: &[Unit]) -> Option<Help> {
     (statements.len() <= MOST_STATEMENTS).then_some(Help { message, repair: Some(repair) })
 }
 
-/// Of n = k, where n is a count: the bounds counted by k before it, and by n again behind it. With a check where k <= n is not known.
-pub fn recounted(place: &Place, refused: usize) -> Vec<Help> {
+/// Of n = k, where n is a count: the bounds counted by k before it, and by n again behind it. The second help has a check, for where k <= n is not known.
+pub fn recounted(place: &Place, refused: usize) -> Option<[Help; 2]> {
     let (printer, table) = (&place.printer, place.printer.table);
     let (n, k, condition) = match table.statements[refused] {
         [1, n, k, ..] => (n, (k as u32).to_string(), [n, Relation::GreaterEqual as i32, 1, k]),
         [2, n, k, 0, ..] if n != k => (n, printer.name(k).to_string(), [k, Relation::LessEqual as i32, 0, n]),
-        _ => return Vec::new(),
+        _ => return None,
     };
     let rows = InForce::before(table, refused);
     let pointers = (0..table.variables.len()).filter(|&p| table.is_pointer(p as i32));
@@ -79,7 +79,7 @@ pub fn recounted(place: &Place, refused: usize) -> Vec<Help> {
         .map(|p| printer.name(p as i32))
         .collect();
     if counted.is_empty() || table.bundle_around(refused).is_some() {
-        return Vec::new();
+        return None;
     }
     let declared = |count: &str| {
         let listed: Vec<String> = counted.iter().map(|name| format!("{name} : count({count})")).collect();
@@ -95,7 +95,7 @@ pub fn recounted(place: &Place, refused: usize) -> Vec<Help> {
         let behind = Repair::Behind { statement: refused, written: behind.clone() };
         Help { message, repair: Some(Repair::Several(vec![before, behind])) }
     };
-    vec![help(Vec::new()), help(vec![check])]
+    Some([help(Vec::new()), help(vec![check])])
 }
 
 /// Of p = p + k and n = n - k, where n counts p and k is not needed any more: a loop that steps both by one, with the loop fact that it needs; with a check

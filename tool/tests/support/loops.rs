@@ -35,9 +35,7 @@ pub fn routine(random: &mut Random) -> String {
             let some = check(random, "n > 0");
             format!("{some}j = 0;\ni = 1;\nwhile (i < n) {{\nx = p[i];\ny = p[j];\nif (x < y) {{ j = i; }}\ni = i + 1;\n}}\n")
         }
-        8 => format!(
-            "i = 0;\nj = n;\nwhile (i < j) {{\nx = p[i];\nif (x < t) {{ i = i + 1; }} else {{ j = j - 1; }}\n}}\n"
-        ),
+        8 => "i = 0;\nj = n;\nwhile (i < j) {\nx = p[i];\nif (x < t) { i = i + 1; } else { j = j - 1; }\n}\n".to_string(),
         _ => format!(
             "i = 0;\nwhile (i != 8) {{\ni = i + {step};\n{noise}bundled {{ p = block; n = i; }}\nx = p[0];\n}}\n"
         ),
