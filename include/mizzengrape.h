@@ -149,6 +149,8 @@ static inline const char *mizzengrape_refusal_text(uint32_t number)
     case MIZZENGRAPE_REFUSED_VALUES: return "not one value and one origin for each variable";
     case MIZZENGRAPE_REFUSED_ENTRY: return "an origin is wrong, or bounds are untrue at entry";
     case MIZZENGRAPE_REFUSED_ROWS: return "bounds that depend on the way";
+    case MIZZENGRAPE_REFUSED_OVERLAP: return "an object has a cell in common with an earlier routine's";
+    case MIZZENGRAPE_REFUSED_TURNS: return "not 1 to 8 routines, or turns of other than 1 to 1,000 steps";
     case MIZZENGRAPE_REFUSED_TERMINATOR: return "the last cell of a terminated object is not 0";
     case MIZZENGRAPE_REFUSED_FACT: return "a loop fact that is not shown or does not fit";
     default: return "refused";

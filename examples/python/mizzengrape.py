@@ -29,6 +29,8 @@ REFUSALS = {
     11: "not one value and one origin for each variable",
     12: "an origin is wrong, or bounds are untrue at entry",
     13: "bounds that depend on the way",
+    14: "an object has a cell in common with an earlier routine's",
+    15: "not 1 to 8 routines, or turns of other than 1 to 1,000 steps",
     16: "the last cell of a terminated object is not 0",
     17: "a loop fact that is not shown or does not fit",
 }
