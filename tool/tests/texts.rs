@@ -1,4 +1,4 @@
-//! What a number of a refusal or a stop means is said alike in the header and in the module for Python, for every number that there is.
+//! What a number of a refusal or a stop means is said alike in the header, in the module for Python and in Rust, for every number that there is.
 
 use std::collections::BTreeMap;
 use std::fs;
@@ -46,6 +46,9 @@ fn each_number_has_one_text() {
     let refusals = in_header(&header, "MIZZENGRAPE_REFUSED_");
     assert!(refusals.len() >= 15 && refusals[&17].contains("loop fact"), "{refusals:?}");
     assert_eq!(refusals, in_python(&module, "REFUSALS"));
+    for (number, text) in &refusals {
+        assert_eq!(mizzengrape::Cause::from(*number).to_string(), *text);
+    }
     let stops = in_header(&header, "MIZZENGRAPE_STOP_");
     assert_eq!((stops.len(), &stops), (6, &in_python(&module, "STOPS")));
 }

@@ -1,8 +1,10 @@
 //! The proved routine checker and interpreter for Rust programs: `check` and `run` on slices, answers as enums.
 
+mod cause;
 mod extern_c;
 mod turns;
 
+pub use cause::Cause;
 use std::fmt;
 pub use turns::{dispatch, dispatch_parts, Parts, Room, Routine, Turns};
 
