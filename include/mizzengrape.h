@@ -25,7 +25,7 @@
      overlap first, and answer what is wrong without calling. What no program can see is left to the caller: that a pointer has that many elements behind
      it, and that no other thread writes them.
 
-   Stack. A thread with a stack of MIZZENGRAPE_STACK_BYTES, 128 KiB, has room for each call at the deepest nesting, with 8 KiB left for its caller
+   Stack. A thread with a stack of MIZZENGRAPE_STACK_BYTES, 128 KiB, has room for each call at the deepest nesting, with 4 KiB left for its caller
    (examples/c/stack.c runs all of them on exactly that stack; `compare stack` measures the least).
 
    Memory. What a run is lent:
