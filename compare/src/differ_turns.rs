@@ -159,7 +159,7 @@ pub fn vector(turns: &Turns) -> String {
     let mut turns = turns.clone();
     let answer = dispatch(&mut turns);
     lines.extend(answer_lines(&turns, &answer).into_iter().map(|line| format!("> {line}")));
-    lines.iter().map(|line| line.trim_end().to_string() + "\n").collect::<String>() + "---\n"
+    lines.iter().map(|line| format!("{}\n", line.trim_end())).collect::<String>() + "---\n"
 }
 
 /// The lines of an answer, with what the buffers then hold.
@@ -176,7 +176,7 @@ pub fn answer_lines<E: ToString>(turns: &Turns, answer: &Result<Dispatched, E>) 
     lines.push(format!("cells: {}", join(&turns.cells)));
     let order = dispatched.order.iter().map(|turn| format!("{}:{}", turn.routine, turn.steps));
     lines.push(format!("order: {}", order.collect::<Vec<_>>().join(" ")));
-    lines
+    lines.iter().map(|line| line.trim_end().to_string()).collect()
 }
 
 #[cfg(test)]

@@ -6,6 +6,7 @@ pub mod bounds;
 pub mod checker;
 pub mod dispatch;
 pub mod draft;
+pub mod editor;
 pub mod entry;
 pub mod facts;
 pub mod loop_facts;

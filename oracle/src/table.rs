@@ -41,6 +41,17 @@ pub fn decode(words: &[i32]) -> Result<Routine, Refusal> {
     Ok(Routine { objects, kinds, bounds, sizes, rows, statements, compared: names.compared })
 }
 
+/// Point 13: the number by which "a new text that breaks 5, is not exactly one statement with its blocks (6) or breaks 6"
+/// is refused, as a top-level statement of the routine.
+pub fn text_refusal(routine: &Routine, text: &[i32]) -> Option<u8> {
+    let mut names = Names::new(&routine.kinds, &routine.objects, routine.rows.len());
+    let Ok(statements) = read_statements(text, &mut names) else { return Some(5) };
+    let is_one = statements.first().is_some_and(|first| first.size() == statements.len());
+    let whole = text.len() % STATEMENT_WORDS == 0;
+    let right = whole && is_one && check_block(&statements, 0, statements.len(), 0).is_ok();
+    (!right).then_some(6)
+}
+
 /// Cause 2: the sections of so many pairs, if directory and lengths are right; one without a pair is empty.
 fn sections(words: &[i32], pairs: usize) -> Option<[&[i32]; 4]> {
     let limits = [
@@ -129,7 +140,7 @@ fn read_rows(words: &[i32], variables: usize, ends: &Ends) -> Result<Vec<Bounds>
         .collect()
 }
 
-/// Cause 5.
+/// Cause 5, over all whole records.
 fn read_statements(words: &[i32], names: &mut Names) -> Result<Vec<Statement>, Refusal> {
     let mut statements = Vec::with_capacity(words.len() / STATEMENT_WORDS);
     for (s, record) in words.chunks_exact(STATEMENT_WORDS).enumerate() {

@@ -1,5 +1,6 @@
 //! The reader of the vector files, and the check of this implementation by them. Each kind of case has a module.
 
+pub mod edit;
 pub mod run;
 pub mod turns;
 
@@ -10,6 +11,7 @@ use std::path::Path;
 #[derive(Clone, Debug)]
 pub enum Vector {
     Run(run::Vector),
+    Edit(edit::Vector),
     Turns(turns::Vector),
 }
 
@@ -18,6 +20,7 @@ impl Vector {
     pub fn differences(&self) -> Vec<String> {
         match self {
             Vector::Run(vector) => run::differences(vector),
+            Vector::Edit(vector) => edit::differences(vector),
             Vector::Turns(vector) => turns::differences(vector),
         }
     }
@@ -26,6 +29,8 @@ impl Vector {
     pub fn difference(&self, other: &dyn Implementation) -> Option<String> {
         let (name, what) = match self {
             Vector::Run(vector) => (&vector.name, run::difference(vector, other)),
+            // The service is not behind the seam yet.
+            Vector::Edit(vector) => (&vector.name, None),
             Vector::Turns(vector) => (&vector.name, turns::difference(vector, other)),
         };
         what.map(|what| format!("{name} ({}): {what}", other.name()))
@@ -77,10 +82,24 @@ pub fn join<T: ToString>(words: &[T]) -> String {
     words.iter().map(T::to_string).collect::<Vec<_>>().join(" ")
 }
 
+/// The lines of an answer, which begin with `> `.
+fn answer_of(text: &str) -> Vec<String> {
+    let lines = text.lines().filter_map(|line| line.strip_prefix('>'));
+    lines.map(|line| line.trim().to_string()).collect()
+}
+
+/// The first line of an answer that is not the right one, in words.
+fn wrong_answer(name: &str, form: &str, answer: &[String], right: &[String]) -> Option<String> {
+    let place = (0..answer.len().max(right.len())).find(|&line| answer.get(line) != right.get(line))?;
+    let [ours, right] = [answer, right].map(|lines| lines.get(place).map_or("no line", String::as_str));
+    Some(format!("{name} ({form}): line {place}: {ours}, but right is {right}"))
+}
+
 fn read_case(text: &str, number: usize) -> Result<Vector, String> {
     let lines = Lines::new(number, text);
     match lines.get("kind") {
         None | Some("run") => run::read(&lines).map(Vector::Run),
+        Some("edit") => edit::read(&lines, text).map(Vector::Edit),
         Some("dispatch") => turns::read(&lines, text).map(Vector::Turns),
         Some(kind) => Err(format!("case {number}: no such kind: {kind}")),
     }

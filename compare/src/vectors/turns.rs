@@ -1,6 +1,6 @@
 //! Cases of routines in turn (point 5): their answers are lines that begin with `> `.
 
-use super::{numbers, Lines};
+use super::{answer_of, numbers, wrong_answer, Lines};
 use crate::differ_turns::{self, answer_lines};
 use crate::fast_turns;
 use crate::proved::Implementation;
@@ -39,8 +39,7 @@ pub(super) fn read(lines: &Lines, text: &str) -> Result<Vector, String> {
         quantum: lines.number::<i64>("quantum")? as u32,
         total: lines.number("allowance")?,
     };
-    let right = text.lines().filter_map(|line| line.strip_prefix('>')).map(|line| line.trim().to_string());
-    Ok(Vector { name: lines.name(), turns, right: right.collect() })
+    Ok(Vector { name: lines.name(), turns, right: answer_of(text) })
 }
 
 type Form = fn(&mut Turns) -> Result<Dispatched, TurnsRefusal>;
@@ -52,11 +51,8 @@ pub(super) fn differences(vector: &Vector) -> Vec<String> {
     for (form, dispatch) in forms {
         let mut turns = vector.turns.clone();
         let answer = dispatch(&mut turns);
-        let lines: Vec<String> =
-            answer_lines(&turns, &answer).iter().map(|line| line.trim_end().to_string()).collect();
-        if lines != vector.right {
-            found.push(format!("{} ({form}): {lines:?}, but right is {:?}", vector.name, vector.right));
-        }
+        let lines = answer_lines(&turns, &answer);
+        found.extend(wrong_answer(&vector.name, form, &lines, &vector.right));
         if answer.is_err() && turns != vector.turns {
             found.push(format!("{} ({form}): a refusal changes something", vector.name));
         }
