@@ -17,7 +17,11 @@ pub fn check(words: &[i32]) -> CheckAnswer {
 /// Causes 8, 9 and 13 of a decoded routine.
 pub fn check_routine(routine: &Routine) -> CheckAnswer {
     let (bounds, mut facts) = FastBounds::new(routine, 0);
-    Walker { routine, bounds, list: Vec::new(), report: None }.block(0, routine.statements.len(), &mut facts)
+    Walker { routine, bounds, list: Vec::new(), report: None, begun: 0 }.block(
+        0,
+        routine.statements.len(),
+        &mut facts,
+    )
 }
 
 /// Causes 1 to 9, 13 and 17 of a table with a list of loop facts; the report of an accepted one.
@@ -33,7 +37,7 @@ pub fn report(routine: &Routine, loop_facts: &LoopFacts) -> Result<Vec<u32>, Ref
     let node = |x: Node| if x == ZERO { bounds.zero() } else { bounds.node(x as Var) };
     let entries = loop_facts.entries().iter();
     let list = entries.map(|e| Listed { head: e.head, x: node(e.x), y: node(e.y), k: e.k }).collect();
-    let mut walker = Walker { routine, bounds, list, report: Some(Vec::new()) };
+    let mut walker = Walker { routine, bounds, list, report: Some(Vec::new()), begun: 0 };
     walker.block(0, routine.statements.len(), &mut facts)?;
     Ok(walker.report.unwrap_or_default())
 }
@@ -64,6 +68,52 @@ struct Walker<'a> {
     list: Vec<Listed>,
     /// The accesses reported up to here, where a report is asked for.
     report: Option<Vec<u32>>,
+    /// How many statements were begun.
+    begun: usize,
+}
+
+/// A walk without a list that can begin at any top-level statement (point 13).
+pub struct Resumed<'a> {
+    walker: Walker<'a>,
+    facts: FastFacts,
+    position: usize,
+}
+
+impl<'a> Resumed<'a> {
+    pub fn start(routine: &'a Routine) -> Resumed<'a> {
+        // Every variable has a node, so that facts mean the same whatever statements there are.
+        let all = routine.kinds.iter().fold(0, |mask, _| mask << 1 | 1);
+        let (bounds, facts) = FastBounds::new(routine, all);
+        let walker = Walker { routine, bounds, list: Vec::new(), report: None, begun: 0 };
+        Resumed { walker, facts, position: 0 }
+    }
+
+    pub fn at(routine: &'a Routine, position: usize, facts: FastFacts, in_force: &InForce) -> Resumed<'a> {
+        let mut resumed = Resumed { facts, position, ..Resumed::start(routine) };
+        resumed.walker.bounds.restore(in_force);
+        resumed
+    }
+
+    /// The top-level statement to come to next.
+    pub fn position(&self) -> Option<usize> {
+        (self.position < self.walker.routine.statements.len()).then_some(self.position)
+    }
+
+    pub fn known(&self) -> (FastFacts, InForce) {
+        (self.facts, self.walker.bounds.in_force)
+    }
+
+    pub fn begun(&self) -> usize {
+        self.walker.begun
+    }
+
+    /// Walks one top-level statement with its blocks.
+    pub fn step(&mut self) -> CheckAnswer {
+        let next = self.position + self.walker.routine.statements[self.position].size();
+        self.walker.block(self.position, next, &mut self.facts)?;
+        self.position = next;
+        Ok(())
+    }
 }
 
 impl Walker<'_> {
@@ -81,6 +131,7 @@ impl Walker<'_> {
         let mut s = start;
         while s < end {
             let statement = self.routine.statements[s];
+            self.begun += 1;
             match statement {
                 Statement::If { condition, then_count, else_count } => {
                     let middle = s + 1 + then_count as usize;
@@ -184,6 +235,7 @@ impl Walker<'_> {
     /// 9, then the statement, then a kind 14's 8.
     fn bundled(&mut self, s: usize, facts: &mut FastFacts) -> CheckAnswer {
         let statement = self.routine.statements[s];
+        self.begun += 1;
         if let Statement::Load { p, .. } | Statement::Store { p, .. } = statement {
             if !self.bounds.shown(p, facts) {
                 return Err(Refusal::at(9, s));

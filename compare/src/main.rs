@@ -3,10 +3,13 @@
 
 mod bench;
 mod differ;
+mod differ_edits;
 mod differ_turns;
+mod edits;
 mod fast_bounds;
 mod fast_check;
 mod fast_code;
+mod fast_editor;
 mod fast_facts;
 mod fast_run;
 mod fast_turns;
@@ -29,7 +32,7 @@ use std::process::ExitCode;
 const USAGE: &str = "usage: compare vectors DIR
        compare stats SEED COUNT
        compare differ SEED COUNT [FIRST]
-       compare show SEED NUMBER [turns]
+       compare show SEED NUMBER [turns|edits]
        compare bench [check|run|rows|sizes|facts|turns]
        compare stack [KIB]";
 
@@ -43,6 +46,7 @@ fn main() -> ExitCode {
         ["differ", seed, count, first] => search(seed, count, first),
         ["show", seed, number] => show(seed, number),
         ["show", seed, number, "turns"] => show_turns(seed, number),
+        ["show", seed, number, "edits"] => show_edits(seed, number),
         ["bench"] => {
             for (_, part) in bench::PARTS {
                 part();
@@ -122,19 +126,26 @@ fn show_stats(seed: &str, count: &str) -> Result<bool, String> {
 /// The first difference from a number on among so many cases of a seed.
 type Search = fn(u64, u64, u64, &dyn proved::Implementation) -> Option<String>;
 
-/// For one in so many runs of a routine, a set of routines that run in turn.
+/// For so many runs of a routine one set of routines in turn, and one table that is edited.
 const RUNS_A_SET: u64 = 8;
+
+const EDITED: &str = "edited tables";
 
 /// Compares every implementation behind the seam with the plain form.
 fn search(seed: &str, count: &str, first: &str) -> Result<bool, String> {
     let (seed, count, first) = (number(seed)?, number(count)?, number(first)?);
-    let kinds: [(&str, Search, u64); 2] = [
+    let kinds: [(&str, Search, u64); 3] = [
         ("cases", differ::search, count),
         ("sets of routines in turn", differ_turns::search, count.div_ceil(RUNS_A_SET)),
+        (EDITED, differ_edits::search, count.div_ceil(RUNS_A_SET)),
     ];
     let mut same = true;
     for other in proved::implementations() {
         for (kind, search, count) in kinds {
+            if kind == EDITED && other.edits(&edits::EditCase::default()).is_none() {
+                println!("{}: {kind} are not compared, it has no such service", other.name());
+                continue;
+            }
             match search(seed, first, count, other.as_ref()) {
                 None => {
                     println!("{}: {count} {kind} of seed {seed} from {first}, no difference", other.name())
@@ -156,5 +167,10 @@ fn show(seed: &str, case: &str) -> Result<bool, String> {
 
 fn show_turns(seed: &str, case: &str) -> Result<bool, String> {
     print!("{}", differ_turns::vector(&generate::turns_case(number(seed)?, number(case)?).turns()));
+    Ok(true)
+}
+
+fn show_edits(seed: &str, case: &str) -> Result<bool, String> {
+    print!("{}", differ_edits::vector(&generate::edits_case(number(seed)?, number(case)?)));
     Ok(true)
 }

@@ -2,9 +2,10 @@
 //! implementation (`linked.rs`) and the fast form of this crate are both held
 //! against the plain form.
 
+use crate::edits::{EditCase, Edited};
 use crate::linked::Proved;
 use crate::turns::{turns_words, Parts, TurnsWords};
-use crate::{fast_check, fast_run, fast_turns};
+use crate::{fast_check, fast_editor, fast_run, fast_turns};
 use oracle::answer::{Refusal, RunAnswer, RunInput};
 
 /// 0 for accepted, else the number of the refusal; its place; for refusal 8 the
@@ -41,6 +42,11 @@ pub trait Implementation: Sync {
 
     /// Several routines in turn; may write `cells` and `values`, and nothing else.
     fn dispatch(&self, parts: &mut Parts) -> TurnsWords;
+
+    /// An editor's service, where there is one.
+    fn edits(&self, _: &EditCase) -> Option<Edited> {
+        None
+    }
 }
 
 /// The fast form of this crate behind the seam.
@@ -72,6 +78,10 @@ impl Implementation for Fast {
         let answer = fast_turns::dispatch(&mut turns);
         parts.take(&turns);
         turns_words(&answer)
+    }
+
+    fn edits(&self, case: &EditCase) -> Option<Edited> {
+        Some(fast_editor::edits(case))
     }
 }
 

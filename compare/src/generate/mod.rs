@@ -1,6 +1,7 @@
 //! Generated cases: case `number` of a seed is always the same case, so a
 //! difference is reported as (seed, number).
 
+mod edits;
 mod faults;
 mod inputs;
 mod kinds;
@@ -11,6 +12,7 @@ mod turns;
 
 use crate::fast_check;
 use crate::rng::Rng;
+pub use edits::edits_case;
 use layout::Layout;
 use oracle::answer::{CheckAnswer, RunInput};
 use oracle::checker;

@@ -1,29 +1,17 @@
 //! Cases of the editor service (point 13): a start and some edits; their answers are lines that begin with `> `.
 
-use super::{answer_of, join, numbers, wrong_answer, Lines};
-use oracle::answer::show_check;
-use oracle::editor::{Edit, Editor, INSERT, REMOVE, REPLACE};
+use super::{answer_of, numbers, wrong_answer, Lines};
+use crate::differ_edits::{self, answer_lines};
+use crate::edits::{plain, EditCase, Edited, Written};
+use crate::fast_editor;
+use crate::proved::Implementation;
+use oracle::editor::{INSERT, REMOVE, REPLACE};
 
 #[derive(Clone, Debug)]
 pub struct Vector {
     pub name: String,
-    pub table: Vec<i32>,
-    /// The words of the table's buffer, and the places of the store.
-    pub buffer: usize,
-    pub places: usize,
-    /// The positions to keep with the start.
-    pub keep: Vec<u32>,
-    pub edits: Vec<Written>,
+    pub case: EditCase,
     pub right: Vec<String>,
-}
-
-/// An edit, with the positions to keep.
-#[derive(Clone, Debug, Default)]
-pub struct Written {
-    pub operation: u32,
-    pub position: u32,
-    pub text: Vec<i32>,
-    pub keep: Vec<u32>,
 }
 
 /// What stands behind the table in its buffer.
@@ -44,15 +32,11 @@ pub(super) fn read(lines: &Lines, text: &str) -> Result<Vector, String> {
             _ => {}
         }
     }
-    Ok(Vector {
-        name: lines.name(),
-        table: lines.words("table")?,
-        buffer: lines.number("buffer")?,
-        places: lines.number("places")?,
-        keep: start_keep,
-        edits,
-        right: answer_of(text),
-    })
+    let mut buffer: Vec<i32> = lines.words("table")?;
+    let length = buffer.len();
+    buffer.resize(length.max(lines.number("buffer")?), BEHIND);
+    let case = EditCase { buffer, length, places: lines.number("places")?, keep: start_keep, edits };
+    Ok(Vector { name: lines.name(), case, right: answer_of(text) })
 }
 
 /// A position below 0 names nothing: as a word it is far behind the table.
@@ -72,35 +56,19 @@ fn read_edit(text: &str) -> Result<Written, String> {
     Ok(Written { operation, position, ..Written::default() })
 }
 
-/// The answer of the plain form.
-fn lines(vector: &Vector) -> Vec<String> {
-    let mut buffer = vector.table.clone();
-    buffer.resize(vector.buffer.max(buffer.len()), BEHIND);
-    let started = Editor::start(buffer, vector.table.len(), vector.places, &vector.keep);
-    let (mut editor, walked) = match started {
-        Err(refusal) => return vec![format!("{refusal} walked 0")],
-        Ok(started) => started,
+type Form = fn(&EditCase) -> Edited;
+
+/// The differences of one case, over the plain and the fast form.
+pub(super) fn differences(vector: &Vector) -> Vec<String> {
+    let forms: [(&str, Form); 2] = [("plain", plain), ("fast", fast_editor::edits)];
+    let wrong = |(form, edits): (&str, Form)| {
+        wrong_answer(&vector.name, form, &answer_lines(&edits(&vector.case)), &vector.right)
     };
-    let stored = |editor: &Editor| {
-        let positions: Vec<usize> = editor.stored.iter().copied().collect();
-        format!("stored: {}", join(&positions)).trim_end().to_string()
-    };
-    let walked_line = |verdict, count| format!("{} walked {count}", show_check(&verdict));
-    let mut lines = vec![walked_line(walked.verdict, walked.count), stored(&editor)];
-    for Written { operation, position, text, keep } in &vector.edits {
-        let edit = Edit { operation: *operation, position: *position, text };
-        lines.push(match editor.edit(edit, keep) {
-            Ok(walked) => walked_line(walked.verdict, walked.count),
-            Err(refusal) => format!("not edited {} {} walked 0", refusal.cause, refusal.place as i32),
-        });
-        lines.push(stored(&editor));
-    }
-    lines.push(format!("buffer: {}", join(&editor.buffer)));
-    lines
+    forms.into_iter().filter_map(wrong).collect()
 }
 
-pub(super) fn differences(vector: &Vector) -> Vec<String> {
-    wrong_answer(&vector.name, "plain", &lines(vector), &vector.right).into_iter().collect()
+pub(super) fn difference(vector: &Vector, other: &dyn Implementation) -> Option<String> {
+    differ_edits::difference(&vector.case, other)
 }
 
 #[cfg(test)]
@@ -115,11 +83,13 @@ mod tests {
                     > accepted walked 1\n> stored: 0\n";
         let read = read(text).unwrap();
         let [Vector::Edit(vector)] = &read[..] else { panic!("one case of edits") };
-        assert_eq!((vector.buffer, vector.places, &vector.keep[..]), (30, 2, &[0, u32::MAX][..]));
+        let case = &vector.case;
+        assert_eq!((case.buffer.len(), case.length, case.places), (30, 21, 2));
+        assert_eq!(case.keep, [0, u32::MAX]);
         let edits: Vec<_> =
-            vector.edits.iter().map(|e| (e.operation, e.position, e.text.len(), e.keep.len())).collect();
+            case.edits.iter().map(|e| (e.operation, e.position, e.text.len(), e.keep.len())).collect();
         assert_eq!(edits, [(2, 0, 0, 0), (0, u32::MAX, 7, 1)]);
         // The answer is not the right one: two edits have no line.
-        assert_eq!(read[0].differences().len(), 1);
+        assert_eq!(read[0].differences().len(), 2);
     }
 }

@@ -29,8 +29,7 @@ impl Vector {
     pub fn difference(&self, other: &dyn Implementation) -> Option<String> {
         let (name, what) = match self {
             Vector::Run(vector) => (&vector.name, run::difference(vector, other)),
-            // The service is not behind the seam yet.
-            Vector::Edit(vector) => (&vector.name, None),
+            Vector::Edit(vector) => (&vector.name, edit::difference(vector, other)),
             Vector::Turns(vector) => (&vector.name, turns::difference(vector, other)),
         };
         what.map(|what| format!("{name} ({}): {what}", other.name()))
