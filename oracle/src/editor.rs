@@ -6,7 +6,8 @@ use crate::answer::{CheckAnswer, Refusal};
 use crate::checker::{watch, Known, Observer, Rows};
 use crate::draft::{to_records, Draft};
 use crate::facts::Facts;
-use crate::table::{decode, text_refusal, Routine, MAX_STATEMENTS, STATEMENT_WORDS};
+use crate::statements::text_refusal;
+use crate::table::{decode, Routine, MAX_STATEMENTS, STATEMENT_WORDS};
 use std::collections::BTreeSet;
 use std::ops::Range;
 

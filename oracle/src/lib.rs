@@ -14,5 +14,6 @@ pub mod machine;
 pub mod reach;
 pub mod report;
 pub mod rows;
+pub mod statements;
 pub mod syntax;
 pub mod table;
