@@ -1,5 +1,6 @@
 //! Routines as Checked C text: text to words and back, verdicts with their reasons, runs. The command `mizzengrape` is made of it.
 
+pub mod closed;
 pub mod command;
 mod comments;
 pub mod diagnostics;

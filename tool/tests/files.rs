@@ -110,6 +110,29 @@ fn output_that_cannot_be_written_is_an_error() {
     }
 }
 
+#[test]
+fn an_output_that_is_closed_is_an_error_where_something_is_printed() {
+    if !Path::new("/proc/self/fdinfo/1").exists() {
+        return;
+    }
+    let folder = Folder::new("closed");
+    folder.write("r.c", ROUTINE);
+    for (arguments, status, said) in [
+        ("asm --words r.c", 2, "error: standard output: it is closed\n"),
+        ("check r.c", 2, "error: standard output: it is closed\n"),
+        ("asm r.c -o r.tbl", 0, ""),
+    ] {
+        let call = format!("exec \"$0\" {arguments} >&-");
+        let output = Command::new("sh")
+            .args(["-c", &call, env!("CARGO_BIN_EXE_mizzengrape")])
+            .current_dir(&folder.0)
+            .output()
+            .expect("a shell");
+        assert_eq!(output.status.code(), Some(status), "{arguments}");
+        assert_eq!(String::from_utf8_lossy(&output.stderr), said, "{arguments}");
+    }
+}
+
 /// A stream that fails in one way.
 struct Failing(ErrorKind);
 
