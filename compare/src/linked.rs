@@ -22,7 +22,7 @@ fn outcome_words(outcome: Outcome) -> RunWords {
     match outcome {
         Outcome::Done { steps } => [0, steps, 0, 0],
         Outcome::Spent { steps, statement } => [1, steps, statement, 0],
-        Outcome::Stopped { steps, statement, check } => [2, steps, statement, check as u32],
+        Outcome::Stopped { steps, statement, check } => [2, steps, statement, check.number()],
         Outcome::Refused(refusal) => {
             let [number, place, pointer] = refusal_words(refusal);
             [3, number, place, pointer]

@@ -29,16 +29,43 @@ pub enum Verdict {
     Refused(Refusal),
 }
 
-/// The named checks, with the paper's numbers.
+/// The named checks; a later library may have others.
 #[derive(Clone, Copy, Debug, PartialEq, Eq)]
 pub enum Check {
-    ConditionFalse = 1,
-    NullAccess = 2,
-    OutOfBounds = 3,
-    NullArithmetic = 4,
-    AddressRange = 5,
+    ConditionFalse,
+    NullAccess,
+    OutOfBounds,
+    NullArithmetic,
+    AddressRange,
     /// Another number than 0 at the upper end of an nt_array_ptr.
-    Terminator = 6,
+    Terminator,
+    Other(u32),
+}
+
+/// The paper's numbers of the checks, 1 to 6.
+const CHECKS: [Check; 6] = [
+    Check::ConditionFalse,
+    Check::NullAccess,
+    Check::OutOfBounds,
+    Check::NullArithmetic,
+    Check::AddressRange,
+    Check::Terminator,
+];
+
+impl From<u32> for Check {
+    fn from(number: u32) -> Check {
+        let known = CHECKS.iter().zip(1..).find(|(_, known)| *known == number);
+        known.map_or(Check::Other(number), |(check, _)| *check)
+    }
+}
+
+impl Check {
+    pub fn number(self) -> u32 {
+        match self {
+            Check::Other(number) => number,
+            _ => CHECKS.iter().zip(1..).find(|(check, _)| **check == self).map_or(0, |(_, number)| number),
+        }
+    }
 }
 
 #[derive(Clone, Copy, Debug, PartialEq, Eq)]
@@ -64,18 +91,6 @@ fn refusal([number, place, pointer]: [u32; 3]) -> Refusal {
     Refusal { number, place, pointer: (number == 8).then_some(pointer) }
 }
 
-fn check_of(number: u32) -> Check {
-    match number {
-        1 => Check::ConditionFalse,
-        2 => Check::NullAccess,
-        3 => Check::OutOfBounds,
-        4 => Check::NullArithmetic,
-        5 => Check::AddressRange,
-        6 => Check::Terminator,
-        _ => unreachable!("the library's checks are 1 to 6"),
-    }
-}
-
 /// The version of the linked library: major, minor, patch.
 pub fn version() -> [u32; 3] {
     let number = extern_c::version_number();
@@ -93,7 +108,7 @@ fn outcome(words: [u32; 4]) -> Outcome {
     match words {
         [0, steps, ..] => Outcome::Done { steps },
         [1, steps, statement, _] => Outcome::Spent { steps, statement },
-        [2, steps, statement, check] => Outcome::Stopped { steps, statement, check: check_of(check) },
+        [2, steps, statement, check] => Outcome::Stopped { steps, statement, check: Check::from(check) },
         [3, number, place, pointer] => Outcome::Refused(refusal([number, place, pointer])),
         _ => unreachable!("the library's outcomes are 0 to 3"),
     }
@@ -163,7 +178,7 @@ impl fmt::Display for Outcome {
             Outcome::Done { steps } => write!(f, "done {steps}"),
             Outcome::Spent { steps, statement } => write!(f, "spent {steps} {statement}"),
             Outcome::Stopped { steps, statement, check } => {
-                write!(f, "stopped {steps} {statement} {}", check as u32)
+                write!(f, "stopped {steps} {statement} {}", check.number())
             }
             Outcome::Refused(refusal) => refusal.fmt(f),
         }

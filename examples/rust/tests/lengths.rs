@@ -147,3 +147,11 @@ fn a_run_spent_in_a_bundle_goes_on_from_a_copy() {
     assert_eq!(run(&STEPPED, &[1, 2], &mut cells, &mut values, &origins, 9), Outcome::Done { steps: 5 });
     assert_eq!((cells, values), ([0, 7, 0], [2, 1, 7]));
 }
+
+#[test]
+fn a_check_and_its_number_tell_each_other() {
+    for number in 0..9 {
+        assert_eq!(Check::from(number).number(), number);
+        assert_eq!(matches!(Check::from(number), Check::Other(_)), !(1..=6).contains(&number));
+    }
+}

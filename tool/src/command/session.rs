@@ -131,7 +131,7 @@ impl Session {
                 let statement = statement as usize;
                 let reason = stops::sentence(&self.printer()?, statement, check, &lent.values);
                 output.status = STOPPED;
-                (statement, format!("stopped at check {}: {reason}", check as u32))
+                (statement, format!("stopped at check {}: {reason}", check.number()))
             }
         };
         if let Some(source) = self.program.source() {

@@ -37,6 +37,7 @@ pub fn sentence(printer: &Printer, statement: usize, check: Check, values: &[u32
                 value(stored)
             )
         }
+        Check::Other(number) => format!("check {number} fails"),
     }
 }
 
