@@ -6,7 +6,8 @@ use crate::fast_check::Resumed;
 use crate::fast_facts::FastFacts;
 use oracle::answer::Refusal;
 use oracle::editor::{Walked, INSERT, REMOVE, REPLACE};
-use oracle::table::{decode, text_refusal, Routine, MAX_STATEMENTS, STATEMENT_WORDS};
+use oracle::statements::text_refusal;
+use oracle::table::{decode, Routine, MAX_STATEMENTS, STATEMENT_WORDS};
 
 /// What is known before a top-level statement.
 #[derive(Clone, Copy)]
