@@ -12,6 +12,7 @@ ghost use Prim.Native.Nat.{_<_};
 ghost use lib.ListN.{length};
 ghost use Rattle.machine.specs.Machine.{going};
 ghost use Rattle.interpreter.specs.Outcomes.{outcomeShown};
+ghost use Rattle.seats.specs.SeatAt.{nobody};
 ghost use Rattle.seats.specs.Seats.{SeatResult, AllSeatedAs, CountIs};
 
 // A part of a lent slice: the elements start to end - 1.
@@ -66,7 +67,9 @@ fn first_outcome(sections: Sections) -> Outcome
 }
 
 // A seat that nobody has.
-pub fn no_seat() -> Seat {
+pub fn no_seat() -> Seat
+    ensures { λ r. ⌜ r ≡ nobody ⌝ }
+{
     let sections = Sections {
         start: 0,
         objects: 0,
@@ -80,7 +83,7 @@ pub fn no_seat() -> Seat {
         directory: span,
         values: span,
     };
-    let outcome = Outcome::Done { steps: 0 };
+    let outcome = Outcome::Refused(Refusal::Length);
     Seat {
         sections: sections,
         places: places,
