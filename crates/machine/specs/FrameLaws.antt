@@ -261,9 +261,6 @@ module _ (T : List ℤ) (h : Sections) (E : Environment) (D : List ℕ) (R : ℕ
 
 -- ---- a run that is continued, and turns
 
-pub same-cells : (D : List ℕ) (R : ℕ → Type 0) (cs : List ℕ) → SameCells D R cs cs
-same-cells D R cs = record { long = refl; cells = λ i c. refl }
-
 pub same-trans : (D : List ℕ) (R : ℕ → Type 0) (cs ds es : List ℕ) → SameCells D R cs ds → SameCells D R ds es → SameCells D R cs es
 same-trans D R cs ds es a b = record { long = a .long ∙ b .long; cells = λ i c. a .cells i c ∙ b .cells i c }
 
