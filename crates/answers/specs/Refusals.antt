@@ -4,7 +4,7 @@ use Rattle.answers.specs.declared.refusals.Refusal.{Refusal}
 use Rattle.answers.specs.declared.refusals.Refusal.the-variants.{Length, Directory, ObjectLength, VariableRecord}
 use Rattle.answers.specs.declared.refusals.Refusal.the-variants.{StatementRecord, BlockLayout, BoundsNotShown}
 use Rattle.answers.specs.declared.refusals.Refusal.the-variants.{BundleAccess, MemorySize, DirectoryPair, EntryLengths, EntryValue, RowsDiffer}
-use Rattle.answers.specs.declared.refusals.Refusal.the-variants.{LastCell, LoopFact}
+use Rattle.answers.specs.declared.refusals.Refusal.the-variants.{LastCell, LoopFact, EditPosition}
 
 -- "Causes of refusal", the column "No." Point 11: "Refusal 7 no longer occurs."
 abbrev pub number : Refusal → ℕ
@@ -26,6 +26,8 @@ number (RowsDiffer s) = 13
 number (LastCell o) = 16
 -- Point 9: "It refuses with 17, giving the first such entry"
 number (LoopFact e) = 17
+-- Point 13: "It refuses with 18, giving the position"
+number (EditPosition a) = 18
 
 -- The column "Returned": object, variable, statement, pair, entry, or 0.
 abbrev pub place : Refusal → ℕ
@@ -44,6 +46,7 @@ place (EntryValue v) = v
 place (RowsDiffer s) = s
 place (LastCell o) = o
 place (LoopFact e) = e
+place (EditPosition a) = a
 
 -- Refusal 8 also returns a pointer (point 6: "the lowest-numbered one not shown"); the others return none, for which 0 stands.
 abbrev pub pointer : Refusal → ℕ
@@ -62,3 +65,4 @@ pointer (EntryValue v) = 0
 pointer (RowsDiffer s) = 0
 pointer (LastCell o) = 0
 pointer (LoopFact e) = 0
+pointer (EditPosition a) = 0

@@ -19,6 +19,7 @@ pub enum Refusal {
     RowsDiffer(usize),
     LastCell(usize),
     LoopFact(usize),
+    EditPosition(usize),
 }
 
 pub fn refusal_number(r: Refusal) -> u32
@@ -43,6 +44,7 @@ pub fn refusal_number(r: Refusal) -> u32
         Refusal::RowsDiffer(_) => 13,
         Refusal::LastCell(_) => 16,
         Refusal::LoopFact(_) => 17,
+        Refusal::EditPosition(_) => 18,
     }
 }
 
@@ -68,6 +70,7 @@ pub fn refusal_place(r: Refusal) -> usize
         Refusal::RowsDiffer(a) => a,
         Refusal::LastCell(o) => o,
         Refusal::LoopFact(e) => e,
+        Refusal::EditPosition(a) => a,
     }
 }
 
@@ -94,5 +97,6 @@ pub fn refusal_pointer(r: Refusal) -> usize
         Refusal::RowsDiffer(_) => 0,
         Refusal::LastCell(_) => 0,
         Refusal::LoopFact(_) => 0,
+        Refusal::EditPosition(_) => 0,
     }
 }

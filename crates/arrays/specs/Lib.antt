@@ -1,3 +1,4 @@
 pub mod Choice
 pub mod Tabulate
 pub mod TabulateLaws
+pub mod Overwritten

@@ -127,7 +127,7 @@ fn read_parts(table: &[i32], sections: Sections, depth: usize, at: usize, end: u
 }
 
 // The block of `first` to `end` - 1, at the depth `depth`. `allowed` is at least the number of its statements; it falls at each.
-fn lay_block(
+pub fn lay_block(
     table: &[i32],
     sections: Sections,
     depth: usize,

@@ -61,8 +61,8 @@ use Rattle.declared.specs.Force.{stateOf, Forced}
 use Rattle.declared.specs.ForceLaws.{pass}
 use Rattle.declared.specs.declared.force.Force.{Force}
 
--- The spans that a well-formed table declares are in range.
-module _ (T : List ℤ) (h : Sections) (w : Formed T h) where
+-- The spans that a table declares are in range, where cause 3 does not refuse it.
+module _ (T : List ℤ) (h : Sections) (lengths : (o : ℕ) → o < h .objects → (1 ≤ objectAt T h o) × (objectAt T h o ≤ 1000000)) where
   object-short : (o : ℕ) → objectAt T h o < 2 ^ 40
   unfolding objectAt
   object-short o = go (inLimits h && ltb o (h .objects)) refl
@@ -70,7 +70,7 @@ module _ (T : List ℤ) (h : Sections) (w : Formed T h) where
       go : (b : Bool) → (inLimits h && ltb o (h .objects)) ≡ b → cond b (objectCells (word T (objectStart h o))) 0 < 2 ^ 40
       go true e =
           let q : objectAt T h o ≡ objectCells (word T (objectStart h o)) = ap (λ (b : Bool). cond b (objectCells (word T (objectStart h o))) 0) e in
-          omega (arith, w .objects o (object-limits h o e .1))
+          omega (arith, lengths o (object-limits h o e .1))
       go false e = omega arith
 
   abbrev span : ℕ → ℕ

@@ -1,5 +1,5 @@
 // The checker: the walk over the statements, the verdict, and the report.
-mod walk; // walk.rt: the walk over the statements
+pub mod walk; // walk.rt: the walk over the statements
 
 use answers::refusals::Refusal;
 use blocks::Layout;

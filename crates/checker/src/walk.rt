@@ -43,7 +43,7 @@ ghost use Rattle.checker.specs.Walk.{InPlace, Walks};
 // The fact set is changed in place by its own methods alone: a function in between would copy it in and out. Its frame stands on the stack once for each depth,
 // and each local has a place of its own there: `now` is the state of this block, `side` what a nested one is walked from and then what it leaves; nothing else
 // is large.
-pub(crate) fn walk(
+pub fn walk(
     table: &[i32],
     sections: Sections,
     listed: &[i32],

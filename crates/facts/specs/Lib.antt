@@ -3,3 +3,4 @@ pub mod StoreLaws
 pub mod Rows
 pub mod Masks
 pub mod StoreLoops
+pub mod Words

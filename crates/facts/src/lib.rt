@@ -13,7 +13,9 @@ use rows::Row;
 use sums::MAX_VALUE;
 ghost use mathlib.Core.Path.{_≡_};
 ghost use mathlib.Core.Bool.{false};
-ghost use lib.ListN.{getD};
+ghost use Prim.Native.Nat.{_+_, _≤_};
+ghost use lib.ListN.{getD, length};
+ghost use Rattle.facts.specs.Words.{markWord, loaded, Saved};
 ghost use Rattle.facts.specs.Store.{contradictory, leastSum, newSet, changed, added, dropped, shifted, joined};
 
 pub struct FactSet {
@@ -152,4 +154,40 @@ impl FactSet {
         next.rows[16] = zero;
         next
     }
+
+    // The set in the 290 words from `at` on: 17 rows of 17 sums, and 1 where the facts contradict.
+    pub fn load(words: &[u64], at: usize) -> FactSet
+        requires { ⌜ at + 290 ≤ length (now words) ⌝ }
+        ensures { λ r. ⌜ r ≡ loaded (now (words .entry)) at ⌝ }
+    {
+        let blank = Row { sums: [0; 17] };
+        let mut next = FactSet {
+            rows: [blank; 17],
+            contradiction: words[at + 289] == 1,
+        };
+        for i in 0..17 {
+            next.rows[i] = rows::load_row(words, at + 17 * i);
+        }
+        next
+    }
+
+    // The set as words, for `load`.
+    pub fn save(self, words: &mut [u64], at: usize)
+        requires { ⌜ at + 290 ≤ length (now words) ⌝ }
+        ensures { λ _. ⌜ Saved (now (words .entry)) at self (now (words .exit)) ⌝ }
+    {
+        let mut i = 0;
+        while i < 17 {
+            let row = self.rows[i];
+            rows::save_row(row, words, at + 17 * i);
+            i += 1;
+        }
+        words[at + 289] = mark_word(self.contradiction);
+    }
+}
+
+fn mark_word(mark: bool) -> u64
+    ensures { λ r. ⌜ r ≡ markWord mark ⌝ }
+{
+    if mark { 1 } else { 0 }
 }

@@ -5,10 +5,11 @@ use sums::UNBOUNDED;
 use sums::concat;
 ghost use mathlib.Core.Path.{_≡_};
 ghost use mathlib.Core.Bool.{false, cond};
-ghost use Prim.Native.Nat.{_<_, min, max};
-ghost use lib.ListN.{getD};
+ghost use Prim.Native.Nat.{_+_, _<_, _≤_, min, max};
+ghost use lib.ListN.{getD, length};
 ghost use lib.Dec.{eqb};
 ghost use Rattle.facts.specs.Store.{newSum, newRow, ownRow};
+ghost use Rattle.facts.specs.Words.{loadedRow, RowSaved};
 ghost use Rattle.facts.specs.Rows.{shortenedRow, IsMask, Masks, maskRow, mergedRow, greatestRow, throughZero};
 
 pub struct Row {
@@ -131,4 +132,27 @@ pub(crate) fn through_zero(row: Row, pointers: [bool; 17], pointer: bool, zero: 
         }
     }
     next
+}
+
+// The row in the 17 words from `at` on.
+pub(crate) fn load_row(words: &[u64], at: usize) -> Row
+    requires { ⌜ at + 17 ≤ length (now words) ⌝ }
+    ensures { λ r. ⌜ r ≡ loadedRow (now (words .entry)) at ⌝ }
+{
+    let mut next = Row { sums: [0; 17] };
+    for j in 0..17 {
+        next.sums[j] = words[at + j];
+    }
+    next
+}
+
+pub(crate) fn save_row(row: Row, words: &mut [u64], at: usize)
+    requires { ⌜ at + 17 ≤ length (now words) ⌝ }
+    ensures { λ _. ⌜ RowSaved (now (words .entry)) at row (now (words .exit)) ⌝ }
+{
+    let mut j = 0;
+    while j < 17 {
+        words[at + j] = row.sums[j];
+        j += 1;
+    }
 }

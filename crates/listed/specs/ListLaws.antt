@@ -64,6 +64,11 @@ module _ (T : List ℤ) (h : Sections) (L : List ℤ) where
       holds-below (entryRight T h L) (entryCount L) (ltb-false _ _ (faultless (ltb 1024 (length L)) (ltb (lowestEntry T h L) (entryCount L)) (LoopFact 256)
       (LoopFact (lowestEntry T h L)) e .1)) k l
 
+-- The empty list has no fault.
+pub none-listed : (T : List ℤ) (h : Sections) → listFaults T h [] ≡ []
+unfolding listFaults
+none-listed T h = ap (λ (b : Bool). cond b (LoopFact (lowestEntry T h []) ∷ []) []) (le-ltb (lowestEntry T h []) 0 (omega arith))
+
 -- The list of a well-formed verdict.
 pub form-clear : (xs : List Refusal) {l : ListForm} → l ≡ listForm xs → l ≡ form.Right → xs ≡ []
 unfolding listForm

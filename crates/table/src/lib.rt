@@ -49,7 +49,7 @@ fn length_right(table: &[i32]) -> bool
     (6 <= table.len()) & (table.len() <= 7318)
 }
 
-fn sections_of(table: &[i32]) -> Sections
+pub fn sections_of(table: &[i32]) -> Sections
     ensures { λ r. ⌜ r ≡ sectionsOf (now (table .entry)) ⌝ }
 {
     let objects = plain(word(table, 1));
@@ -84,7 +84,7 @@ fn fourth_right(table: &[i32], sections: Sections) -> bool
 }
 
 // The pairs are the ones that these sections have, and the last section ends the table.
-fn directory_right(table: &[i32], sections: Sections) -> bool
+pub fn directory_right(table: &[i32], sections: Sections) -> bool
     ensures { λ r. ⌜ r ≡ directoryRight (now (table .entry)) sections ⌝ }
 {
     if !in_limits(sections) {
@@ -145,7 +145,7 @@ fn statement_reads(table: &[i32], sections: Sections, at: usize) -> bool
 }
 
 // The lowest object whose length is wrong, else their number.
-fn lowest_object(table: &[i32], sections: Sections) -> usize
+pub fn lowest_object(table: &[i32], sections: Sections) -> usize
     ensures { λ r. ⌜ r ≡ lowestObject (now (table .entry)) sections ⌝ }
 {
     let n = sections.objects;
@@ -187,7 +187,7 @@ fn lowest_row(table: &[i32], sections: Sections) -> usize
     i
 }
 
-fn lowest_statement(table: &[i32], sections: Sections) -> usize
+pub fn lowest_statement(table: &[i32], sections: Sections) -> usize
     ensures { λ r. ⌜ r ≡ lowestStatement (now (table .entry)) sections ⌝ }
 {
     let n = sections.statements;

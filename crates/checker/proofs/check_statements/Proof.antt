@@ -14,7 +14,7 @@ check-statements-spec =
     (tie.spec
     (λ c κs. search needs) (λ c κs. search needs) (λ c κs. search needs) (λ c κs. search needs)
     (λ c κs. (
-      measured _ _ (c .before .before .before .before .pre .0),
+      measured _ _ (c .before .before .before .before .pre .0 .objects),
       c .before .before .before .frame-of .ensures,
       forced-own (c .before .before .own-force .ensures),
       table-placed _ _ (now (c .before .before .before .before .args .listed))
