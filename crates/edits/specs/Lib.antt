@@ -1,0 +1,11 @@
+pub mod Followed
+pub mod TopLevel
+pub mod Cuts
+pub mod SameDeclared
+pub mod Edited
+pub mod EditedLaws
+pub mod FormKept
+pub mod EditedTree
+pub mod EditLaws
+pub mod WrittenLaws
+pub mod TextLaws

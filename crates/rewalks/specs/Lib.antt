@@ -1,0 +1,4 @@
+pub mod Stops
+pub mod Walking
+pub mod Rewalks
+pub mod RewalkLaws
