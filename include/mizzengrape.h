@@ -3,6 +3,7 @@
    A routine is a table of 32-bit words (docs/FORMAT.md; the command `mizzengrape` makes tables from Checked C text). mizzengrape_check answers whether the
    rules accept it; mizzengrape_run runs an accepted one on memory that the caller lends. With a list of loop facts beside the table they are
    mizzengrape_check_with_facts, which also reports the accesses that cannot fail, and mizzengrape_run_with_facts. mizzengrape_dispatch runs several in turn.
+   mizzengrape_edit_start and mizzengrape_edit change a table one statement at a time and give its verdict each time.
 
    Tables. A table begins with pairs of offset and length: objects, variables, statements; the first offset is 6, and the table has at most 7,318 words.
    - A first offset of 8 means a fourth pair and section, bounds rows of six words behind the statements: bounds that statements of kind 14 declare for a
@@ -18,12 +19,11 @@
    Then they are known in the body and after the loop; else the list is refused with 17. Nobody has to trust who wrote the list.
 
    Calls. Every slice is a pointer and a length in elements. Nothing is kept after a call, and nothing is allocated. There are two ways in:
-   - mizzengrape_check, mizzengrape_run, the same .._with_facts and mizzengrape_dispatch are the proved functions. Their caller promises of each slice that
-     its pointer is not null (also where the length is 0), is aligned to four bytes (one of uint64_t to the alignment of that type, mostly eight) and has
-     that many elements of memory behind it; and that a slice that is written overlaps no other.
-   - mizzengrape_try_check, mizzengrape_try_run, the same .._with_facts and mizzengrape_try_dispatch, below, ask for less: they look at null, alignment and
-     overlap first, and answer what is wrong without calling. What no program can see is left to the caller: that a pointer has that many elements behind
-     it, and that no other thread writes them.
+   - mizzengrape_check, mizzengrape_run, the same .._with_facts, mizzengrape_dispatch, mizzengrape_edit_start and mizzengrape_edit are the proved functions.
+     Their caller promises of each slice that its pointer is not null (also where the length is 0), is aligned to four bytes (one of uint64_t to the
+     alignment of that type, mostly eight) and has that many elements of memory behind it; and that a slice that is written overlaps no other.
+   - mizzengrape_try_check and so on, the same names with try_, below, ask for less: they look at null, alignment and overlap first, and answer what is wrong
+     without calling. What no program can see is left to the caller: that a pointer has that many elements behind it, and that no other thread writes them.
 
    Stack. A thread with a stack of MIZZENGRAPE_STACK_BYTES, 128 KiB, has room for each call at the deepest nesting, with 4 KiB left for its caller
    (examples/c/stack.c runs all of them on exactly that stack; `compare stack` measures the least).
@@ -57,7 +57,20 @@
    to 1,000, until all have ended or the total is used. A turn that ends early gives its rest to nobody. So of n routines one that waits is served again
    after at most (n - 1) times quantum steps of the others, unless the total runs out; and each ends, with its values and its cells, as a run of it alone
    with the steps that it received. All that is said of a run above holds of each of them. To go on after the total is used, run a copy of cells and values
-   from before again, with a greater total: the turns are the same up to there. */
+   from before again, with a greater total: the turns are the same up to there.
+
+   Editing. mizzengrape_edit_start takes a table that passes refusals 1 to 6, in a buffer with room behind it; mizzengrape_edit then inserts, replaces or
+   removes one statement outside of all blocks, with its own blocks, in that buffer. There is no list of loop facts. Each call answers the verdict on the
+   table as it then is, and what it answers equals a check of that table from nothing, but need not walk all of it:
+   - The caller lends a store of places. A place holds what is known before one statement outside of all blocks. Each call names positions to keep, numbers
+     of such statements in the new table; those that the walk comes to are stored, lowest first, while a place is free. Numbers that name no such statement,
+     one that is stored already or one before the walk's start are passed over.
+   - An edit drops the places behind its position, and walks from the last one at or before it, else from the start. So a position kept at each 16th statement
+     lets an edit near the end walk little more than the end. An edit writes the statements' part of the table, the pairs of its directory that name their
+     length and the rows' offset, and the rows behind them; the words of the buffer behind the new table stay.
+   - An edit that is refused (18; 5 or 6 for its text) changes neither table nor store. An edit whose verdict is a refusal (8, 9, 13) is made all the same.
+   - Between the calls nobody else may write the table or the store, else the verdict says nothing; the calls end and answer all the same, and write nothing
+     but table, store and answer. To begin anew call mizzengrape_edit_start. */
 #ifndef MIZZENGRAPE_H
 #define MIZZENGRAPE_H
 
@@ -83,6 +96,15 @@
 #define MIZZENGRAPE_DISPATCH_SUCCESSORS 16384
 #define MIZZENGRAPE_DISPATCH_ANSWER_WORDS 37
 
+/* A store of places, in elements of 64 bits: a word of how many places are kept now, then the places, lowest position first. The first word of a place is its
+   position; what the others hold is the library's. MIZZENGRAPE_STORE_WORDS(n) is the room for n places; a store has as many as fit, one of no word none. */
+#define MIZZENGRAPE_STORE_HEADER_WORDS 1
+#define MIZZENGRAPE_PLACE_WORDS 307
+#define MIZZENGRAPE_STORE_WORDS(n) (MIZZENGRAPE_STORE_HEADER_WORDS + (size_t)(n) * MIZZENGRAPE_PLACE_WORDS)
+
+/* The words of the answer of an editing call. */
+#define MIZZENGRAPE_EDIT_ANSWER_WORDS 6
+
 #ifdef __cplusplus
 extern "C" {
 #endif
@@ -90,7 +112,7 @@ extern "C" {
 /* The version of the library that the program is linked with. Where it is not MIZZENGRAPE_VERSION_NUMBER, header and library come from two releases. */
 uint32_t mizzengrape_version(void);
 
-/* Refusals, with the paper's numbers: answer[0] of a check, answer[1] of a run or a dispatch that is refused. In brackets their place. */
+/* Refusals, with the paper's numbers: answer[0] of a check or an edit, answer[1] of a run or a dispatch that is refused. In brackets their place. */
 typedef enum mizzengrape_refusal {
     MIZZENGRAPE_ACCEPTED = 0,
     MIZZENGRAPE_REFUSED_LENGTH = 1,      /* [0] the table has fewer than 6 or more than 7,318 words; 7,704 where its first word is 8 */
@@ -110,9 +132,18 @@ typedef enum mizzengrape_refusal {
     MIZZENGRAPE_REFUSED_OVERLAP = 14,    /* [routine] of a dispatch: the first that has an object with a cell in common with an earlier routine's */
     MIZZENGRAPE_REFUSED_TURNS = 15,      /* [0] of a dispatch: not 1 to 8 routines, or turns of other than 1 to 1,000 steps */
     MIZZENGRAPE_REFUSED_TERMINATOR = 16, /* [object] the last cell of a terminated object is not 0 at entry */
-    MIZZENGRAPE_REFUSED_FACT = 17        /* [entry] of the list of loop facts: it is cut short, unsorted or names wrongly, or its fact is not shown before
+    MIZZENGRAPE_REFUSED_FACT = 17,       /* [entry] of the list of loop facts: it is cut short, unsorted or names wrongly, or its fact is not shown before
                                             the loop or at the body's end; 256 where there are more entries */
+    MIZZENGRAPE_REFUSED_EDIT = 18        /* [position] of an edit: no statement outside of all blocks has it (an insertion may follow the last), the table
+                                            would have more than 1,024 statements or more words than its buffer, or no such operation */
 } mizzengrape_refusal;
+
+/* What mizzengrape_edit does at a position, the number of a statement in the table. */
+typedef enum mizzengrape_operation {
+    MIZZENGRAPE_INSERT = 0,  /* the text comes before the statement, or behind the last where the position is the number of statements */
+    MIZZENGRAPE_REPLACE = 1, /* the text takes the place of the statement and its blocks */
+    MIZZENGRAPE_REMOVE = 2   /* the statement and its blocks go; the text is not looked at */
+} mizzengrape_operation;
 
 /* How a run ended: answer[0] of a run; of a dispatch DONE where it ran, or REFUSED, and behind it a word for each routine. */
 typedef enum mizzengrape_outcome {
@@ -153,6 +184,7 @@ static inline const char *mizzengrape_refusal_text(uint32_t number)
     case MIZZENGRAPE_REFUSED_TURNS: return "not 1 to 8 routines, or turns of other than 1 to 1,000 steps";
     case MIZZENGRAPE_REFUSED_TERMINATOR: return "the last cell of a terminated object is not 0";
     case MIZZENGRAPE_REFUSED_FACT: return "a loop fact that is not shown or does not fit";
+    case MIZZENGRAPE_REFUSED_EDIT: return "an edit that has no such place, or no room";
     default: return "refused";
     }
 }
@@ -238,6 +270,33 @@ bool mizzengrape_dispatch(const int32_t *tables, size_t tables_len, const int32_
                           size_t origins_len, const uint32_t *lengths, size_t lengths_len, uint32_t quantum, uint32_t total, uint64_t *ends,
                           size_t ends_len, uint32_t *successors, size_t successors_len, uint32_t *answer, size_t answer_len);
 
+/* Takes the table of length words at the beginning of a buffer of table_len words (a length beyond the buffer counts as the buffer's), so that it can be
+   edited there, and walks all of it. What the store held is dropped; the positions of keep are stored as the walk comes to them. The buffer is only read.
+   The answer's words, the others stay:
+     answer[0]  0 accepted, else the number of the verdict's refusal, 8, 9 or 13; or 1 to 6, and the table is not taken
+     answer[1]  0 accepted, else the refusal's place
+     answer[2]  for refusal 8 the pointer as for a check, else 0
+     answer[3]  statements walked, those of blocks too, up to the last begun; 0 where the table is not taken
+     answer[4]  the words of the table
+     answer[5]  1 where the table is taken; 0 where it is not, and then nothing is written to the store
+   True; or false, and nothing written, where answer_len is below MIZZENGRAPE_EDIT_ANSWER_WORDS. */
+bool mizzengrape_edit_start(const int32_t *table, size_t table_len, size_t length, uint64_t *store, size_t store_len, const uint32_t *keep,
+                            size_t keep_len, uint32_t *answer, size_t answer_len);
+
+/* Edits the table in the buffer at a position; its length is read from its directory. The text is the new statement with its blocks, seven words a record.
+   Store and keep as above; the store is the one that the call before left. The answer's words, the others stay:
+                 edited                                       not edited: table and store stay
+     answer[0]   verdict on the new table: 0, 8, 9 or 13      18; or of a text 5 (a record is wrong) or 6 (not one statement with its blocks)
+     answer[1]   0 accepted, else the refusal's place         position
+     answer[2]   for refusal 8 the pointer, else 0            0
+     answer[3]   statements walked                            0
+     answer[4]   words of the table now                       words of the table
+     answer[5]   1                                            0
+   18 comes before 5, and 5 before 6. A buffer that holds no table answers 18, and 0 for the words of the table.
+   True; or false, and nothing written, where answer_len is below MIZZENGRAPE_EDIT_ANSWER_WORDS. */
+bool mizzengrape_edit(int32_t *table, size_t table_len, uint32_t operation, uint32_t position, const int32_t *text, size_t text_len, uint64_t *store,
+                      size_t store_len, const uint32_t *keep, size_t keep_len, uint32_t *answer, size_t answer_len);
+
 /* What a guarded call says. Unless it says ANSWERED nothing has been written. */
 typedef enum mizzengrape_call {
     MIZZENGRAPE_ANSWERED = 0,
@@ -265,7 +324,7 @@ static inline bool mizzengrape_overlap(const void *a, size_t a_len, const void *
 /* A word that stands for the start of every slice of length 0, so that no null pointer is passed on. */
 static inline const void *mizzengrape_start(const void *start, size_t len)
 {
-    static const uint32_t empty = 0;
+    static const uint64_t empty = 0;
     return len == 0 ? &empty : start;
 }
 
@@ -351,6 +410,12 @@ static inline bool mizzengrape_is_aligned_64(const void *start)
     return (uintptr_t)start % offsetof(struct aligned, word) == 0;
 }
 
+/* So many 64-bit elements as twice as many words; a length that cannot be doubled is too great either way. */
+static inline size_t mizzengrape_words_of_64(size_t len)
+{
+    return len <= SIZE_MAX / 2 ? 2 * len : SIZE_MAX;
+}
+
 /* mizzengrape_dispatch, guarded. */
 static inline mizzengrape_call mizzengrape_try_dispatch(const int32_t *tables, size_t tables_len, const int32_t *facts, size_t facts_len,
                                                         const uint32_t *directories, size_t directories_len, uint32_t *cells, size_t cells_len,
@@ -359,8 +424,7 @@ static inline mizzengrape_call mizzengrape_try_dispatch(const int32_t *tables, s
                                                         uint64_t *ends, size_t ends_len, uint32_t *successors, size_t successors_len,
                                                         uint32_t *answer, size_t answer_len)
 {
-    /* The room of 64-bit elements as twice as many words; a length that cannot be doubled is too great either way. */
-    const size_t ends_words = ends_len <= SIZE_MAX / 2 ? 2 * ends_len : SIZE_MAX;
+    const size_t ends_words = mizzengrape_words_of_64(ends_len);
     const void *const start[10] = {answer, cells, values, ends, successors, tables, facts, directories, origins, lengths};
     const size_t len[10] = {answer_len, cells_len, values_len, ends_words, successors_len, tables_len, facts_len, directories_len, origins_len, lengths_len};
     const mizzengrape_call call = mizzengrape_is_aligned_64(ends) ? mizzengrape_guard(start, len, 10, 5) : MIZZENGRAPE_BAD_SLICE;
@@ -374,6 +438,40 @@ static inline mizzengrape_call mizzengrape_try_dispatch(const int32_t *tables, s
                          (const uint32_t *)mizzengrape_start(origins, origins_len), origins_len,
                          (const uint32_t *)mizzengrape_start(lengths, lengths_len), lengths_len, quantum, total, ends, ends_len, successors,
                          successors_len, answer, answer_len);
+    return MIZZENGRAPE_ANSWERED;
+}
+
+/* mizzengrape_edit_start, guarded. */
+static inline mizzengrape_call mizzengrape_try_edit_start(const int32_t *table, size_t table_len, size_t length, uint64_t *store, size_t store_len,
+                                                          const uint32_t *keep, size_t keep_len, uint32_t *answer, size_t answer_len)
+{
+    const void *const start[4] = {answer, store, table, keep};
+    const size_t len[4] = {answer_len, mizzengrape_words_of_64(store_len), table_len, keep_len};
+    const mizzengrape_call call = mizzengrape_is_aligned_64(store) ? mizzengrape_guard(start, len, 4, 2) : MIZZENGRAPE_BAD_SLICE;
+    if (call != MIZZENGRAPE_ANSWERED)
+        return call;
+    if (answer_len < MIZZENGRAPE_EDIT_ANSWER_WORDS)
+        return MIZZENGRAPE_NO_ROOM;
+    mizzengrape_edit_start((const int32_t *)mizzengrape_start(table, table_len), table_len, length, (uint64_t *)mizzengrape_start(store, store_len),
+                           store_len, (const uint32_t *)mizzengrape_start(keep, keep_len), keep_len, answer, answer_len);
+    return MIZZENGRAPE_ANSWERED;
+}
+
+/* mizzengrape_edit, guarded. The text may not lie in the buffer, which is written. */
+static inline mizzengrape_call mizzengrape_try_edit(int32_t *table, size_t table_len, uint32_t operation, uint32_t position, const int32_t *text,
+                                                    size_t text_len, uint64_t *store, size_t store_len, const uint32_t *keep, size_t keep_len,
+                                                    uint32_t *answer, size_t answer_len)
+{
+    const void *const start[5] = {answer, store, table, text, keep};
+    const size_t len[5] = {answer_len, mizzengrape_words_of_64(store_len), table_len, text_len, keep_len};
+    const mizzengrape_call call = mizzengrape_is_aligned_64(store) ? mizzengrape_guard(start, len, 5, 3) : MIZZENGRAPE_BAD_SLICE;
+    if (call != MIZZENGRAPE_ANSWERED)
+        return call;
+    if (answer_len < MIZZENGRAPE_EDIT_ANSWER_WORDS)
+        return MIZZENGRAPE_NO_ROOM;
+    mizzengrape_edit((int32_t *)mizzengrape_start(table, table_len), table_len, operation, position, (const int32_t *)mizzengrape_start(text, text_len),
+                     text_len, (uint64_t *)mizzengrape_start(store, store_len), store_len, (const uint32_t *)mizzengrape_start(keep, keep_len), keep_len,
+                     answer, answer_len);
     return MIZZENGRAPE_ANSWERED;
 }
 
