@@ -22,11 +22,12 @@ pub enum Cause {
     Turns,
     Terminator,
     Fact,
+    Edit,
     Other(u32),
 }
 
 /// Each cause with its number and what it means, in a line.
-const CAUSES: [(Cause, u32, &str); 16] = [
+const CAUSES: [(Cause, u32, &str); 17] = [
     (Cause::Length, 1, "the table has too few or too many words"),
     (Cause::Directory, 2, "its sections do not fit, or hold too many or too few records"),
     (Cause::Object, 3, "an object's length is not 1 to 1,000,000 cells"),
@@ -43,6 +44,7 @@ const CAUSES: [(Cause, u32, &str); 16] = [
     (Cause::Turns, 15, "not 1 to 8 routines, or turns of other than 1 to 1,000 steps"),
     (Cause::Terminator, 16, "the last cell of a terminated object is not 0"),
     (Cause::Fact, 17, "a loop fact that is not shown or does not fit"),
+    (Cause::Edit, 18, "an edit that has no such place, or no room"),
 ];
 
 impl From<u32> for Cause {

@@ -1,10 +1,12 @@
 //! The proved routine checker and interpreter for Rust programs: `check` and `run` on slices, answers as enums.
 
 mod cause;
+mod editor;
 mod extern_c;
 mod turns;
 
 pub use cause::Cause;
+pub use editor::{edit, edit_start, kept, store_words, Edit, Edited, Editor, Walked};
 use std::fmt;
 pub use turns::{dispatch, dispatch_parts, Parts, Room, Routine, Turns};
 
@@ -14,10 +16,10 @@ pub const STACK_BYTES: usize = 131_072;
 /// Why a routine, or a run of it, is refused.
 #[derive(Clone, Copy, Debug, PartialEq, Eq)]
 pub struct Refusal {
-    /// The paper's number, 1 to 17.
+    /// The paper's number, 1 to 18.
     pub number: u32,
-    /// Object, variable (a bounds row counts on behind the variables), statement, pair or entry of a list, by the number; 0 where there is
-    /// none.
+    /// Object, variable (a bounds row counts on behind the variables), statement, pair, entry of a list or position of an edit, by the number; 0
+    /// where there is none.
     pub place: u32,
     /// For refusal 8 the lowest pointer variable whose declared bounds are not shown there; at a kind 14 its own pointer.
     pub pointer: Option<u32>,
