@@ -1,5 +1,5 @@
 /* Embedding in C: checks a routine for late entries, runs it for three boats, shows what wrong arguments are answered, and what a list of loop facts adds;
-   then runs both laptops' routines in turn.
+   then runs both laptops' routines in turn, and edits the routine with the verdict alongside.
    The memory: cell 0 is in no object, cells 1 and 2 are one laptop's block, cells 3 and 4 the other's. */
 #include <stdio.h>
 
@@ -216,6 +216,66 @@ static void wrong_room(void)
                                              rooms[i].answer_len));
 }
 
+/* The routine in a buffer with room for three statements more, and a store of two places. */
+static int32_t buffer[LENGTH(routine) + 3 * 7];
+static uint64_t store[MIZZENGRAPE_STORE_WORDS(2)];
+static const uint32_t keep[] = {0, 2};
+
+static void show_edit(const char *what, mizzengrape_call call, const uint32_t *answer)
+{
+    show_check(what, call, answer);
+    if (call != MIZZENGRAPE_ANSWERED)
+        return;
+    printf("  %s, %u walked, table of %u words, kept", answer[5] == 1 ? "made" : "not made", (unsigned)answer[3], (unsigned)answer[4]);
+    for (uint64_t place = 0; place < store[0]; place++)
+        printf(" %u", (unsigned)store[MIZZENGRAPE_STORE_WORDS(place)]);
+    printf("\n");
+}
+
+static void edit(const char *what, uint32_t operation, uint32_t position, const int32_t *text, size_t text_len)
+{
+    uint32_t answer[MIZZENGRAPE_EDIT_ANSWER_WORDS];
+    mizzengrape_call call = mizzengrape_try_edit(buffer, LENGTH(buffer), operation, position, text, text_len, store, LENGTH(store), keep, LENGTH(keep),
+                                                 answer, LENGTH(answer));
+    show_edit(what, call, answer);
+}
+
+static void editing(void)
+{
+    static const int32_t raise[] = {2, 1, 1, 1, 0, 0, 0};                           /* rows := rows + 1 */
+    static const int32_t next_boat[] = {2, 2, 2, 1, 0, 0, 0};                       /* boat := boat + 1 */
+    static const int32_t two_rows[] = {10, 1, 2, 1, 1, 0, 0};                       /* check rows > 1 */
+    static const int32_t step[] = {13, 2, 0, 0, 0, 0, 0, 6, 0, 0, 1, 0, 0, 0};      /* a bundle of 2, cut short */
+    static const int32_t no_variable[] = {2, 3, 3, 1, 0, 0, 0};                     /* variable 3 := variable 3 + 1 */
+    uint32_t answer[MIZZENGRAPE_EDIT_ANSWER_WORDS];
+    for (size_t i = 0; i < LENGTH(routine); i++)
+        buffer[i] = routine[i];
+    mizzengrape_call call = mizzengrape_try_edit_start(buffer, LENGTH(buffer), LENGTH(routine), store, LENGTH(store), keep, LENGTH(keep), answer,
+                                                       LENGTH(answer));
+    show_edit("taken to be edited", call, answer);
+    edit("the next boat, at the end", MIZZENGRAPE_INSERT, 5, next_boat, 7);
+    edit("the count raised there", MIZZENGRAPE_INSERT, 6, raise, 7);
+    edit("and taken back", MIZZENGRAPE_REMOVE, 6, NULL, 0);
+    edit("in the bundle", MIZZENGRAPE_REMOVE, 3, NULL, 0);
+    edit("a variable that is none", MIZZENGRAPE_INSERT, 0, no_variable, 7);
+    edit("half a bundle", MIZZENGRAPE_REPLACE, 2, step, 14);
+    edit("the check replaced", MIZZENGRAPE_REPLACE, 0, two_rows, 7);
+    edit("the check removed", MIZZENGRAPE_REMOVE, 0, NULL, 0);
+    edit("and inserted again", MIZZENGRAPE_INSERT, 0, two_rows, 7);
+    edit("room is left", MIZZENGRAPE_INSERT, 6, next_boat, 7);
+    edit("and once more", MIZZENGRAPE_INSERT, 7, next_boat, 7);
+    edit("no room is left", MIZZENGRAPE_INSERT, 8, next_boat, 7);
+    edit("text in the buffer", MIZZENGRAPE_INSERT, 0, buffer + 32, 7);
+    call = mizzengrape_try_edit_start(buffer, LENGTH(buffer), 5, store, LENGTH(store), keep, LENGTH(keep), answer, LENGTH(answer));
+    show_edit("five words to be edited", call, answer);
+    printf("five words for the answer: call %d\n",
+           (int)mizzengrape_try_edit(buffer, LENGTH(buffer), MIZZENGRAPE_REMOVE, 0, NULL, 0, store, LENGTH(store), NULL, 0, answer, 5));
+    printf("misaligned store: call %d\n", (int)mizzengrape_try_edit(buffer, LENGTH(buffer), MIZZENGRAPE_REMOVE, 0, NULL, 0,
+                                                                    (uint64_t *)(uintptr_t)((uintptr_t)store + 4), 1, NULL, 0, answer, 6));
+    printf("no store and no buffer, null: call %d,", (int)mizzengrape_try_edit(NULL, 0, MIZZENGRAPE_REMOVE, 0, NULL, 0, NULL, 0, NULL, 0, answer, 6));
+    printf(" answer %u\n", (unsigned)answer[0]);
+}
+
 static void wrong_pointers(void)
 {
     uint32_t answer[4];
@@ -266,5 +326,6 @@ int main(void)
     loop_facts();
     turns();
     wrong_room();
+    editing();
     return 0;
 }

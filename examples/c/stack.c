@@ -1,5 +1,5 @@
-/* All calls, for the deepest tables and eight of them in turn, on a thread whose stack has exactly MIZZENGRAPE_STACK_BYTES and a page below it that ends the
-   program. */
+/* All calls, for the deepest tables, eight of them in turn and each edited, on a thread whose stack has exactly MIZZENGRAPE_STACK_BYTES and a page below it
+   that ends the program. */
 #define _DEFAULT_SOURCE
 #include <pthread.h>
 #include <stdio.h>
@@ -102,6 +102,27 @@ static int answers(size_t facts_len)
            && mizzengrape_try_run(table, table_len, directory, 2, cells, 4, values, 2, origins, 2, 100, ran, 4) == MIZZENGRAPE_ANSWERED && ran[0] == 0;
 }
 
+/* Whether that table is taken to be edited, and its statement at a position replaced by itself and accepted again, from the start and from a place there. */
+static int edited(int32_t position, size_t statements)
+{
+    static uint64_t store[MIZZENGRAPE_STORE_WORDS(1)];
+    static int32_t text[WORDS];
+    const uint32_t keep[] = {(uint32_t)position};
+    const size_t text_len = 7 * statements;
+    uint32_t answer[MIZZENGRAPE_EDIT_ANSWER_WORDS];
+    memcpy(text, table + table[4] + 7 * position, text_len * sizeof *text);
+    for (size_t places = 0; places < 2; places++) {
+        if (mizzengrape_try_edit_start(table, table_len, table_len, store, MIZZENGRAPE_STORE_WORDS(places), keep, 1, answer, 6) != MIZZENGRAPE_ANSWERED
+            || answer[0] != 0 || answer[5] != 1)
+            return 0;
+        if (mizzengrape_try_edit(table, WORDS, MIZZENGRAPE_REPLACE, keep[0], text, text_len, store, MIZZENGRAPE_STORE_WORDS(places), keep, 1, answer, 6)
+                != MIZZENGRAPE_ANSWERED
+            || answer[0] != 0 || answer[4] != table_len || answer[5] != 1)
+            return 0;
+    }
+    return store[0] == 1;
+}
+
 /* Whether eight routines of that table, each with an object of its own behind the one before, end done in turn. */
 static int dispatched(size_t facts_len)
 {
@@ -135,10 +156,10 @@ static void *calls(void *wrong)
 {
     for (int with_row = 0; with_row < 2; with_row++) {
         deepest(with_row);
-        *(int *)wrong |= !answers(0) || !dispatched(0);
+        *(int *)wrong |= !answers(0) || !dispatched(0) || !edited(0, (size_t)table[5] / 7);
     }
     deepest_loops();
-    *(int *)wrong |= !answers(4 * ENTRIES) || !dispatched(4 * ENTRIES);
+    *(int *)wrong |= !answers(4 * ENTRIES) || !dispatched(4 * ENTRIES) || !edited(1, (size_t)table[5] / 7 - 1);
     return NULL;
 }
 
