@@ -1,4 +1,4 @@
-"""Three late entries in a block of two rows: the third stops, and the neighbour's row is not touched."""
+"""Three late entries in a block of two rows: the third stops, and the neighbour's row is not touched. Then the routine is edited."""
 
 import mizzengrape
 
@@ -31,3 +31,13 @@ for wrong in ([1 << 31], ["a"]):
         mizzengrape.check(wrong)
     except (ValueError, TypeError) as error:
         print(type(error).__name__)
+
+editor = mizzengrape.Editor(ROUTINE, places=2, keep=[0, 2])
+print("taken", editor.verdict, editor.kept)
+print("the count raised at the end", editor.insert(5, [2, 1, 1, 1, 0, 0, 0]))
+print("and taken back", editor.remove(5), editor.table == ROUTINE)
+for position, text in ((3, [1, 2, 0, 0, 0, 0, 0]), (0, [2, 3, 3, 1, 0, 0, 0])):
+    try:
+        editor.replace(position, text)
+    except mizzengrape.Refused as refused:
+        print(refused, editor.kept)

@@ -4,6 +4,8 @@
     routine = mizzengrape.Routine.load("late.tbl")          # raises Refused where the rules refuse it
     run = routine.run(directory=[1, 4], cells=[0] * 5, values=[1, 4, 77], origins=[1, 0, 0])
     run.outcome, run.steps, run.values, run.cells           # "done", 5, [..], [..]
+    editor = mizzengrape.Editor(routine.table, places=64)   # takes a table to change it a statement at a time
+    editor.insert(0, [1, 1, 5, 0, 0, 0, 0]).refusal         # None where the table is accepted as it then is
 
 The library is found by the variable MIZZENGRAPE_LIBRARY, beside this file, in the folder `lib` above it, or by the system.
 """
@@ -33,6 +35,7 @@ REFUSALS = {
     15: "not 1 to 8 routines, or turns of other than 1 to 1,000 steps",
     16: "the last cell of a terminated object is not 0",
     17: "a loop fact that is not shown or does not fit",
+    18: "an edit that has no such place, or no room",
 }
 STOPS = {
     1: "a dynamic check is false",
@@ -43,6 +46,8 @@ STOPS = {
     6: "a letter where only 0 may stand",
 }
 REPORT_WORDS = 1024
+PLACE_WORDS = 307
+TABLE_WORDS = 7704
 
 
 class Refused(Exception):
@@ -87,7 +92,7 @@ def _load() -> ctypes.CDLL:
 
 
 _library = _load()
-for _name in ("mizzengrape_check_with_facts", "mizzengrape_run_with_facts"):
+for _name in ("mizzengrape_check_with_facts", "mizzengrape_run_with_facts", "mizzengrape_edit_start", "mizzengrape_edit"):
     getattr(_library, _name).restype = ctypes.c_bool
 _library.mizzengrape_version.restype = ctypes.c_uint32
 
@@ -181,3 +186,60 @@ class Routine:
 
     def run(self, directory, cells, values, origins, limit=1_000_000, raise_stop=False) -> Run:
         return run(self.table, directory, cells, values, origins, limit, self.facts, raise_stop)
+
+
+@dataclass
+class Walked:
+    """The verdict on a table that is edited: its refusal, or None; and how many statements were walked for it."""
+
+    refusal: Optional[Refused]
+    statements: int
+
+
+class Editor:
+    """A table that is changed one statement outside of all blocks at a time, with the verdict on it each time, in `verdict`.
+
+    Positions are numbers of statements in the table. With each call the positions of `keep` are stored, in so many places: an edit behind one of them is
+    walked from there. Raises Refused where the table or an edit is not taken; nothing is changed then."""
+
+    def __init__(self, table: Sequence[int], places: int = 0, keep: Sequence[int] = ()):
+        self._buffer = _signed(list(table) + [0] * (TABLE_WORDS - len(table)))
+        self._store = (ctypes.c_uint64 * (1 + places * PLACE_WORDS))()
+        self._length = len(table)
+        self.verdict = self._call(_library.mizzengrape_edit_start, [ctypes.c_size_t(self._length)], keep)
+
+    def insert(self, position: int, text: Sequence[int], keep: Sequence[int] = ()) -> Walked:
+        """One statement with its blocks, before the one at the position or behind the last."""
+        return self._edit(0, position, text, keep)
+
+    def replace(self, position: int, text: Sequence[int], keep: Sequence[int] = ()) -> Walked:
+        return self._edit(1, position, text, keep)
+
+    def remove(self, position: int, keep: Sequence[int] = ()) -> Walked:
+        return self._edit(2, position, (), keep)
+
+    @property
+    def table(self) -> List[int]:
+        return list(self._buffer[: self._length])
+
+    @property
+    def kept(self) -> List[int]:
+        """The positions that are stored now."""
+        return [self._store[1 + place * PLACE_WORDS] for place in range(self._store[0])]
+
+    def _edit(self, operation: int, position: int, text: Sequence[int], keep: Sequence[int]) -> Walked:
+        at = _unsigned([position])[0]
+        change = [ctypes.c_uint32(operation), ctypes.c_uint32(at), *_slices((_signed(text), len(text)))]
+        self.verdict = self._call(_library.mizzengrape_edit, change, keep)
+        return self.verdict
+
+    def _call(self, call, change, keep: Sequence[int]) -> Walked:
+        answer = (ctypes.c_uint32 * 6)()
+        lent = _slices((self._store, len(self._store)), (_unsigned(keep), len(keep)), (answer, 6))
+        call(*_slices((self._buffer, len(self._buffer))), *change, *lent)
+        number, place, pointer, statements, length, made = answer
+        refusal = Refused(number, place, pointer) if number != 0 else None
+        if not made:
+            raise refusal
+        self._length = length
+        return Walked(refusal, statements)
