@@ -191,6 +191,7 @@ pub fn vector(case: &Case) -> String {
 #[cfg(test)]
 mod tests {
     use super::*;
+    use crate::edits::{EditCase, Edited};
     use crate::proved::{Checked, Fast};
     use crate::turns::{Parts, TurnsWords};
     use crate::vectors;
@@ -217,6 +218,10 @@ mod tests {
 
         fn dispatch(&self, parts: &mut Parts) -> TurnsWords {
             Fast.dispatch(parts)
+        }
+
+        fn edits(&self, case: &EditCase) -> Edited {
+            Fast.edits(case)
         }
     }
 

@@ -1,22 +1,31 @@
 //! The comparison of an implementation with the plain form where a table is edited.
 
-use crate::edits::{plain, EditCase, Edited, Written};
+use crate::edits::{plain, EditAnswer, EditCase, Edited, Written};
 use crate::generate::edits_case;
 use crate::parallel::lowest;
 use crate::proved::{show_check_words, Implementation};
 use crate::vectors::join;
 use std::fmt::Write;
 
-/// What differs on a case, in words; `None` where all agrees, or the other has no such service.
+/// What differs on a case, in words; `None` where all agrees.
 pub fn difference(case: &EditCase, other: &dyn Implementation) -> Option<String> {
-    let (right, theirs) = (plain(case), other.edits(case)?);
-    if right == theirs {
-        return None;
-    }
-    let [ours, theirs] = [&right, &theirs].map(answer_lines);
-    let place = (0..ours.len().max(theirs.len())).find(|&line| ours.get(line) != theirs.get(line));
-    let line = |lines: &[String]| place.and_then(|place| lines.get(place).cloned()).unwrap_or_default();
-    Some(format!("edits: {} and {}", line(&ours), line(&theirs)))
+    let (right, theirs) = (plain(case), other.edits(case));
+    let differs = |call: &usize| right.get(*call) != theirs.get(*call);
+    let call = (0..right.len().max(theirs.len())).find(differs)?;
+    let what = match call {
+        0 => "start".to_string(),
+        edit => format!("edit {}", edit - 1),
+    };
+    let [ours, theirs] = [&right, &theirs].map(|edited| edited.get(call).map(answer_text));
+    Some(match (ours, theirs) {
+        (Some(ours), Some(theirs)) if ours == theirs => format!("{what}: buffers differ after {ours}"),
+        (ours, theirs) => format!("{what}: {} and {}", ours.unwrap_or_default(), theirs.unwrap_or_default()),
+    })
+}
+
+/// An answer but for its buffer.
+fn answer_text(answer: &EditAnswer) -> String {
+    format!("words {:?} stored {:?}", answer.words, answer.stored)
 }
 
 /// The first difference among the cases from `first` on, as a report.
@@ -77,7 +86,7 @@ pub fn vector(case: &EditCase) -> String {
 /// The lines of an answer, in the format of the vector files.
 pub fn answer_lines(edited: &Edited) -> Vec<String> {
     let mut lines = Vec::new();
-    for (number, answer) in edited.answers.iter().enumerate() {
+    for (number, answer) in edited.iter().enumerate() {
         let [cause, place, pointer, count, _, is_edited] = answer.words;
         let verdict = show_check_words([cause, place, pointer]);
         match (number, is_edited) {
@@ -88,7 +97,7 @@ pub fn answer_lines(edited: &Edited) -> Vec<String> {
         }
         lines.push(format!("stored: {}", join(&answer.stored)).trim_end().to_string());
     }
-    lines.push(format!("buffer: {}", join(&edited.buffer)));
+    lines.extend(edited.last().map(|answer| format!("buffer: {}", join(&answer.buffer))));
     lines
 }
 
@@ -112,7 +121,7 @@ mod tests {
         let (mut edits, mut resumed) = (0, 0);
         for number in 0..2_000 {
             let case = edits_case(52, number);
-            for answer in &plain(&case).answers[1..] {
+            for answer in &plain(&case)[1..] {
                 let [cause, _, _, count, _, edited] = answer.words;
                 seen.insert((edited, cause));
                 edits += u64::from(edited == 1);
@@ -155,12 +164,12 @@ mod tests {
             Fast.dispatch(parts)
         }
 
-        fn edits(&self, case: &EditCase) -> Option<Edited> {
-            let mut edited = Fast.edits(case)?;
-            for answer in edited.answers.iter_mut().filter(|answer| answer.words[5] == 1).skip(1) {
+        fn edits(&self, case: &EditCase) -> Edited {
+            let mut edited = Fast.edits(case);
+            for answer in edited.iter_mut().filter(|answer| answer.words[5] == 1).skip(1) {
                 answer.stored.push(u32::MAX);
             }
-            Some(edited)
+            edited
         }
     }
 

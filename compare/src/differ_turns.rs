@@ -182,6 +182,7 @@ pub fn answer_lines<E: ToString>(turns: &Turns, answer: &Result<Dispatched, E>) 
 #[cfg(test)]
 mod tests {
     use super::*;
+    use crate::edits::{EditCase, Edited};
     use crate::proved::{Checked, Fast, RunWords};
     use crate::turns::TurnsWords;
     use crate::vectors;
@@ -212,6 +213,10 @@ mod tests {
                 [3, 14, ..] => vec![0],
                 ref words => words.to_vec(),
             }
+        }
+
+        fn edits(&self, case: &EditCase) -> Edited {
+            Fast.edits(case)
         }
     }
 

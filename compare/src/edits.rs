@@ -30,21 +30,20 @@ impl Written {
     }
 }
 
-/// The answer of a start or an edit, and the positions stored then.
+/// Number, place and pointer of the verdict, or of the refusal of an edit that was not made; statements walked; words of
+/// the table; 1 where it was taken or edited.
+pub type EditWords = [u32; 6];
+
+/// The answer of a start or an edit; the positions stored and the buffer then.
 #[derive(Clone, Debug, PartialEq, Eq)]
 pub struct EditAnswer {
-    /// Number, place and pointer of the verdict, or of the refusal of an edit that was not made; statements walked; words
-    /// of the table; 1 where it was taken or edited.
-    pub words: [u32; 6],
+    pub words: EditWords,
     pub stored: Vec<u32>,
-}
-
-/// The answers of the start and of each edit, none behind a start that is refused; the buffer at the end.
-#[derive(Clone, Debug, PartialEq, Eq)]
-pub struct Edited {
-    pub answers: Vec<EditAnswer>,
     pub buffer: Vec<i32>,
 }
+
+/// The answers of the start and of each edit, none behind a start that is refused.
+pub type Edited = Vec<EditAnswer>;
 
 fn verdict_words(verdict: &CheckAnswer) -> [u32; 3] {
     let words =
@@ -52,31 +51,34 @@ fn verdict_words(verdict: &CheckAnswer) -> [u32; 3] {
     verdict.as_ref().err().map_or([0; 3], words)
 }
 
-/// The answer of a start or an edit that left this length and these positions.
-pub fn edit_answer(answer: Result<Walked, Refusal>, length: usize, stored: Vec<u32>) -> EditAnswer {
+/// The words of a start or an edit that left a table of this length.
+pub fn edit_words(answer: Result<Walked, Refusal>, length: usize) -> EditWords {
     let (verdict, count, edited) = match answer {
         Ok(walked) => (walked.verdict, walked.count, 1),
         Err(refusal) => (Err(refusal), 0, 0),
     };
     let [number, place, pointer] = verdict_words(&verdict);
-    EditAnswer { words: [number, place, pointer, count as u32, length as u32, edited], stored }
+    [number, place, pointer, count as u32, length as u32, edited]
 }
 
 /// The answers of the plain form.
 pub fn plain(case: &EditCase) -> Edited {
-    let stored = |editor: &Editor| editor.stored.iter().map(|&position| position as u32).collect();
     let started = Editor::start(case.buffer.clone(), case.length, case.places, &case.keep);
     let (mut editor, walked) = match started {
         Err(refusal) => {
-            let answer = edit_answer(Err(refusal), case.length, Vec::new());
-            return Edited { answers: vec![answer], buffer: case.buffer.clone() };
+            let words = edit_words(Err(refusal), case.length.min(case.buffer.len()));
+            return vec![EditAnswer { words, stored: Vec::new(), buffer: case.buffer.clone() }];
         }
         Ok(started) => started,
     };
-    let mut answers = vec![edit_answer(Ok(walked), editor.length, stored(&editor))];
+    let answer = |editor: &Editor, answer: Result<Walked, Refusal>| {
+        let stored = editor.stored.iter().map(|&position| position as u32).collect();
+        EditAnswer { words: edit_words(answer, editor.length), stored, buffer: editor.buffer.clone() }
+    };
+    let mut answers = vec![answer(&editor, Ok(walked))];
     for written in &case.edits {
-        let answer = editor.edit(written.edit(), &written.keep);
-        answers.push(edit_answer(answer, editor.length, stored(&editor)));
+        let walked = editor.edit(written.edit(), &written.keep);
+        answers.push(answer(&editor, walked));
     }
-    Edited { answers, buffer: editor.buffer }
+    answers
 }

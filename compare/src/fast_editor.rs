@@ -1,6 +1,6 @@
 //! The editor's service in its fast form: it keeps what is known at its places and goes on from there.
 
-use crate::edits::{edit_answer, EditCase, Edited, Written};
+use crate::edits::{edit_words, EditAnswer, EditCase, Edited, Written};
 use crate::fast_bounds::InForce;
 use crate::fast_check::Resumed;
 use crate::fast_facts::FastFacts;
@@ -32,17 +32,18 @@ pub fn edits(case: &EditCase) -> Edited {
         FastEditor { buffer: case.buffer.clone(), length, room: case.places, places: Vec::new() };
     let started = decode(&editor.buffer[..length]).map(|routine| editor.walk(&routine, &case.keep));
     let is_taken = started.is_ok();
-    let mut answers = vec![edit_answer(started, length, editor.positions())];
+    let mut answers = vec![editor.answer(started)];
     for written in case.edits.iter().filter(|_| is_taken) {
-        let answer = editor.edit(written);
-        answers.push(edit_answer(answer, editor.length, editor.positions()));
+        let walked = editor.edit(written);
+        answers.push(editor.answer(walked));
     }
-    Edited { answers, buffer: editor.buffer }
+    answers
 }
 
 impl FastEditor {
-    fn positions(&self) -> Vec<u32> {
-        self.places.iter().map(|place| place.position as u32).collect()
+    fn answer(&self, answer: Result<Walked, Refusal>) -> EditAnswer {
+        let stored = self.places.iter().map(|place| place.position as u32).collect();
+        EditAnswer { words: edit_words(answer, self.length), stored, buffer: self.buffer.clone() }
     }
 
     fn edit(&mut self, written: &Written) -> Result<Walked, Refusal> {

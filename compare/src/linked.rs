@@ -1,5 +1,7 @@
 //! The proved implementation behind the seam, through the wrapper that Rust programs use.
 
+use crate::edits::{EditCase, Edited};
+use crate::linked_editor;
 use crate::proved::{CheckWords, Checked, Implementation, RunWords};
 use crate::turns::{Parts, TurnsWords};
 use mizzengrape::{Outcome, Refusal, Room, Turns, Verdict};
@@ -11,7 +13,7 @@ fn refusal_words(refusal: Refusal) -> CheckWords {
     [refusal.number, refusal.place, refusal.pointer.unwrap_or(0)]
 }
 
-fn verdict_words(verdict: Verdict) -> CheckWords {
+pub fn verdict_words(verdict: Verdict) -> CheckWords {
     match verdict {
         Verdict::Accepted => [0; 3],
         Verdict::Refused(refusal) => refusal_words(refusal),
@@ -70,5 +72,9 @@ impl Implementation for Proved {
                 [0, outcomes.len() as u32, 0, 0, 0].into_iter().chain(words).collect()
             }
         }
+    }
+
+    fn edits(&self, case: &EditCase) -> Edited {
+        linked_editor::edits(case)
     }
 }

@@ -2,6 +2,7 @@
 //! generated cases; a fast form of the second one; measurements.
 
 mod bench;
+mod damaged_edits;
 mod differ;
 mod differ_edits;
 mod differ_turns;
@@ -15,6 +16,7 @@ mod fast_run;
 mod fast_turns;
 mod generate;
 mod linked;
+mod linked_editor;
 mod noninterference;
 mod parallel;
 mod promises;
@@ -32,6 +34,7 @@ use std::process::ExitCode;
 const USAGE: &str = "usage: compare vectors DIR
        compare stats SEED COUNT
        compare differ SEED COUNT [FIRST]
+       compare edits SEED COUNT [FIRST]
        compare show SEED NUMBER [turns|edits]
        compare bench [check|run|rows|sizes|facts|turns]
        compare stack [KIB]";
@@ -44,6 +47,8 @@ fn main() -> ExitCode {
         ["stats", seed, count] => show_stats(seed, count),
         ["differ", seed, count] => search(seed, count, "0"),
         ["differ", seed, count, first] => search(seed, count, first),
+        ["edits", seed, count] => search_edits(seed, count, "0"),
+        ["edits", seed, count, first] => search_edits(seed, count, first),
         ["show", seed, number] => show(seed, number),
         ["show", seed, number, "turns"] => show_turns(seed, number),
         ["show", seed, number, "edits"] => show_edits(seed, number),
@@ -59,7 +64,7 @@ fn main() -> ExitCode {
         }
         ["stack"] => Ok(match stack::least() {
             Some(kib) => {
-                println!("{kib} KiB of stack are enough for a check and a run of the deepest table");
+                println!("{kib} KiB of stack are enough for all calls with the deepest tables");
                 true
             }
             None => {
@@ -126,38 +131,58 @@ fn show_stats(seed: &str, count: &str) -> Result<bool, String> {
 /// The first difference from a number on among so many cases of a seed.
 type Search = fn(u64, u64, u64, &dyn proved::Implementation) -> Option<String>;
 
-/// For so many runs of a routine one set of routines in turn, and one table that is edited.
+/// For so many runs of a routine one set of routines in turn.
 const RUNS_A_SET: u64 = 8;
 
-const EDITED: &str = "edited tables";
+/// For so many runs of a routine one table that is edited, and one while it is damaged.
+const RUNS_AN_EDITED: u64 = 16;
 
 /// Compares every implementation behind the seam with the plain form.
 fn search(seed: &str, count: &str, first: &str) -> Result<bool, String> {
     let (seed, count, first) = (number(seed)?, number(count)?, number(first)?);
-    let kinds: [(&str, Search, u64); 3] = [
+    let kinds: [(&str, Search, u64); 2] = [
         ("cases", differ::search, count),
         ("sets of routines in turn", differ_turns::search, count.div_ceil(RUNS_A_SET)),
-        (EDITED, differ_edits::search, count.div_ceil(RUNS_A_SET)),
     ];
-    let mut same = true;
+    let is_same = search_kinds(seed, first, &kinds);
+    Ok(edits_agree(seed, count.div_ceil(RUNS_AN_EDITED), first) && is_same)
+}
+
+/// The same for tables that are edited alone.
+fn search_edits(seed: &str, count: &str, first: &str) -> Result<bool, String> {
+    Ok(edits_agree(number(seed)?, number(count)?, number(first)?))
+}
+
+fn edits_agree(seed: u64, count: u64, first: u64) -> bool {
+    let is_same = search_kinds(seed, first, &[("edited tables", differ_edits::search, count)]);
+    let damaged: Search = |seed, first, count, _| damaged_edits::search(seed, first, count);
+    let proved: &dyn proved::Implementation = &linked::Proved;
+    search_kind(seed, first, ("edited tables with damage", damaged, count), proved) && is_same
+}
+
+fn search_kinds(seed: u64, first: u64, kinds: &[(&str, Search, u64)]) -> bool {
+    let mut is_same = true;
     for other in proved::implementations() {
-        for (kind, search, count) in kinds {
-            if kind == EDITED && other.edits(&edits::EditCase::default()).is_none() {
-                println!("{}: {kind} are not compared, it has no such service", other.name());
-                continue;
-            }
-            match search(seed, first, count, other.as_ref()) {
-                None => {
-                    println!("{}: {count} {kind} of seed {seed} from {first}, no difference", other.name())
-                }
-                Some(report) => {
-                    print!("{report}");
-                    same = false;
-                }
-            }
+        for kind in kinds {
+            is_same &= search_kind(seed, first, *kind, other.as_ref());
         }
     }
-    Ok(same)
+    is_same
+}
+
+/// One sort of cases of one implementation; true where all agree.
+fn search_kind(
+    seed: u64,
+    first: u64,
+    (kind, search, count): (&str, Search, u64),
+    other: &dyn proved::Implementation,
+) -> bool {
+    let report = search(seed, first, count, other);
+    match &report {
+        None => println!("{}: {count} {kind} of seed {seed} from {first}, no difference", other.name()),
+        Some(report) => print!("{report}"),
+    }
+    report.is_none()
 }
 
 fn show(seed: &str, case: &str) -> Result<bool, String> {

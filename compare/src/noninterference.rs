@@ -73,6 +73,7 @@ impl Pair {
 mod tests {
     use super::*;
     use crate::differ;
+    use crate::edits::{EditCase, Edited};
     use crate::generate::Case;
     use crate::proved::{run_words, Checked, Fast, Implementation};
     use crate::turns::{Parts, TurnsWords};
@@ -129,6 +130,10 @@ mod tests {
 
         fn dispatch(&self, parts: &mut Parts) -> TurnsWords {
             Fast.dispatch(parts)
+        }
+
+        fn edits(&self, case: &EditCase) -> Edited {
+            Fast.edits(case)
         }
     }
 

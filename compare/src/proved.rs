@@ -43,10 +43,8 @@ pub trait Implementation: Sync {
     /// Several routines in turn; may write `cells` and `values`, and nothing else.
     fn dispatch(&self, parts: &mut Parts) -> TurnsWords;
 
-    /// An editor's service, where there is one.
-    fn edits(&self, _: &EditCase) -> Option<Edited> {
-        None
-    }
+    /// A table that is edited.
+    fn edits(&self, case: &EditCase) -> Edited;
 }
 
 /// The fast form of this crate behind the seam.
@@ -80,8 +78,8 @@ impl Implementation for Fast {
         turns_words(&answer)
     }
 
-    fn edits(&self, case: &EditCase) -> Option<Edited> {
-        Some(fast_editor::edits(case))
+    fn edits(&self, case: &EditCase) -> Edited {
+        fast_editor::edits(case)
     }
 }
 

@@ -1,12 +1,14 @@
-//! The stack that the proved check and run take: the least stack of a thread on which both come through the deepest
+//! The stack that the proved calls take: the least stack of a thread on which all of them come through the deepest
 //! accepted tables. A thread whose stack is too small ends its process, so that each size is tried in a process of its own.
 
+use crate::edits::{EditCase, Written};
 use crate::linked::Proved;
 use crate::proved::Implementation;
 use crate::turns::Parts;
 use oracle::answer::RunInput;
 use oracle::dispatch::{Member, Turns};
 use oracle::draft::*;
+use oracle::editor::REPLACE;
 use oracle::table::MAX_DEPTH;
 use std::process::{Command, Stdio};
 use std::thread;
@@ -55,22 +57,31 @@ fn in_turn() -> Parts {
     Parts::of(&Turns { members, cells: vec![0; 10], quantum: 2, total: 300 })
 }
 
+/// A table whose only statement outside of all blocks is replaced by itself, from the start and from a place there.
+fn edited(table: &Draft) -> EditCase {
+    let buffer = table.words();
+    let text = table.statements.concat();
+    let written = Written { operation: REPLACE, position: 0, text, keep: vec![0] };
+    EditCase { length: buffer.len(), buffer, places: 1, keep: vec![], edits: vec![written; 2] }
+}
+
 /// All calls for each table on a thread with a stack of so many KiB.
 pub fn probe(kib: usize) {
     let calls = || {
         let turns = Proved.dispatch(&mut in_turn())[0];
         let alone = deepest().map(|(table, list)| {
+            let edits: u32 = Proved.edits(&edited(&table)).iter().map(|answer| answer.words[0]).sum();
             let table = table.words();
             let checks = [Proved.check_alone(&table)[0], Proved.check(&table, &list).words[0]];
             let runs =
                 [Proved.run_alone(&table, &mut input())[0], Proved.run(&table, &list, &mut input())[0]];
-            [checks, runs]
+            (checks, runs, edits)
         });
         (turns, alone)
     };
     let thread = thread::Builder::new().stack_size(kib * KIB).spawn(calls).expect("a thread");
     let answers = thread.join().expect("all calls return");
-    assert_eq!(answers, (0, [[[0; 2]; 2]; 3]), "ran, accepted and done");
+    assert_eq!(answers, (0, [([0; 2], [0; 2], 0); 3]), "ran, accepted and done");
 }
 
 fn survives(kib: usize) -> bool {
@@ -100,6 +111,7 @@ pub fn least() -> Option<usize> {
 #[cfg(test)]
 mod tests {
     use super::*;
+    use crate::edits::plain;
     use crate::turns::turns_words;
     use mizzengrape::STACK_BYTES;
     use oracle::dispatch::dispatch;
@@ -120,6 +132,10 @@ mod tests {
             let depth = table.statements.iter().filter(|record| [11, 12].contains(&record[0])).count();
             let answer = machine::run_with_facts(&table.words(), &list, &mut input()).to_string();
             assert!(depth == MAX_DEPTH && answer.starts_with("done"), "{depth} {answer}");
+        }
+        for (table, _) in deepest() {
+            let edited = plain(&edited(&table));
+            assert!(edited.len() == 3 && edited.iter().all(|answer| answer.words[0] == 0), "{edited:?}");
         }
         let words = turns_words(&dispatch(&mut in_turn().turns()));
         assert!(words.len() == 17 && words[5..].chunks(4).all(|words| words[0] == 0), "{words:?}");
