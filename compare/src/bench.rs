@@ -4,7 +4,7 @@ use crate::generate::{accepted, accepted_with_rows, accepted_with_sizes};
 use crate::linked::Proved;
 use crate::proved::{Fast, Implementation};
 use crate::turns::Parts;
-use crate::{fast_check, fast_run};
+use crate::{bench_edits, fast_check, fast_run};
 use oracle::answer::{RunAnswer, RunInput};
 use oracle::dispatch::{Member, Turns};
 use oracle::draft::*;
@@ -16,8 +16,15 @@ use std::time::Instant;
 const STATEMENTS: usize = 1_024;
 
 /// The parts of the benchmark, in their order.
-pub const PARTS: [(&str, fn()); 6] =
-    [("check", check), ("run", run), ("rows", rows), ("sizes", sizes), ("facts", facts), ("turns", turns)];
+pub const PARTS: [(&str, fn()); 7] = [
+    ("check", check),
+    ("run", run),
+    ("rows", rows),
+    ("sizes", sizes),
+    ("facts", facts),
+    ("turns", turns),
+    ("edits", bench_edits::edits),
+];
 
 /// Nanoseconds for one call: the best of many short rounds, as other work on
 /// the machine only ever adds to a round.

@@ -2,6 +2,7 @@
 //! generated cases; a fast form of the second one; measurements.
 
 mod bench;
+mod bench_edits;
 mod damaged_edits;
 mod differ;
 mod differ_edits;
@@ -36,7 +37,7 @@ const USAGE: &str = "usage: compare vectors DIR
        compare differ SEED COUNT [FIRST]
        compare edits SEED COUNT [FIRST]
        compare show SEED NUMBER [turns|edits]
-       compare bench [check|run|rows|sizes|facts|turns]
+       compare bench [check|run|rows|sizes|facts|turns|edits]
        compare stack [KIB]";
 
 fn main() -> ExitCode {
