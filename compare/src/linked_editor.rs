@@ -40,7 +40,7 @@ impl Lent {
     /// A store with room for so many places; of none it may be empty. Words behind the last place that fits are no place.
     pub fn new(case: &EditCase) -> Lent {
         let words = mizzengrape::store_words(case.places) + (case.length + 37 * case.places) % 300;
-        let words = if case.places == 0 && case.length % 2 == 0 { 0 } else { words };
+        let words = if case.places == 0 && case.length.is_multiple_of(2) { 0 } else { words };
         Lent { buffer: Guarded::new(&case.buffer, -7), store: Guarded::new(&vec![0; words], 0x7777) }
     }
 
