@@ -2,7 +2,7 @@
 
 use std::fmt;
 
-pub use mizzengrape::{dispatch, Check, Outcome, Routine, Turns};
+pub use mizzengrape::{dispatch, Check, Edit, Outcome, Routine, Turns};
 
 /// A refusal, and in a set the routine that is refused.
 #[derive(Clone, Copy, Debug, PartialEq, Eq)]
@@ -39,6 +39,15 @@ impl fmt::Display for Refusal {
 pub enum Verdict {
     Accepted,
     Refused(Refusal),
+}
+
+impl From<mizzengrape::Verdict> for Verdict {
+    fn from(verdict: mizzengrape::Verdict) -> Verdict {
+        match verdict {
+            mizzengrape::Verdict::Accepted => Verdict::Accepted,
+            mizzengrape::Verdict::Refused(refusal) => Verdict::Refused(refusal.into()),
+        }
+    }
 }
 
 impl fmt::Display for Verdict {
@@ -92,11 +101,27 @@ pub fn check(tables: &[Vec<i32>], facts: &[i32]) -> Asked<Checked> {
 /// The check of one routine with its list of loop facts.
 pub fn check_table(table: &[i32], facts: &[i32]) -> Checked {
     let (verdict, safe) = mizzengrape::check_with_facts(table, facts);
-    let verdict = match verdict {
-        mizzengrape::Verdict::Accepted => Verdict::Accepted,
-        mizzengrape::Verdict::Refused(refusal) => Verdict::Refused(refusal.into()),
-    };
-    Checked { verdict, safe }
+    Checked { verdict: verdict.into(), safe }
+}
+
+/// A routine without loop facts that is edited one statement outside of all blocks at a time, with the verdict on it each time.
+pub struct Editor(mizzengrape::Editor);
+
+impl Editor {
+    /// None where the table is refused by its form (1 to 6).
+    pub fn start(table: &[i32], places: usize, keep: &[u32]) -> Option<(Editor, Verdict)> {
+        let (editor, walked) = mizzengrape::Editor::start(table, places, keep).ok()?;
+        Some((Editor(editor), walked.verdict.into()))
+    }
+
+    /// None where the edit is refused: then nothing is changed.
+    pub fn edit(&mut self, edit: Edit, position: u32, keep: &[u32]) -> Option<Verdict> {
+        self.0.edit(edit, position, keep).ok().map(|walked| walked.verdict.into())
+    }
+
+    pub fn table(&self) -> &[i32] {
+        self.0.table()
+    }
 }
 
 /// The first refusal by causes 1 to 6: where there is none, the tables have a text.

@@ -190,15 +190,19 @@ impl Table {
 
     /// How many statements a head takes with all its blocks, itself too.
     pub fn extent(&self, statement: usize) -> usize {
-        let record = &self.statements[statement];
-        let counted: i64 = match record[0] {
-            11 => i64::from(record[5]) + i64::from(record[6]),
-            12 => i64::from(record[5]),
-            13 => i64::from(record[1]),
-            _ => 0,
-        };
-        1 + counted.max(0) as usize
+        extent(&self.statements[statement])
     }
+}
+
+/// The records of a statement with those of its blocks.
+pub fn extent(record: &[i32; STATEMENT_WORDS]) -> usize {
+    let counted: i64 = match record[0] {
+        11 => i64::from(record[5]) + i64::from(record[6]),
+        12 => i64::from(record[5]),
+        13 => i64::from(record[1]),
+        _ => 0,
+    };
+    1 + counted.max(0) as usize
 }
 
 fn records<const N: usize>(words: &[i32]) -> Vec<[i32; N]> {

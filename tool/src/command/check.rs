@@ -91,7 +91,7 @@ fn checked(files: &[String], arguments: &Arguments) -> Result<Output, String> {
     let program = Program::load(files, arguments.option("--facts"), short)?;
     let (mut output, checked) = answer(&program, short)?;
     if arguments.flag("--report") && checked.verdict == Verdict::Accepted {
-        output.out.push_str(&report(&program, &checked.safe));
+        output.out.push_str(&report(&program, checked.safe()));
     }
     Ok(output)
 }

@@ -167,8 +167,8 @@ impl<'a> Place<'a> {
 #[derive(Debug)]
 pub struct Checked {
     pub verdict: Verdict,
-    /// Of an accepted routine the statements of the accesses that stop no run at check 2 or 3, ascending.
-    pub safe: Vec<u32>,
+    /// Of an accepted routine the statements of the accesses that stop no run at check 2 or 3, ascending; none where only a verdict was asked for.
+    pub safe: Option<Vec<u32>>,
     /// The second implementation's verdict, where that is another one: then nothing is explained.
     pub other: Option<String>,
     /// The reason for a refusal.
@@ -176,30 +176,30 @@ pub struct Checked {
 }
 
 pub fn check(program: &Program) -> Asked<Checked> {
-    Ok(explained(program, library::check(&program.tables, &program.facts)?))
+    let library::Checked { verdict, safe } = library::check(&program.tables, &program.facts)?;
+    Ok(explained(program, verdict, Some(safe)))
 }
 
-/// What is said of the library's verdict on a program, and of its report.
-pub fn explained(program: &Program, checked: library::Checked) -> Checked {
-    let second = Second::of(program, &checked.verdict);
-    let other = second.other_verdict(&checked);
-    let reason = match &checked.verdict {
+/// What is said of the library's verdict on a program, and of its report where it was asked for.
+pub fn explained(program: &Program, verdict: Verdict, safe: Option<Vec<u32>>) -> Checked {
+    let second = Second::of(program, &verdict);
+    let other = second.other_verdict(&verdict, safe.as_deref());
+    let reason = match &verdict {
         Verdict::Refused(refusal) if other.is_none() => Some(second.explain(program, refusal)),
         _ => None,
     };
-    let library::Checked { verdict, safe } = checked;
     Checked { verdict, safe, other, reason }
 }
 
 impl Checked {
-    /// What the library said.
-    pub fn by_library(&self) -> library::Checked {
-        library::Checked { verdict: self.verdict, safe: self.safe.clone() }
+    /// The reported accesses.
+    pub fn safe(&self) -> &[u32] {
+        self.safe.as_deref().unwrap_or_default()
     }
 
     /// `safe: 4 7`, where there are some.
     pub fn safe_line(&self) -> Option<String> {
-        let listed: String = self.safe.iter().map(|statement| format!(" {statement}")).collect();
+        let listed: String = self.safe().iter().map(|statement| format!(" {statement}")).collect();
         (!listed.is_empty()).then(|| format!("safe:{listed}"))
     }
 }
@@ -270,9 +270,9 @@ impl Second {
     }
 
     /// Its verdict and report, where they are others than the proved ones.
-    fn other_verdict(&self, checked: &library::Checked) -> Option<String> {
+    fn other_verdict(&self, verdict: &Verdict, safe: Option<&[u32]>) -> Option<String> {
         let answer = &self.seen.as_ref()?.answer;
-        let same = agree(&checked.verdict, answer) && checked.safe == self.safe;
+        let same = agree(verdict, answer) && safe.is_none_or(|safe| safe == self.safe);
         (!same).then(|| format!("{}, safe: {:?}", oracle::answer::show_check(answer), self.safe))
     }
 

@@ -1,7 +1,7 @@
 //! What changed in a program since it was checked: what a re-check of a part has to know.
 
 use crate::program::Program;
-use crate::table::{Table, STATEMENT_WORDS};
+use crate::table::{extent, Table, STATEMENT_WORDS};
 use std::ops::Range;
 
 #[derive(Debug, PartialEq, Eq)]
@@ -30,7 +30,7 @@ pub fn change(old: &Program, new: &Program) -> Change {
     if old.facts != new.facts || declared(&before) != declared(&after) {
         return Change::Anything;
     }
-    let (old, new) = (top_level(&before), top_level(&after));
+    let (old, new) = (top_level(&before.statements), top_level(&after.statements));
     let (first, rest) = common_ends(&old, &new);
     let records = |statements: &[&[Record]]| statements.iter().map(|statement| statement.len()).sum();
     let place = |statements: &[&[Record]]| {
@@ -50,12 +50,10 @@ pub fn common_ends<T: PartialEq>(old: &[T], new: &[T]) -> (usize, usize) {
 type Record = [i32; STATEMENT_WORDS];
 
 /// The statements outside of all blocks, each with its own.
-fn top_level(table: &Table) -> Vec<&[Record]> {
-    let mut rest = &table.statements[..];
+pub fn top_level(mut rest: &[Record]) -> Vec<&[Record]> {
     let mut statements = Vec::new();
-    while !rest.is_empty() {
-        let at = table.statements.len() - rest.len();
-        let (statement, others) = rest.split_at(table.extent(at).min(rest.len()));
+    while let Some(first) = rest.first() {
+        let (statement, others) = rest.split_at(extent(first).min(rest.len()));
         statements.push(statement);
         rest = others;
     }

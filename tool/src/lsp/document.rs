@@ -1,14 +1,16 @@
 //! A document that an editor has open: its text, the verdict on it, the repairs that are offered.
 
 use super::changes::{change, Change};
+use super::findings::DISAGREES;
 use super::fixes::{fixes, Fix};
+use super::service::Service;
 use super::text::Text;
 use crate::diagnostics::Diagnostic;
 use crate::explain::{check, explained, Checked};
-use crate::library::Asked;
+use crate::library::{Asked, Verdict};
 use crate::program::Program;
 use crate::words::assemble_all;
-use std::cell::OnceCell;
+use std::cell::{OnceCell, RefCell};
 
 pub struct Document {
     pub text: Text,
@@ -18,6 +20,8 @@ pub struct Document {
     fixes: OnceCell<Vec<Fix>>,
     /// The last text that was checked, and what was found.
     last: Option<Analysed>,
+    /// What the library knows of it.
+    service: RefCell<Service>,
 }
 
 /// What is known of a text.
@@ -35,7 +39,14 @@ pub struct Analysed {
 
 impl Document {
     pub fn new(name: String, text: String) -> Document {
-        Document { text: Text::new(text), name, now: OnceCell::new(), fixes: OnceCell::new(), last: None }
+        Document {
+            text: Text::new(text),
+            name,
+            now: OnceCell::new(),
+            fixes: OnceCell::new(),
+            last: None,
+            service: RefCell::default(),
+        }
     }
 
     /// Another text; what was known of the one before is kept as the last.
@@ -58,7 +69,7 @@ impl Document {
             Err(errors) => Analysis::Wrong(errors),
             Ok(assembly) => {
                 let program = Program::of_assembly(self.name.clone(), source, assembly);
-                let checked = verdict(&program, self.last.as_ref());
+                let checked = verdict(&program, self.last.as_ref(), &mut self.service.borrow_mut());
                 Analysis::Read(Box::new(Analysed { program, checked }))
             }
         }
@@ -78,15 +89,31 @@ impl Document {
 }
 
 /// The verdict on a program now, by what was checked last: the proved library's always.
-fn verdict(program: &Program, last: Option<&Analysed>) -> Asked<Checked> {
-    match last {
+fn verdict(program: &Program, last: Option<&Analysed>, service: &mut Service) -> Asked<Checked> {
+    let Some(Analysed { program: before, checked: Ok(checked) }) = last else { return check(program) };
+    match (change(before, program), &before.tables[..], &program.tables[..]) {
         // Places in the text may be other ones, the words are the same.
-        Some(Analysed { program: before, checked: Ok(checked) })
-            if change(before, program) == Change::Nothing =>
-        {
-            Ok(explained(program, checked.by_library()))
+        (Change::Nothing, ..) => Ok(explained(program, checked.verdict, checked.safe.clone())),
+        (Change::Statements { old, new }, [table], [edited]) if program.facts.is_empty() => {
+            match service.verdict(table, (old, new), edited) {
+                Some(verdict) => Ok(explained(program, verdict, None)),
+                None => check(program),
+            }
         }
         _ => check(program),
+    }
+}
+
+impl Analysed {
+    /// The reported accesses of an accepted routine: where the library gave a verdict alone, it is asked for them. An error where the second
+    /// implementation reports others.
+    pub fn safe(&self) -> Option<Result<Vec<u32>, &'static str>> {
+        let checked = self.checked.as_ref().ok().filter(|checked| checked.verdict == Verdict::Accepted)?;
+        if let Some(safe) = &checked.safe {
+            return Some(Ok(safe.clone()));
+        }
+        let Checked { safe, other, .. } = check(&self.program).ok()?;
+        Some(if other.is_some() { Err(DISAGREES) } else { Ok(safe?) })
     }
 }
 

@@ -12,6 +12,9 @@ use std::ops::Range;
 const ERROR: u32 = 1;
 const WARNING: u32 = 2;
 
+/// What is said where the second implementation is of another opinion.
+pub const DISAGREES: &str = "the explainer disagrees with the proved verdict; please report this routine";
+
 pub struct Finding {
     pub range: Range<Position>,
     severity: u32,
@@ -66,9 +69,7 @@ pub fn findings(document: &Document) -> Vec<Finding> {
             let found = match checked {
                 Err(lack) => Some(error(program.lacking_at(), lack)),
                 Ok(Checked { other: Some(other), verdict, .. }) => {
-                    let message =
-                        "the explainer disagrees with the proved verdict; please report this routine";
-                    let both = format!("{message}: proved {verdict}, explainer {other}");
+                    let both = format!("{DISAGREES}: proved {verdict}, explainer {other}");
                     Some(error(None, &both))
                 }
                 Ok(Checked { reason, .. }) => reason.as_ref().map(|reason| refusal(text, program, reason)),

@@ -7,7 +7,6 @@ use super::protocol::Client;
 use super::text::Position;
 use crate::diagnostics::Pos;
 use crate::explain::{pages::page, report, state};
-use crate::library::Verdict;
 
 pub fn hover(document: &Document, at: Position, client: &Client) -> Json {
     let known = match document.analysis() {
@@ -29,7 +28,7 @@ pub fn hover(document: &Document, at: Position, client: &Client) -> Json {
 
 /// What is known before the statement at a place: the last one of its line that begins up to there, else the first one.
 fn known(analysed: &Analysed, at: Pos) -> Option<String> {
-    let Analysed { program, checked } = analysed;
+    let program = &analysed.program;
     let routines = program.text.as_ref()?.map.routines.iter().enumerate();
     let statements = routines.flat_map(|(routine, map)| {
         map.statements.iter().enumerate().map(move |(number, start)| (*start, (routine, number)))
@@ -39,10 +38,16 @@ fn known(analysed: &Analysed, at: Pos) -> Option<String> {
     let (start, statement) = under.or(on_line.first())?;
     // Behind a refused statement nothing is known, and that is said.
     let mut known = state(program, *statement, true).unwrap_or_else(|why| why + "\n");
-    if let Some(checked) = checked.as_ref().ok().filter(|checked| checked.verdict == Verdict::Accepted) {
-        let place = format!("{}:{start}: ", program.name);
-        let reported = report(program, &checked.safe);
-        known.extend(reported.lines().filter_map(|line| Some(format!("{}\n", line.strip_prefix(&place)?))));
+    let place = format!("{}:{start}: ", program.name);
+    match analysed.safe() {
+        Some(Ok(safe)) => {
+            let reported = report(program, &safe);
+            known.extend(
+                reported.lines().filter_map(|line| Some(format!("{}\n", line.strip_prefix(&place)?))),
+            );
+        }
+        Some(Err(what)) => known.push_str(&format!("{what}\n")),
+        None => {}
     }
     Some(known)
 }

@@ -11,6 +11,7 @@ pub mod json;
 mod loop_facts;
 mod protocol;
 mod server;
+mod service;
 mod symbols;
 #[cfg(test)]
 mod tests;
