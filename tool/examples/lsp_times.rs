@@ -77,7 +77,7 @@ fn edit(text: &str, place: Place, change: u32) -> Json {
     match place {
         Place::Declared => {
             let kinds = ["unsigned v10)", "array_ptr<unsigned> v10 : count(0))"];
-            let [old, new] = if change % 2 == 0 { kinds } else { [kinds[1], kinds[0]] };
+            let [old, new] = if change.is_multiple_of(2) { kinds } else { [kinds[1], kinds[0]] };
             let (line, content) = lines[0];
             let from = content.find(kinds[0]).expect("a variable") as u32;
             replaced(line, from, from + old.len() as u32, new)
