@@ -2,6 +2,7 @@ use super::*;
 use crate::library::check_table;
 use crate::lsp::changes::{change, Change};
 use crate::program::Program;
+use std::thread;
 
 const SEQUENCES: usize = 10_000;
 const EDITS: usize = 3;
@@ -53,11 +54,11 @@ fn piece(random: &mut Random) -> &'static str {
     }
 }
 
-fn program(statements: &[&str]) -> Option<Program> {
+fn program(statements: &[&str]) -> Program {
     let body = statements.join("\n    ");
     let text =
         format!("void f(array_ptr<unsigned> p : count(n), unsigned n, unsigned x)\n{{\n    {body}\n}}\n");
-    Program::of_text("r.c", text, true).ok()
+    Program::of_text("r.c", text, true).expect("a text")
 }
 
 /// One or several statements come, go or are replaced in one place.
@@ -69,30 +70,45 @@ fn edit(random: &mut Random, statements: &mut Vec<&str>) {
     statements.splice(first..first + gone, new);
 }
 
-/// Whatever was edited before, the service's verdict is that of a check of the table now.
+/// Verdicts of the service; how many of them by edits, and how many of a refused routine.
+type Counts = [usize; 3];
+
+/// One text that is edited again and again: the service's verdict is that of a check of the table now.
+fn sequence(number: usize) -> Counts {
+    let mut random = Random((number as u64).wrapping_mul(0x9e37_79b9_7f4a_7c15));
+    let mut statements: Vec<&str> = (0..5 + random.below(26)).map(|_| piece(&mut random)).collect();
+    let mut service = Service::default();
+    let mut before = program(&statements);
+    let mut counts = Counts::default();
+    for _ in 0..EDITS {
+        edit(&mut random, &mut statements);
+        let now = program(&statements);
+        let (old_table, table) = (&before.tables[0], &now.tables[0]);
+        if let Change::Statements { old, new } = change(&before, &now) {
+            let is_started = service.editor.is_some();
+            let verdict = service.verdict(old_table, (old, new), table);
+            assert_eq!(verdict, Some(check_table(table, &[]).verdict), "{:?}", now.text);
+            let is_refused = verdict != Some(Verdict::Accepted);
+            counts = added(counts, [1, usize::from(is_started), usize::from(is_refused)]);
+        }
+        before = now;
+    }
+    counts
+}
+
+fn added(a: Counts, b: Counts) -> Counts {
+    [a[0] + b[0], a[1] + b[1], a[2] + b[2]]
+}
+
+/// Most of the time goes to the texts, so that all processors take part.
 #[test]
 fn the_service_says_what_a_whole_check_says() {
-    let mut random = Random(1);
-    let (mut served, mut resumed, mut refused) = (0, 0, 0);
-    for _ in 0..SEQUENCES {
-        let mut statements: Vec<&str> = (0..5 + random.below(40)).map(|_| piece(&mut random)).collect();
-        let mut service = Service::default();
-        let Some(mut before) = program(&statements) else { continue };
-        for _ in 0..EDITS {
-            edit(&mut random, &mut statements);
-            let Some(now) = program(&statements) else { continue };
-            let (old_table, table) = (&before.tables[0], &now.tables[0]);
-            if let Change::Statements { old, new } = change(&before, &now) {
-                resumed += usize::from(service.editor.is_some());
-                let verdict = service.verdict(old_table, (old, new), table);
-                assert_eq!(verdict, Some(check_table(table, &[]).verdict), "{:?}", now.text);
-                served += 1;
-                refused += usize::from(verdict != Some(Verdict::Accepted));
-            }
-            before = now;
-        }
-    }
-    println!("{served} verdicts, {resumed} by edits, {refused} refused");
+    let threads = thread::available_parallelism().map_or(1, usize::from);
+    let part = |first: usize| (first..SEQUENCES).step_by(threads).map(sequence).fold([0; 3], added);
+    let [served, resumed, refused] = thread::scope(|scope| {
+        let parts: Vec<_> = (0..threads).map(|first| scope.spawn(move || part(first))).collect();
+        parts.into_iter().map(|part| part.join().expect("equal verdicts")).fold([0; 3], added)
+    });
     assert!(served > 2 * SEQUENCES && resumed > SEQUENCES, "{served} {resumed}");
     assert!(refused > served / 10 && refused < served / 2, "{served} {refused}");
 }
@@ -112,7 +128,7 @@ fn one_place_becomes_edits_at_positions_of_the_new_table() {
 #[test]
 fn the_table_before_has_to_be_the_one_that_was_checked() {
     let [first, second, third] =
-        ["x = 1;", "x = 2;", "n = n + 1;"].map(|text| program(&[text]).expect("a text").tables.remove(0));
+        ["x = 1;", "x = 2;", "n = n + 1;"].map(|text| program(&[text]).tables.remove(0));
     let mut service = Service::default();
     assert_eq!(service.verdict(&first, (0..1, 0..1), &second), Some(Verdict::Accepted));
     assert!(service.editor.is_some());
