@@ -127,6 +127,33 @@ mod tests {
     const REFUSED: &str =
         "void f(array_ptr<unsigned> p : count(n), unsigned n, unsigned x)\n{\n    n = n - 1;\n    x = 0;\n}\n";
 
+    /// A verdict of the editor service has no report; a whole check has one.
+    #[test]
+    fn changed_statements_are_checked_by_the_service() {
+        let text = |variables: &str, statements: &str| format!("void f({variables})\n{{\n{statements}\n}}\n");
+        let mut document = Document::new("u".to_string(), text("unsigned x", "x = 1;"));
+        let mut is_whole = |text: String| {
+            document.replace(Text::new(text));
+            match document.analysis() {
+                Analysis::Read(analysed) => {
+                    assert_eq!(analysed.safe(), Some(Ok(vec![])));
+                    analysed.checked.as_ref().is_ok_and(|checked| checked.safe.is_some())
+                }
+                Analysis::Wrong(errors) => panic!("{errors:?}"),
+            }
+        };
+        assert!(is_whole(text("unsigned x", "x = 1;")), "the first");
+        assert!(!is_whole(text("unsigned x", "x = 2;")), "a statement");
+        assert!(!is_whole(text("unsigned x", "x = 3; x = 4; x = 5; x = 6; x = 7; x = 8;")), "more of them");
+        assert!(!is_whole(text("unsigned x", "\nx = 3; x = 7; x = 8;")), "fewer");
+        assert!(is_whole(text("unsigned x, unsigned y", "x = 3; x = 7; x = 8;")), "a declaration");
+        assert!(is_whole(text("unsigned x, unsigned y", "while (x > 3) where x >= 0 { x = 0; }")), "a list");
+        assert!(
+            is_whole(text("unsigned x, unsigned y", "while (x > 3) where x >= 0 { x = 1; }")),
+            "and a statement"
+        );
+    }
+
     /// Whatever was edited before, the findings are those of the text alone.
     #[test]
     fn findings_are_those_of_the_text_now() {
