@@ -90,6 +90,6 @@ fn a_buffer_without_room_or_without_a_table_is_answered() {
     for mut buffer in [vec![], vec![0; 5], vec![-1; 60], ROUTINE[..49].to_vec()] {
         let answer = edit(&mut buffer, 2, 1, &[], &mut [], &[]);
         assert_eq!(answer.verdict, Verdict::Refused(refused(18, 1, None)), "{buffer:?}");
-        assert!(!answer.is_made && answer.walked == 0);
+        assert_eq!((answer.is_made, answer.walked, answer.length), (false, 0, 0));
     }
 }
