@@ -2,19 +2,22 @@
 """What a reader must believe: the files of docs/DEFINITIONS.txt. usage: tools/definitions.py  (run in the repository)
 
 Holds that the list is whole: whatever a contract of an entry point cites stands in a listed file, and a listed file uses listed files alone
-(besides the kit's library and the types that src/ declares). Prints the lines of each file without its `use` lines, blank lines and comments; then all
+(besides the kit's library and the types that src/ declares). A line `invariant FILE` names a predicate that one call gives and the next asks for, of which
+nothing else is said: a contract may cite it, but what it means is no part of the promise, so that its file is neither counted nor followed. Prints the lines of each file without its `use` lines, blank lines and comments; then all
 together, also with the `use` lines counted, and with everything."""
 import re
 import sys
 from pathlib import Path
 
-ENTRY_POINTS = ["checker", "interpreter", "dispatcher", "files", "exports", "lines"]  # crates whose open functions are what others call
+ENTRY_POINTS = ["checker", "interpreter", "dispatcher", "editor", "files", "exports", "lines"]  # crates whose open functions are what others call
 USE = re.compile(r"^\s*(?:ghost )?use Rattle·(\w+?)(?:·specs)?\.specs\.([\w.·-]+?)(?:\.\{([^}]*)\})?(?: as [\w-]+)?;?$")
 
 
 def listed():
-    lines = Path("docs/DEFINITIONS.txt").read_text().splitlines()
-    return [line.strip() for line in lines if line.strip() and not line.startswith("#")]
+    """The files to believe, and the invariants."""
+    lines = [line.strip() for line in Path("docs/DEFINITIONS.txt").read_text().splitlines() if line.strip() and not line.startswith("#")]
+    files = [line for line in lines if not line.startswith("invariant ")]
+    return files, [line.removeprefix("invariant ") for line in lines if line not in files]
 
 
 def uses(path):
@@ -44,10 +47,10 @@ def size(path):
 
 
 def main():
-    files = listed()
+    files, invariants = listed()
     needed = [(path, f"a contract of {crate}") for crate in ENTRY_POINTS for path in cited(crate)]
     needed += [(path, user) for user in files for path, _ in uses(user)]
-    missing = sorted({(path, by) for path, by in needed if path not in files})
+    missing = sorted({(path, by) for path, by in needed if path not in files + invariants})
     for path, by in missing:
         print(f"docs/DEFINITIONS.txt lacks {path}, which {by} uses")
     for path in files:
