@@ -18,10 +18,37 @@ pub enum Repair {
     Else { head: usize, written: String },
     /// A statement before another one, in place of where it stands.
     Move { statement: usize, before: usize },
+    /// A statement behind another one, in place of where it stands.
+    MoveBehind { statement: usize, behind: usize },
     /// Several repairs at once, of different places.
     Several(Vec<Repair>),
     /// These loop facts at a while, in place of those that it has.
     Facts { head: usize, facts: Vec<String> },
+}
+
+impl Repair {
+    /// The statements that it writes before others.
+    fn before(&self) -> Vec<&str> {
+        match self {
+            Repair::Before { written: before, .. }
+            | Repair::Bundle { before, .. }
+            | Repair::AsOne { before, .. } => before.iter().map(String::as_str).collect(),
+            Repair::Several(repairs) => repairs.iter().flat_map(Repair::before).collect(),
+            _ => Vec::new(),
+        }
+    }
+
+    /// The conditions of the checks that it writes, turned round: where a run stops at one of them.
+    pub fn stops(&self) -> Vec<String> {
+        const TURNED: [[&str; 2]; 3] = [[">=", "<"], ["<=", ">"], ["==", "!="]];
+        let stop = |statement: &str| {
+            let condition = statement.strip_prefix("dynamic_check(")?.strip_suffix(");")?;
+            let &[left, relation, right] = &condition.split(' ').collect::<Vec<_>>()[..] else { return None };
+            let pair = TURNED.iter().find(|pair| pair.contains(&relation))?;
+            Some(format!("{left} {} {right}", pair[usize::from(pair[0] == relation)]))
+        };
+        self.before().into_iter().filter_map(stop).collect()
+    }
 }
 
 /// A piece of a text, from one position up to another, in place of which something else is written.
@@ -76,6 +103,12 @@ pub fn edits(repair: &Repair, text: &str, map: &RoutineMap) -> Option<Vec<Edit>>
             let mut edits = vec![Edit::insert(at, layout.before(at, &[moved])), layout.removal(from, to)];
             edits.sort_by_key(|edit| edit.from);
             edits
+        }
+        Repair::MoveBehind { statement, behind } => {
+            let (from, to) = (at(*statement)?, end(*statement)?);
+            let moved = between(text, from, to)?;
+            let parted = layout.between(at(*behind)?);
+            vec![layout.removal(from, to), Edit::insert(end(*behind)?, format!("{parted}{moved}"))]
         }
         Repair::Several(repairs) => {
             let all: Option<Vec<Vec<Edit>>> = repairs.iter().map(|repair| edits(repair, text, map)).collect();
@@ -184,13 +217,13 @@ impl Layout<'_> {
         format!("{inside}where {joined}")
     }
 
-    /// A statement taken out, with its lines where it fills them.
+    /// A statement taken out, with its lines where it fills them, else with the blank behind it.
     fn removal(&self, from: Pos, to: Pos) -> Edit {
         let rest: String = self.source.line(to.line).chars().skip(to.column as usize - 1).collect();
         let fills_lines = self.indentation(from).is_some() && rest.trim().is_empty();
         let (from, to) = match fills_lines {
             true => (Pos { line: from.line, column: 1 }, Pos { line: to.line + 1, column: 1 }),
-            false => (from, to),
+            false => (from, Pos { column: to.column + u32::from(rest.starts_with(' ')), ..to }),
         };
         Edit { from, to, text: String::new() }
     }

@@ -32,19 +32,19 @@ fn followed(statements: &str, advice: &str, repaired: &str) {
 fn a_check_stands_before_the_bundle_where_that_suffices() {
     followed(
         "bundled {\nrow = row + 1;\nrows = rows - 1;\n}",
-        "write dynamic_check(rows >= 1); before line 4",
+        "write dynamic_check(rows >= 1); before line 4; it stops a run where rows < 1",
         "dynamic_check(rows >= 1);\nbundled {\nrow = row + 1;\nrows = rows - 1;\n}",
     );
     // By as much as the count is lowered before.
     followed(
         "bundled {\nrow = row + 2;\nrows = rows - 1;\nrows = rows - 1;\n}",
-        "write dynamic_check(rows >= 2); before line 4",
+        "write dynamic_check(rows >= 2); before line 4; it stops a run where rows < 2",
         "dynamic_check(rows >= 2);\nbundled {\nrow = row + 2;\nrows = rows - 1;\nrows = rows - 1;\n}",
     );
     // What the bundle assigns first is asked behind that.
     followed(
         "bundled {\nrow = o;\nrows = x;\nwhere row : count(rows);\n}",
-        "write dynamic_check(rows <= 8); before line 7",
+        "write dynamic_check(rows <= 8); before line 7; it stops a run where rows > 8",
         "bundled {\nrow = o;\nrows = x;\ndynamic_check(rows <= 8);\nwhere row : count(rows);\n}",
     );
 }
@@ -57,7 +57,8 @@ fn several_checks_are_named_together() {
              bundled {{\ns = s + 1;\nn = n - 1;\nd = d + 1;\nm = m - 1;\n}}\n}}\n"
         )
     };
-    let advice = "write dynamic_check(n >= 1); dynamic_check(m >= 1); before line 3".to_string();
+    let checks = "write dynamic_check(n >= 1); dynamic_check(m >= 1); before line 3";
+    let advice = format!("{checks}; they stop a run where n < 1 or m < 1");
     assert_eq!(help(&copy("")), (Some(advice), "refused 8 0 0".to_string()));
     assert_eq!(
         help(&copy("dynamic_check(n >= 1);\ndynamic_check(m >= 1);\n")),
@@ -74,7 +75,8 @@ fn neighbours_are_put_in_one_bundle() {
     );
     followed(
         "row++;\nrows--;",
-        "put both in one bundled { row = row + 1; rows = rows - 1; }, with dynamic_check(rows >= 1); before it",
+        "put both in one bundled { row = row + 1; rows = rows - 1; }, with dynamic_check(rows >= 1); before it; \
+         it stops a run where rows < 1",
         "dynamic_check(rows >= 1);\nbundled { row = row + 1; rows = rows - 1; }",
     );
     followed(
@@ -137,7 +139,8 @@ fn a_count_that_is_set_anew_is_declared_before_and_behind() {
     );
     followed(
         "rows = x;",
-        "write dynamic_check(x <= rows); where row : count(x); before line 4 and where row : count(rows); behind it",
+        "write dynamic_check(x <= rows); where row : count(x); before line 4 and where row : count(rows); behind it; \
+         it stops a run where x > rows",
         "dynamic_check(x <= rows);\nwhere row : count(x);\nrows = x;\nwhere row : count(rows);",
     );
 }
@@ -153,11 +156,69 @@ fn a_step_by_a_variable_is_a_loop() {
     );
     followed(
         "row = row + x;\nrows = rows - x;",
-        &format!("in place of lines 4 to 5 write dynamic_check(x <= rows); {written}"),
+        &format!("in place of lines 4 to 5 write dynamic_check(x <= rows); {written}; it stops a run where x > rows"),
         &format!("dynamic_check(x <= rows);\n{written}"),
     );
     let needed = help(&routine("dynamic_check(x <= rows);\nrow = row + x;\nrows = rows - x;\nx = x + 1;"));
     assert_eq!(needed, (None, "refused 8 1 0".to_string()));
+}
+
+/// Statements change places only where a run does the same.
+#[test]
+fn what_a_run_does_stays() {
+    // The other way round each of these would be accepted, and be another routine.
+    for statements in ["row = o;\nrow++;", "rows = 0;\nrow = o where row : count(rows);\nrows = x;"] {
+        let (found, _) = help(&routine(statements));
+        let turned = ["{ row = row + 1; row = o;", "{ rows = x; rows = 0;"];
+        let is_turned = |found: &String| turned.iter().any(|turned| found.contains(turned));
+        assert!(!found.as_ref().is_some_and(is_turned), "{found:?}");
+    }
+    let refused_9 = |statements: &str, advice: Option<&str>| {
+        let (found, answer) = help(&routine(statements));
+        assert!(answer.starts_with("refused 9 "), "{statements}: {answer}");
+        assert_eq!(found.as_deref(), advice, "{statements}");
+    };
+    // An access reaches the same cell behind what restores the bounds, or before what changed them, else it stays.
+    refused_9(
+        "dynamic_check(rows > 0);\nbundled {\nrow++;\nx = row[0];\nrows--;\n}",
+        Some("move the access behind line 8: rows = rows - 1"),
+    );
+    refused_9(
+        "bundled {\nrow++;\nx = row[0];\nrows--;\n}",
+        Some(
+            "move the access behind line 7: rows = rows - 1, and write dynamic_check(rows >= 1); before line 4; \
+             it stops a run where rows < 1",
+        ),
+    );
+    refused_9(
+        "dynamic_check(rows > 0);\nbundled {\nrows++;\nx = row[0];\nrows = x;\n}",
+        Some("move the access before line 6"),
+    );
+    refused_9("dynamic_check(rows > 0);\nbundled {\nrow++;\nx = row[0];\nrows = x;\n}", None);
+}
+
+/// No check that no run passes, and none where the refused statements break no bounds.
+#[test]
+fn checks_are_no_stronger_than_needed() {
+    assert_eq!(
+        help(&routine("where row : count(0);\nrows = 0;\nwhere row : count(rows);\nrows = 2;")).0,
+        None
+    );
+    let chosen = "if (x > 0) {\nrow = o where row : count(8);\n}";
+    let (found, answer) = help(&routine(&format!("{chosen}\nrows = x;")));
+    assert_eq!(answer, "refused 13 0");
+    let written = "where row : count(0);";
+    assert_eq!(
+        found,
+        Some(format!(
+            "behind it no cell is reached by row: write {written} at the end of the then block and add else {{ {written} }}"
+        ))
+    );
+    let repaired =
+        format!("if (x > 0) {{\nrow = o where row : count(8);\n{written}\n}} else {{ {written} }}");
+    assert_eq!(help(&routine(&format!("{repaired}\nrows = x;"))).1, "accepted");
+    // An access behind it needs bounds, and those of both ways have nothing in common.
+    assert_eq!(help(&routine(&format!("{chosen}\nx = row[0];"))), (None, "refused 13 0".to_string()));
 }
 
 /// `if (k < n) { n = k; }`, help by help.
@@ -203,7 +264,15 @@ fn figures_over_generated_routines() {
         figures.helped * 10 > figures.refused * 9 && figures.accepted * 10 > figures.refused * 6,
         "{figures}"
     );
-    assert!(figures.stopped_at_accesses * 50 < figures.good_runs, "{figures}");
+    // No run ends otherwise than before. Those that stop leave their bounds, but for those with a pointer that is null.
+    assert_eq!(
+        (figures.changed, figures.at_checks.needless, figures.at_accesses.needless),
+        (0, 0, 0),
+        "{figures}"
+    );
+    assert!(figures.at_checks.leaving > 10 && figures.at_accesses.leaving > 0, "{figures}");
+    let with_null = figures.at_checks.with_null + figures.at_accesses.with_null;
+    assert!(with_null * 50 < figures.good_runs, "{figures}");
 }
 
 #[test]

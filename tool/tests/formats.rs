@@ -39,7 +39,7 @@ fn json_is_read_back() {
     let expected = "\
 r.c 3 5 {'line': 3, 'column': 15} error 8 0 0 refused 8: the bounds of `p` are not shown after this statement
 ['declared here: p : count(n)', 'the known upper end was lost at line 3: n = n - 1 may wrap: n >= 1 is not shown there', \
-'known here: nothing'] [{'message': 'write dynamic_check(n >= 1); before line 3', 'edits': [{'from': {'line': 3, 'column': 5}, \
+'known here: nothing'] [{'message': 'write dynamic_check(n >= 1); before line 3; it stops a run where n < 1', 'edits': [{'from': {'line': 3, 'column': 5}, \
 'to': {'line': 3, 'column': 5}, 'text': 'dynamic_check(n >= 1);\\n    '}]}]
 w.c 3 9 {'line': 3, 'column': 10} error None None None this string does not end
 [] []

@@ -71,7 +71,13 @@ fn a_fact_that_is_not_shown_before_the_loop() {
     assert_eq!(notes, ["note: known here: i == 0"]);
     let (first, notes) = refused(&sum(" where i <= rows and rows <= 4"));
     assert_eq!(first, "6:43: error: refused 17: the loop fact `rows <= 4` is not shown before the loop");
-    assert_eq!(notes, ["note: known here: nothing", "help: write dynamic_check(rows <= 4); before line 6"]);
+    assert_eq!(
+        notes,
+        [
+            "note: known here: nothing",
+            "help: write dynamic_check(rows <= 4); before line 6; it stops a run where rows > 4"
+        ]
+    );
     let taken = sum(" where i <= rows and rows <= 4")
         .replace("    while", "    dynamic_check(rows <= 4);\n    while");
     assert_eq!(answer(&taken).out, "accepted\nsafe: 4\n");

@@ -113,7 +113,7 @@ fn helps_are_offered_first() {
     let offered = actions(&mut client, 2);
     let preferred = |action: &Json| action.get("isPreferred").and_then(Json::as_bool);
     let titles: Vec<&str> = offered.iter().filter_map(|action| action.get("title")?.as_str()).collect();
-    assert_eq!(titles[0], "write dynamic_check(n >= 1); before line 3");
+    assert_eq!(titles[0], "write dynamic_check(n >= 1); before line 3; it stops a run where n < 1");
     assert_eq!(
         (preferred(&offered[0]), offered[1..].iter().any(|action| preferred(action) != Some(false))),
         (Some(true), false)

@@ -105,18 +105,23 @@ fn an_access_moves_out_of_the_way() {
             "    dynamic_check(rows > 0);",
             "    bundled {",
             "        row++;",
-            "        x = row[0];",
+            "        x = row[0]; // here",
             "        rows--;",
             "    }",
         ],
         &[
             "    dynamic_check(rows > 0);",
             "    bundled {",
-            "        x = row[0];",
             "        row++;",
+            "        // here",
             "        rows--;",
+            "        x = row[0];",
             "    }",
         ],
+    );
+    lines_become(
+        &["    bundled { row++; x = row[0]; rows--; }"],
+        &["    dynamic_check(rows >= 1);", "    bundled { row++; rows--; x = row[0]; }"],
     );
 }
 

@@ -97,7 +97,7 @@ fn a_where_that_declares_more() {
             "1:28: note: declared before: p : count(n)",
             "note: not shown: declared upper end p + 2 <= known upper end p + n: short by 2",
             "note: known here: nothing",
-            "help: write dynamic_check(n >= 2); before line 3",
+            "help: write dynamic_check(n >= 2); before line 3; it stops a run where n < 2",
             "refused 8 0 0",
         ]
     );
@@ -119,7 +119,7 @@ fn a_where_that_declares_more() {
             "1:28: note: declared before: p : count(n)",
             "note: not shown: declared upper end p + n <= known upper end q + m: nothing relates them (line 4: p = q)",
             "note: known here: p == q",
-            "help: write dynamic_check(n <= m); before line 3",
+            "help: write dynamic_check(n <= m); before line 3; it stops a run where n > m",
             "refused 8 2 0",
         ]
     );
@@ -134,7 +134,7 @@ fn the_row_in_force_is_what_is_asked_for() {
             "1:28: note: declared before: p : count(n)",
             "note: not shown: declared upper end p + i <= known upper end p + n: nothing relates them",
             "note: known here: nothing",
-            "help: write dynamic_check(i <= n); before line 3",
+            "help: write dynamic_check(i <= n); before line 3; it stops a run where i > n",
             "refused 8 0 0",
         ]
     );
@@ -146,7 +146,7 @@ fn the_row_in_force_is_what_is_asked_for() {
             "4:1: note: declared here: p : count(i)",
             "note: the known upper end was lost at line 9: i = i - 1 may wrap: i >= 1 is not shown there",
             "note: known here: p != NULL",
-            "help: write dynamic_check(i >= 1); before line 6",
+            "help: write dynamic_check(i >= 1); before line 6; it stops a run where i < 1",
             "refused 8 3 0",
         ]
     );
@@ -157,7 +157,7 @@ fn the_row_in_force_is_what_is_asked_for() {
             "4:1: note: declared here: p : count(i)",
             "note: not shown: declared upper end p + i <= known upper end p + i - 1: short by 1 (line 7: p = p + 1)",
             "note: known here: p != NULL",
-            "help: move the access before line 7, or what restores the bounds before the access",
+            "help: move the access behind line 9: i = i - 1, and write dynamic_check(i >= 1); before line 6; it stops a run where i < 1",
             "refused 9 5",
         ]
     );

@@ -35,7 +35,7 @@ fn ends_in_equal_elements_are_compared() {
     );
     assert_eq!(
         explained(&routine(3, "where other : count(2);"))[2..],
-        ["help: write dynamic_check(m >= 2); before line 4", "refused 8 0 1"]
+        ["help: write dynamic_check(m >= 2); before line 4; it stops a run where m < 2", "refused 8 0 1"]
     );
     // Eleven cells are three rows, and two cells more.
     assert_eq!(

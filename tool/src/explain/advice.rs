@@ -24,7 +24,7 @@ pub struct Check {
 
 impl Check {
     /// The condition as it is asked earlier, before another statement: n >= k by what n loses in between.
-    fn at(&self, table: &Table, earlier: usize) -> [i32; 4] {
+    pub fn at(&self, table: &Table, earlier: usize) -> [i32; 4] {
         let [n, relation, form, k] = self.condition;
         if (relation, form) != (Relation::GreaterEqual as i32, 1) {
             return self.condition;
@@ -60,6 +60,16 @@ fn checks_before(place: &Place, statement: usize, conditions: &[[i32; 4]]) -> He
     let written = written(place, conditions);
     let message = format!("write {} before {}", written.join(" "), place.line(statement));
     Help { message, repair: Some(Repair::Before { statement, written }) }
+}
+
+/// Where a help writes checks, which runs they stop.
+pub fn saying_stops(mut help: Help) -> Help {
+    let stops = help.repair.as_ref().map_or(Vec::new(), Repair::stops);
+    if !stops.is_empty() {
+        let stop = if stops.len() == 1 { "it stops" } else { "they stop" };
+        help.message.push_str(&format!("; {stop} a run where {}", stops.join(" or ")));
+    }
+    help
 }
 
 /// `dynamic_check(n >= 1);` for each condition.
@@ -123,17 +133,22 @@ struct Trial {
 
 impl Trial {
     fn of(routine: &Draft, at: usize, conditions: &[[i32; 4]], refused: usize) -> Trial {
-        let mut routine = routine.clone();
-        for &[left, relation, form, right] in conditions.iter().rev() {
-            routine = routine.with_before(at, [10, left, relation, form, right, 0, 0]);
-        }
+        let routine = routine.with_checks(at, conditions);
         let seen = routine.walk(Some(at + conditions.len()));
-        // Checks that can never hold would let everything pass.
-        let can_hold = seen.asked.as_ref().is_some_and(|moment| !moment.facts.contradictory());
+        let can_hold = facts_can_hold(&seen);
         let refused = if refused < at { refused } else { refused + conditions.len() };
         let passes = can_hold && gets_past(&routine, refused, &seen);
         Trial { routine, seen, passes }
     }
+}
+
+/// Whether conditions can hold before a statement: checks that never do would let everything pass, and stop every run.
+pub fn can_hold(routine: &Draft, at: usize, conditions: &[[i32; 4]]) -> bool {
+    facts_can_hold(&routine.with_checks(at, conditions).walk(Some(at + conditions.len())))
+}
+
+fn facts_can_hold(seen: &Walk) -> bool {
+    seen.asked.as_ref().is_some_and(|moment| !moment.facts.contradictory())
 }
 
 /// Runs of plain statements of one block, outside of bundles, with the refused one among them: the first and how many. Short ones
@@ -248,7 +263,7 @@ pub fn for_entry(place: &Place, entry: usize) -> Option<Help> {
     let head = head as usize;
     let repaired = routine.with_before(head, [10, left, relation, form, right, 0, 0]);
     let seen = repaired.walk(Some(head + 1));
-    let can_hold = seen.asked.as_ref().is_some_and(|moment| !moment.facts.contradictory());
+    let can_hold = facts_can_hold(&seen);
     let still = |unshown: Unshown| unshown.asked == Asked::BeforeLoop && unshown.entry.head == head + 1;
     (can_hold && !seen.unshown.is_some_and(still)).then(|| checks_before(place, head, &[condition]))
 }

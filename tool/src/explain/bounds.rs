@@ -3,9 +3,8 @@
 use super::advice::Check;
 use super::facts::note;
 use super::walk::{Moment, Walk};
-use super::{ways, Explanation, Help, Note, Place};
+use super::{ways, Explanation, Note, Place};
 use crate::library::Refusal;
-use crate::repair::Repair;
 use crate::rows::InForce;
 use crate::table::{accessed, Table};
 use crate::tree::Relation;
@@ -47,16 +46,10 @@ pub fn not_shown_for_access(place: &Place, seen: &Walk, refusal: &Refusal) -> Ex
     explanation
 }
 
-/// What would let the access stand.
-pub fn help_for_access(place: &Place, seen: &Walk, refusal: &Refusal) -> Option<Help> {
+/// The first statement that changed the bounds of a refused access's pointer.
+pub fn changed_before_access(place: &Place, seen: &Walk, refusal: &Refusal) -> Option<usize> {
     let pointer = pointer_of(place.printer.table, refusal.place);
-    let changes = seen.before.as_ref()?.changed[pointer].into_iter().flatten();
-    let first = changes.min()?;
-    let line = place.statement(first)?.line;
-    Some(Help {
-        message: format!("move the access before line {line}, or what restores the bounds before the access"),
-        repair: Some(Repair::Move { statement: refusal.place, before: first }),
-    })
+    seen.before.as_ref()?.changed[pointer].into_iter().flatten().min()
 }
 
 /// The pointer of an access.

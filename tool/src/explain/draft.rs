@@ -20,6 +20,13 @@ impl Draft {
         Draft { table: self.table.with_before(statement, record), facts: self.moved_from(statement) }
     }
 
+    /// With checks before a statement.
+    pub fn with_checks(&self, statement: usize, conditions: &[[i32; 4]]) -> Draft {
+        conditions.iter().rev().fold(self.clone(), |routine, &[left, relation, form, right]| {
+            routine.with_before(statement, [10, left, relation, form, right, 0, 0])
+        })
+    }
+
     /// With one more statement at the end of an if's block: field 5 counts the then block, field 6 the else block.
     pub fn with_last(&self, head: usize, field: usize, record: [i32; STATEMENT_WORDS]) -> Draft {
         let before = self.table.statements[head][5..=field].iter().sum::<i32>() as usize;

@@ -11,6 +11,7 @@ mod form;
 mod listed;
 mod lost;
 mod narrow;
+mod order;
 pub mod pages;
 mod replay;
 mod report;
@@ -212,12 +213,20 @@ pub fn help(program: &Program, refusal: &Refusal) -> Vec<Help> {
     };
     let help = match refusal.number {
         8 => for_bounds(program, &place, refusal),
-        9 => bounds::help_for_access(&place, &Draft::of(&place).walk(None), refusal),
+        9 => {
+            let seen = Draft::of(&place).walk(None);
+            order::moved_access(
+                program,
+                &place,
+                bounds::changed_before_access(&place, &seen, refusal),
+                refusal,
+            )
+        }
         13 => rows::help(program, &place, refusal),
         17 => advice::for_entry(&place, refusal.place),
         _ => None,
     };
-    help.into_iter().collect()
+    help.map(advice::saying_stops).into_iter().collect()
 }
 
 /// What would show the bounds. What keeps every run as it is comes before checks, which stop some.
@@ -225,7 +234,7 @@ fn for_bounds(program: &Program, place: &Place, refusal: &Refusal) -> Option<Hel
     let refused = refusal.place;
     let bundled = || advice::bundled(place, refused);
     let tried = |helps: Vec<Help>| trial::first_that_helps(program, refusal, helps.into_iter());
-    let [recounted, checked] = ways::recounted(place, refused).map_or([None, None], |helps| helps.map(Some));
+    let (recounted, checked) = ways::recounted(place, refused).unzip();
     // Bounds that follow a pointer come before checks, and other bounds that are known where nothing else helps.
     let known = || declare_known(program, refusal).filter(narrow::is_unchecked);
     let follows = || known().filter(|_| narrow::gives_address(place, refused));
@@ -237,7 +246,7 @@ fn for_bounds(program: &Program, place: &Place, refusal: &Refusal) -> Option<Hel
         .or_else(|| follows().and_then(|help| tried(vec![help])))
         .or_else(|| tried(ways::kept(place, refused)))
         .or_else(|| advice::checked(place, refused))
-        .or_else(|| tried(checked.into_iter().collect()))
+        .or_else(|| tried(checked.flatten().into_iter().collect()))
         .or_else(declared)
 }
 

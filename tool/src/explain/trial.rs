@@ -31,7 +31,12 @@ pub fn progress(program: &Program, refusal: &Refusal, repair: &Repair, text: Str
         Verdict::Accepted => Some(true),
         Verdict::Refused(next) => {
             let [old, new] = [program, &repaired].map(|program| program.text.as_ref()?.parts.get(routine));
-            is_behind(old?, changed(refusal, repair), new?, &next).then_some(false)
+            let mut changed = changed(refusal, repair);
+            if refusal.number == 13 {
+                // Its blocks were walked: what is written there is shown there.
+                changed.end = changed.end.max(refusal.place + old?.extent(refusal.place));
+            }
+            is_behind(old?, refusal, changed, new?, &next).then_some(false)
         }
     }
 }
@@ -39,20 +44,29 @@ pub fn progress(program: &Program, refusal: &Refusal, repair: &Repair, text: Str
 /// The statements that a repair is about.
 fn changed(refusal: &Refusal, repair: &Repair) -> Range<usize> {
     let refused = refusal.place;
-    match *repair {
+    let alone = refused..refused + 1;
+    match repair {
         Repair::AsOne { first, count, .. } | Repair::Bundle { first, count, .. } => {
-            first.min(refused)..(first + count).max(refused + 1)
+            *first.min(&refused)..(first + count).max(refused + 1)
         }
-        _ => refused..refused + 1,
+        Repair::Move { before, .. } => *before.min(&refused)..refused + 1,
+        Repair::MoveBehind { behind, .. } => refused..behind + 1,
+        Repair::Several(repairs) => repairs.iter().fold(alone, |all, repair| {
+            let one = changed(refusal, repair);
+            all.start.min(one.start)..all.end.max(one.end)
+        }),
+        _ => alone,
     }
 }
 
 /// Whether a refusal stands behind these statements, which had so many behind them, or is one of a head around them, which is found later.
-fn is_behind(old: &Table, changed: Range<usize>, new: &Table, next: &Refusal) -> bool {
+fn is_behind(old: &Table, refusal: &Refusal, changed: Range<usize>, new: &Table, next: &Refusal) -> bool {
     let Some(end) = (new.statements.len() + changed.end).checked_sub(old.statements.len()) else {
         return false;
     };
     let head = new.statements.get(next.place);
-    let is_around = head.is_some_and(|head| head[0] != 13) && next.place + new.extent(next.place) >= end;
+    // The end of a bundle comes behind the accesses in it.
+    let is_later = head.is_some_and(|head| head[0] != 13 || refusal.number == 9);
+    let is_around = is_later && next.place + new.extent(next.place) >= end;
     matches!(next.number, 7..=16) && (next.place >= end || next.place < changed.start && is_around)
 }

@@ -1,10 +1,11 @@
 //! Ways round a refusal that keep every run as it is: more statements in one bundle, bounds declared before and behind an assignment, the loop
 //! fact that a loop has lost. Each is tried out on the text.
 
-use super::advice::Differing;
+use super::advice::{can_hold, Differing};
 use super::bounds::lacking;
 use super::draft::Draft;
 use super::lost::{self, lost_at, Fact};
+use super::order::may_change_places;
 use super::{Help, Place};
 use crate::repair::Repair;
 use crate::rows::InForce;
@@ -26,7 +27,8 @@ pub fn joined(place: &Place, refused: usize) -> Vec<Help> {
         for first in (at + 1).saturating_sub(count)..=at {
             let Some(group) = units.get(first..first + count) else { continue };
             let is_plain = group.iter().all(|unit| unit.len() == 1);
-            let turned = (count == 2).then(|| group.iter().rev().cloned().collect());
+            let turned =
+                (count == 2 && may_turn(table, group)).then(|| group.iter().rev().cloned().collect());
             let orders = [(!is_plain).then(|| group.to_vec()), turned];
             helps.extend(
                 orders.into_iter().flatten().filter_map(|order: Vec<_>| in_order(place, group, &order)),
@@ -34,6 +36,17 @@ pub fn joined(place: &Place, refused: usize) -> Vec<Help> {
         }
     }
     helps
+}
+
+/// Whether a run does the same when two neighbours change places.
+fn may_turn(table: &Table, group: &[Unit]) -> bool {
+    let [one, other] = [0, 1].map(|number| plain(table, &group[number]));
+    may_change_places(table, &one, &other)
+}
+
+/// The statements of a unit without the head of a bundle.
+fn plain(table: &Table, unit: &Unit) -> Vec<usize> {
+    unit.clone().filter(|&s| table.statements[s][0] != 13).collect()
 }
 
 type Unit = std::ops::Range<usize>;
@@ -53,8 +66,7 @@ fn units(table: &Table, statement: usize) -> Vec<Unit> {
 /// `bundled { a; b; }` in place of a group, in this order.
 fn in_order(place: &Place, group: &[Unit], order: &[Unit]) -> Option<Help> {
     let table = place.printer.table;
-    let plain = |unit: &Unit| unit.clone().filter(|&s| table.statements[s][0] != 13).collect::<Vec<usize>>();
-    let statements: Vec<usize> = order.iter().flat_map(plain).collect();
+    let statements: Vec<usize> = order.iter().flat_map(|unit| plain(table, unit)).collect();
     let (first, last) = (group.first()?.start, group.last()?.end);
     let texts: Vec<String> = statements.iter().map(|&s| format!("{};", place.printer.statement(s))).collect();
     let written = format!("bundled {{ {} }}", texts.join(" "));
@@ -65,7 +77,7 @@ fn in_order(place: &Place, group: &[Unit], order: &[Unit]) -> Option<Help> {
 }
 
 /// Of n = k, where n is a count: the bounds counted by k before it, and by n again behind it. The second help has a check, for where k <= n is not known.
-pub fn recounted(place: &Place, refused: usize) -> Option<[Help; 2]> {
+pub fn recounted(place: &Place, refused: usize) -> Option<(Help, Option<Help>)> {
     let (printer, table) = (&place.printer, place.printer.table);
     let (n, k, condition) = match table.statements[refused] {
         [1, n, k, ..] => (n, (k as u32).to_string(), [n, Relation::GreaterEqual as i32, 1, k]),
@@ -95,7 +107,8 @@ pub fn recounted(place: &Place, refused: usize) -> Option<[Help; 2]> {
         let behind = Repair::Behind { statement: refused, written: behind.clone() };
         Help { message, repair: Some(Repair::Several(vec![before, behind])) }
     };
-    Some([help(Vec::new()), help(vec![check])])
+    let checked = can_hold(&Draft::of(place), refused, &[condition]).then(|| help(vec![check]));
+    Some((help(Vec::new()), checked))
 }
 
 /// Of p = p + k and n = n - k, where n counts p and k is not needed any more: a loop that steps both by one, with the loop fact that it needs; with a check
@@ -125,7 +138,10 @@ pub fn stepped(place: &Place, refused: usize) -> Vec<Help> {
         let repair = Repair::AsOne { first, count: 2, before, written: written.clone() };
         Help { message, repair: Some(repair) }
     };
-    vec![help(Vec::new()), help(vec![format!("dynamic_check({k} <= {n});")])]
+    let [_, number, step] = names;
+    let can_hold = can_hold(&Draft::of(place), first, &[[step, Relation::LessEqual as i32, 0, number]]);
+    let checked = can_hold.then(|| help(vec![format!("dynamic_check({k} <= {n});")]));
+    [help(Vec::new())].into_iter().chain(checked).collect()
 }
 
 /// Whether a variable is named behind two statements, or anywhere in a loop around them.
@@ -217,18 +233,29 @@ pub fn kept(place: &Place, refused: usize) -> Vec<Help> {
     lost_by_loop(place, refused).into_iter().map(help).collect()
 }
 
-/// The bounds of each pointer's own record at the end of both blocks of an if.
-pub fn on_both_sides(place: &Place, head: usize, differing: &[Differing]) -> Option<Help> {
+/// Where statements at the end of both blocks of an if: `count(0)` where the pointers have no use behind it, so that nothing has to be shown; else
+/// the bounds of each pointer's own record.
+pub fn on_both_sides(place: &Place, head: usize, differing: &[Differing]) -> Vec<Help> {
     let (printer, table) = (&place.printer, place.printer.table);
     if table.statements[head][0] != 11 {
-        return None;
+        return Vec::new();
     }
-    let bounds = |one: &Differing| {
-        let p = one.pointer as i32;
-        format!("{} : {}", printer.name(p), printer.declared(p))
+    let listed = |bounds: &dyn Fn(i32) -> String| {
+        let pointers = differing.iter().map(|one| one.pointer as i32);
+        let listed: Vec<String> = pointers.map(|p| format!("{} : {}", printer.name(p), bounds(p))).collect();
+        format!("where {};", listed.join(" and "))
     };
-    let listed: Vec<String> = differing.iter().map(bounds).collect();
-    let written = format!("where {};", listed.join(" and "));
+    let is_free = differing.iter().all(|one| !is_used_behind(table, head, one.pointer as i32));
+    let names: Vec<&str> = differing.iter().map(|one| printer.name(one.pointer as i32)).collect();
+    let reason = format!("behind it no cell is reached by {}: ", lost::joined(&names));
+    let none = is_free.then(|| at_both_ends(place, head, reason, listed(&|_| "count(0)".to_string())));
+    let own = at_both_ends(place, head, String::new(), listed(&|p| printer.declared(p)));
+    none.into_iter().chain([own]).flatten().collect()
+}
+
+/// A where at the end of both blocks of an if.
+fn at_both_ends(place: &Place, head: usize, reason: String, written: String) -> Option<Help> {
+    let table = place.printer.table;
     let at_end = |field: usize| {
         let statement = table.last_of_block(head, field)?;
         Some(Repair::Behind { statement, written: written.clone() })
@@ -238,6 +265,24 @@ pub fn on_both_sides(place: &Place, head: usize, differing: &[Differing]) -> Opt
         _ => (at_end(6)?, "at the end of the then block and of the else block"),
     };
     let behind = if table.statements[head][6] == 0 { format!(" {{ {written} }}") } else { String::new() };
-    let message = format!("write {written} {message}{behind}");
+    let message = format!("{reason}write {written} {message}{behind}");
     Some(Help { message, repair: Some(Repair::Several(vec![at_end(5)?, other])) })
+}
+
+/// Whether the bounds of a pointer are needed behind a head, before it gets another address with bounds of its own.
+fn is_used_behind(table: &Table, head: usize, p: i32) -> bool {
+    let uses = |s: usize| match table.statements[s] {
+        [8, _, q, ..] | [9, q, ..] | [6 | 7, _, q, ..] | [14, q, ..] => q == p,
+        _ => false,
+    };
+    let is_in_loop =
+        (0..head).any(|outer| table.statements[outer][0] == 12 && head < outer + table.extent(outer));
+    let block = table.block_around(head);
+    let is_declared_anew = |s: usize| {
+        let bundle = table.bundle_around(s).filter(|bundle| table.block_around(*bundle) == block);
+        matches!(table.statements[s], [14, q, ..] if q == p)
+            && bundle.is_some_and(|bundle| bundle < s - 1 && table.target(s - 1) == Some(p) && !uses(s - 1))
+    };
+    let first = (head + table.extent(head)..table.statements.len()).find(|&s| uses(s));
+    is_in_loop || first.is_some_and(|first| !is_declared_anew(first))
 }

@@ -6,6 +6,7 @@
 pub mod client;
 pub mod damage;
 pub mod generate;
+pub mod leaves;
 pub mod loops;
 pub mod mistakes;
 pub mod proposals;

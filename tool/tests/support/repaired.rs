@@ -1,5 +1,6 @@
 //! Help that is followed again and again: how many refused routines are accepted in the end, and which runs then stop.
 
+use super::leaves::{bounds_in_run, without_checks, Bounds};
 use super::{loops, mistakes, Random};
 use mizzengrape_tool::explain::help;
 use mizzengrape_tool::library::{check_table, Refusal, Verdict};
@@ -22,10 +23,37 @@ pub struct Figures {
     /// Those that are accepted after some helps.
     pub accepted: usize,
     /// Runs of these, as they were refused, that end done, with all accesses in their objects and with bounds that are true at the end; and
-    /// those of them that stop once repaired: at a check that help wrote, and at an access, since help narrowed bounds.
+    /// those of them that stop once repaired: at a check that help wrote, and at an access.
     pub good_runs: usize,
-    pub stopped_at_checks: usize,
-    pub stopped_at_accesses: usize,
+    pub at_checks: Stops,
+    pub at_accesses: Stops,
+    /// Those that end done with other values or cells.
+    pub changed: usize,
+}
+
+/// Runs that stop once help is followed, by what they do to their bounds.
+#[derive(Debug, Default, PartialEq, Eq)]
+pub struct Stops {
+    /// The refused routine leaves the bounds that it has, and so does the repaired one without the check: the stop is right.
+    pub leaving: usize,
+    /// Neither: a pointer is null, and bounds of null may be any, but no check of integers says so.
+    pub with_null: usize,
+    /// The others: help was too strict.
+    pub needless: usize,
+}
+
+impl Stops {
+    fn count(&mut self, before: Bounds, after: Bounds) {
+        match (before, after) {
+            (Bounds::Left, Bounds::Left) => self.leaving += 1,
+            (Bounds::Kept, _) | (_, Bounds::Kept) => self.needless += 1,
+            _ => self.with_null += 1,
+        }
+    }
+
+    pub fn all(&self) -> usize {
+        self.leaving + self.with_null + self.needless
+    }
 }
 
 fn program(text: &str) -> Program {
@@ -72,16 +100,21 @@ impl Figures {
     fn runs(&mut self, original: &Program, repaired: &Program, random: &mut Random) {
         for _ in 0..4 {
             let input = input(original, random);
-            let (Some(Ran { answer: RunAnswer::Done { .. }, is_true: true }), Some(after)) =
-                (run(original, &input), run(repaired, &input))
-            else {
+            let (Some(before), Some(after)) = (run(original, &input), run(repaired, &input)) else {
                 continue;
             };
+            if !before.is_true || !matches!(before.answer, RunAnswer::Done { .. }) {
+                continue;
+            }
             self.good_runs += 1;
-            let RunAnswer::Stopped { check, .. } = after.answer else { continue };
-            let is_check = check == Check::Dynamic;
-            self.stopped_at_checks += usize::from(is_check);
-            self.stopped_at_accesses += usize::from(!is_check);
+            let RunAnswer::Stopped { check, .. } = after.answer else {
+                self.changed += usize::from(after.left != before.left);
+                continue;
+            };
+            let before = bounds_in_run(&original.tables[0], &input);
+            let unchecked = without_checks(&repaired.tables[0], &input);
+            let stops = if check == Check::Dynamic { &mut self.at_checks } else { &mut self.at_accesses };
+            stops.count(before, bounds_in_run(&unchecked, &input));
         }
     }
 
@@ -121,9 +154,10 @@ fn input(program: &Program, random: &mut Random) -> RunInput {
     input
 }
 
-/// How a run ends, and whether the bounds are true then.
+/// How a run ends, what it leaves, and whether the bounds are true then.
 struct Ran {
     answer: RunAnswer,
+    left: RunInput,
     is_true: bool,
 }
 
@@ -136,16 +170,28 @@ fn run(program: &Program, input: &RunInput) -> Option<Ran> {
     let answer = machine.go(&mut cells, u64::from(allowance));
     let origins = machine.origins().to_vec();
     let left = RunInput { directory, cells, values, origins, allowance };
-    Some(Ran { answer, is_true: check_entry(&routine, &left).is_ok() })
+    let is_true = check_entry(&routine, &left).is_ok();
+    Some(Ran { answer, left, is_true })
 }
 
 impl fmt::Display for Figures {
     fn fmt(&self, f: &mut fmt::Formatter) -> fmt::Result {
-        let Figures { refused, helped, accepted, good_runs, stopped_at_checks, stopped_at_accesses } = self;
+        let Figures { refused, helped, accepted, good_runs, at_checks, at_accesses, changed } = self;
         write!(
             f,
             "{refused} refused routines: {helped} with help, {accepted} accepted when it is followed; of {good_runs} good runs \
-             {stopped_at_checks} stop at a check that help wrote, {stopped_at_accesses} at an access"
+             {at_checks} at a check that help wrote, {at_accesses} at an access, and {changed} end with other values"
+        )
+    }
+}
+
+impl fmt::Display for Stops {
+    fn fmt(&self, f: &mut fmt::Formatter) -> fmt::Result {
+        let Stops { leaving, with_null, needless } = self;
+        write!(
+            f,
+            "{} stop ({leaving} that leave their bounds, {with_null} with a null pointer, {needless} others)",
+            self.all()
         )
     }
 }
