@@ -52,6 +52,11 @@ impl<'a> Lexer<'a> {
         }
     }
 
+    /// The whole text.
+    pub fn text(&self) -> &'a str {
+        self.text
+    }
+
     /// The next token; the last one is `End` or `Wrong`, and none is asked for behind it.
     pub fn next_token(&mut self) -> Token<'a> {
         loop {

@@ -73,7 +73,7 @@ impl Edit {
 
 /// The edits of a repair, in the order of the text; none where a statement has no position.
 pub fn edits(repair: &Repair, text: &str, map: &RoutineMap) -> Option<Vec<Edit>> {
-    let layout = Layout { source: Source { name: "", text } };
+    let layout = Layout::of(text);
     let at = |statement: usize| map.statements.get(statement).copied();
     let end = |statement: usize| map.ends.get(statement).copied();
     Some(match repair {
@@ -149,11 +149,15 @@ fn between(text: &str, from: Pos, to: Pos) -> Option<&str> {
 const MOST_COLUMNS: usize = 100;
 
 /// How a text is laid out.
-struct Layout<'a> {
+pub struct Layout<'a> {
     source: Source<'a>,
 }
 
 impl Layout<'_> {
+    pub fn of(text: &str) -> Layout<'_> {
+        Layout { source: Source { name: "", text } }
+    }
+
     fn line_end(&self) -> &'static str {
         if self.source.text.contains("\r\n") {
             "\r\n"
@@ -180,7 +184,7 @@ impl Layout<'_> {
     }
 
     /// What parts the lines of a block from each other: outside of its braces and inside.
-    fn block(&self, at: Pos) -> (String, String) {
+    pub fn block(&self, at: Pos) -> (String, String) {
         let outside = self.between(at);
         let inside = match self.indentation(at) {
             Some(indentation) => format!("{outside}{}", step(&indentation)),

@@ -37,14 +37,17 @@ pub fn fixes(document: &Document) -> Vec<Fix> {
     }
 }
 
-/// A word for another one, a mark that is missing.
+/// A word for another one, a mark that is missing, a while for a for.
 fn of_error(document: &Document, errors: &[Diagnostic], number: usize) -> Option<Fix> {
     let edit = errors[number].edit.clone()?;
     let left = match assemble_all(&apply(document.text.checked(), std::slice::from_ref(&edit))?) {
         Ok(_) => 0,
         Err(left) => left.len(),
     };
-    let title = format!("write `{}`", edit.text);
+    let title = match edit.text.contains('\n') {
+        true => "write it as a while".to_string(),
+        false => format!("write `{}`", edit.text),
+    };
     (left < errors.len()).then(|| Fix::new(document, number, title, vec![edit], left == 0))
 }
 

@@ -2,6 +2,7 @@
 
 mod bounds;
 mod conditions;
+mod for_loop;
 mod recovery;
 mod statements;
 mod values;
@@ -172,7 +173,8 @@ impl<'a> Parser<'a> {
         }
         let text = token.text;
         let instead = match text {
-            "for" | "do" => ": write a while",
+            "for" => return Err(for_loop::no_for(self.lexer.text(), token.at)),
+            "do" => ": write a while",
             "break" => ": let the loop's condition end it, with a flag where it has none",
             "continue" => ": put what follows in an if",
             "sizeof" => ": a row has as many cells as it is declared with",
