@@ -29,6 +29,7 @@ fn places(map: &Map) -> Vec<Place> {
         for (at, end) in routine.statements.iter().zip(&routine.ends) {
             places.extend([Place::Begins(*at), Place::Ends(*end)]);
         }
+        places.extend(routine.then_ends.iter().map(|at| Place::Ends(*at)));
         places.push(Place::Ends(routine.end));
     }
     places

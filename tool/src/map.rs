@@ -23,6 +23,8 @@ pub struct RoutineMap {
     pub facts: Vec<Pos>,
     /// The whiles, and where behind their conditions loop facts stand or may stand.
     pub loops: Vec<(usize, Span)>,
+    /// The position behind the then block of each if, in their order.
+    pub then_ends: Vec<Pos>,
 }
 
 impl Map {

@@ -226,13 +226,34 @@ pub struct Statement {
 
 #[derive(Debug)]
 pub enum StatementKind {
-    Assign { target: Name, value: Value, wheres: Vec<Where> },
-    Store { cell: Cell, value: Name },
+    Assign {
+        target: Name,
+        value: Value,
+        wheres: Vec<Where>,
+    },
+    Store {
+        cell: Cell,
+        value: Name,
+    },
     Where(Vec<Where>),
     Check(Condition),
-    Call { result: Option<Name>, call: Call },
-    If { condition: Condition, then: Vec<Statement>, otherwise: Vec<Statement> },
-    While { condition: Condition, facts: Vec<Fact>, listed: Span, body: Vec<Statement> },
+    Call {
+        result: Option<Name>,
+        call: Call,
+    },
+    /// With the position behind the then block.
+    If {
+        condition: Condition,
+        then: Vec<Statement>,
+        then_end: Pos,
+        otherwise: Vec<Statement>,
+    },
+    While {
+        condition: Condition,
+        facts: Vec<Fact>,
+        listed: Span,
+        body: Vec<Statement>,
+    },
     Bundle(Vec<Statement>),
 }
 

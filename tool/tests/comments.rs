@@ -85,6 +85,33 @@ fn comments_stay_beside_their_lines() {
     assert!(!without.contains("//") && !without.contains("/*"), "{without}");
 }
 
+/// Comments at the end of a then block stay there, and those behind its brace beside it.
+#[test]
+fn comments_stay_in_their_block() {
+    let folder = Folder::new("blocks");
+    let text = |body: &str| format!("void f(\n    unsigned x)\n{{\n{body}}}\n");
+    let kept = [
+        "    if (x > 0) {\n        x = 1;\n        // the end of then\n    } else {\n        x = 2;\n        // the end of else\n    }\n",
+        "    if (x > 0) {\n        x = 1;\n        /* two\n           lines */\n    } else { // otherwise\n        // first\n        x = 2;\n    } // both\n",
+        "    if (x > 0) {\n        if (x > 1) {\n            x = 1;\n            // inner then\n        } else {\n            x = 3;\n        }\n        \
+         // outer then\n    } else {\n        x = 2;\n    }\n    while (x > 0) {\n        x = 0;\n        // the end of the body\n    }\n",
+    ];
+    for body in kept {
+        assert_eq!(formatted(&folder, &text(body)), text(body));
+    }
+    let behind = "if (x > 0) { x = 1; /* one */ } // then\nelse { x = 2; } // else\n";
+    let expected =
+        "    if (x > 0) {\n        x = 1; /* one */\n    } else { // then\n        x = 2;\n    } // else\n";
+    assert_eq!(formatted(&folder, &text(behind)), text(expected));
+    // Further ifs stand in the else block, and an empty else block is left out.
+    let further =
+        "if (x > 0) {\n  x = 1;\n  // a\n} else if (x > 1) {\n  x = 2;\n  // b\n} else {\n  // c\n}\n";
+    let expected = "    if (x > 0) {\n        x = 1;\n        // a\n    } else {\n        if (x > 1) {\n            x = 2;\n            \
+                    // b\n        }\n        // c\n    }\n";
+    assert_eq!(formatted(&folder, &text(further)), text(expected));
+    assert_eq!(formatted(&folder, &text(expected)), text(expected));
+}
+
 /// A text with comments put between its tokens, at random.
 fn with_comments(text: &str, random: &mut Random) -> (String, usize) {
     let (mut commented, mut count) = (String::new(), 0);

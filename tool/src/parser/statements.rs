@@ -66,9 +66,10 @@ impl Parser<'_> {
     }
 
     fn if_statement(&mut self, depth: usize) -> Fallible<StatementKind> {
-        self.take();
+        let at = self.take().at;
         let condition = self.condition("if")?;
         let then = self.block(depth, " after the condition")?;
+        let then_end = self.behind.unwrap_or(at);
         let mut otherwise = Vec::new();
         if self.accept("else") {
             if !self.is("if") {
@@ -79,7 +80,7 @@ impl Parser<'_> {
                 otherwise.push(self.statement(depth + 1)?);
             }
         }
-        Ok(StatementKind::If { condition, then, otherwise })
+        Ok(StatementKind::If { condition, then, then_end, otherwise })
     }
 
     fn plain(&mut self, at: Pos) -> Fallible<StatementKind> {

@@ -142,6 +142,7 @@ fn routine(
         rows: body.row_positions,
         facts: body.fact_positions,
         loops: body.loops,
+        then_ends: body.then_ends,
     });
     Ok(())
 }

@@ -23,6 +23,8 @@ pub struct Body<'a> {
     pub fact_positions: Vec<Pos>,
     /// The whiles, and where behind their conditions their facts stand.
     pub loops: Vec<(usize, Span)>,
+    /// The positions behind the then blocks of the ifs.
+    pub then_ends: Vec<Pos>,
     pub warnings: Vec<Diagnostic>,
     pub errors: Vec<Diagnostic>,
 }
@@ -42,6 +44,7 @@ impl<'a> Body<'a> {
             facts: Vec::new(),
             fact_positions: Vec::new(),
             loops: Vec::new(),
+            then_ends: Vec::new(),
             warnings: Vec::new(),
             errors: Vec::new(),
         }
@@ -104,9 +107,10 @@ impl<'a> Body<'a> {
                 self.push(at, &[10, a, b, c, d]);
             }
             StatementKind::Call { result, call } => self.call(at, result.as_ref(), call)?,
-            StatementKind::If { condition, then, otherwise } => {
+            StatementKind::If { condition, then, then_end, otherwise } => {
                 let [a, b, c, d] = self.condition(condition)?;
                 let head = self.push(at, &[11, a, b, c, d]);
+                self.then_ends.push(*then_end);
                 self.counted(head, 5, then, in_bundle);
                 self.counted(head, 6, otherwise, in_bundle);
             }
