@@ -314,7 +314,9 @@ fn other_kinds_of_actions_are_not_offered() {
 #[test]
 fn errors_of_a_text_have_fixes() {
     let mut conversation = Conversation::initialized(ALL);
-    conversation.open("void f(unsigned boats)\n{\n    boats = boast + 1;\n    boats = 1\n}\n");
+    conversation.open(
+        "void f(unsigned boats)\n{\n    boats = boast + 1;\n    boats = 1\n    for (; boats < 9; boats++) {\n    }\n}\n",
+    );
     let found = conversation
         .answer()
         .at(&["params", "diagnostics"])
@@ -322,9 +324,16 @@ fn errors_of_a_text_have_fixes() {
         .expect("a list")
         .to_vec();
     let messages = found.iter().map(|one| one.get("message").and_then(Json::as_str).expect("a message"));
-    let due = ["`boast` is not declared: did you mean `boats`?", "expected `;`, found `}`"];
+    let due = [
+        "`boast` is not declared: did you mean `boats`?",
+        "expected `;`, found `for`",
+        "`for` is not part of the subset: write while (boats < 9) { boats++; }",
+    ];
     assert_eq!(messages.collect::<Vec<_>>(), due);
-    for (line, title, text) in [(2, "write `boats`", "boats"), (3, "write `;`", ";")] {
+    let lines = r"while (boats < 9) {\n        boats++;\n    }";
+    for (line, title, text) in
+        [(2, "write `boats`", "boats"), (3, "write `;`", ";"), (4, "write it as a while", lines)]
+    {
         let range =
             format!(r#"{{"start":{{"line":{line},"character":0}},"end":{{"line":{line},"character":0}}}}"#);
         conversation.ask(
