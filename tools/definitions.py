@@ -9,7 +9,7 @@ import re
 import sys
 from pathlib import Path
 
-ENTRY_POINTS = ["checker", "interpreter", "dispatcher", "editor", "files", "exports", "lines"]  # crates whose open functions are what others call
+ENTRY_POINTS = ["checker", "sets", "interpreter", "dispatcher", "editor", "files", "exports", "lines"]  # crates whose open functions are what others call
 USE = re.compile(r"^\s*(?:ghost )?use Rattle·(\w+?)(?:·specs)?\.specs\.([\w.·-]+?)(?:\.\{([^}]*)\})?(?: as [\w-]+)?;?$")
 
 

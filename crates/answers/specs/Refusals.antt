@@ -5,6 +5,7 @@ use Rattle.answers.specs.declared.refusals.Refusal.the-variants.{Length,
 use Rattle.answers.specs.declared.refusals.Refusal.the-variants.{StatementRecord, BlockLayout, BoundsNotShown}
 use Rattle.answers.specs.declared.refusals.Refusal.the-variants.{BundleAccess, MemorySize, DirectoryPair, EntryLengths, EntryValue, RowsDiffer}
 use Rattle.answers.specs.declared.refusals.Refusal.the-variants.{LastCell, LoopFact, EditPosition}
+use Rattle.answers.specs.declared.refusals.Refusal.the-variants.{RoutineCount, Callee, Arguments}
 
 -- "Causes of refusal", the column "No." Point 11: "Refusal 7 no longer occurs."
 abbrev pub number : Refusal → ℕ
@@ -28,6 +29,11 @@ number (LastCell o) = 16
 number (LoopFact e) = 17
 -- Point 13: "It refuses with 18, giving the position"
 number (EditPosition a) = 18
+-- Point 14: "A set of another size is 15, place 0". "It refuses with 19 unless the callee's number is 0 or more and below the caller's, and with 20 when an
+-- argument .. is not shown in its bounds, or a parameter's bounds or the last variable break this rule. Both give the statement".
+number RoutineCount = 15
+number (Callee s) = 19
+number (Arguments s) = 20
 
 -- The column "Returned": object, variable, statement, pair, entry, or 0.
 abbrev pub place : Refusal → ℕ
@@ -47,6 +53,9 @@ place (RowsDiffer s) = s
 place (LastCell o) = o
 place (LoopFact e) = e
 place (EditPosition a) = a
+place RoutineCount = 0
+place (Callee s) = s
+place (Arguments s) = s
 
 -- Refusal 8 also returns a pointer (point 6: "the lowest-numbered one not shown"); the others return none, for which 0 stands.
 abbrev pub pointer : Refusal → ℕ
@@ -66,3 +75,6 @@ pointer (RowsDiffer s) = 0
 pointer (LastCell o) = 0
 pointer (LoopFact e) = 0
 pointer (EditPosition a) = 0
+pointer RoutineCount = 0
+pointer (Callee s) = 0
+pointer (Arguments s) = 0

@@ -20,6 +20,9 @@ pub enum Refusal {
     LastCell(usize),
     LoopFact(usize),
     EditPosition(usize),
+    RoutineCount,
+    Callee(usize),
+    Arguments(usize),
 }
 
 pub fn refusal_number(r: Refusal) -> u32
@@ -45,6 +48,9 @@ pub fn refusal_number(r: Refusal) -> u32
         Refusal::LastCell(_) => 16,
         Refusal::LoopFact(_) => 17,
         Refusal::EditPosition(_) => 18,
+        Refusal::RoutineCount => 15,
+        Refusal::Callee(_) => 19,
+        Refusal::Arguments(_) => 20,
     }
 }
 
@@ -71,6 +77,9 @@ pub fn refusal_place(r: Refusal) -> usize
         Refusal::LastCell(o) => o,
         Refusal::LoopFact(e) => e,
         Refusal::EditPosition(a) => a,
+        Refusal::RoutineCount => 0,
+        Refusal::Callee(a) => a,
+        Refusal::Arguments(a) => a,
     }
 }
 
@@ -98,5 +107,8 @@ pub fn refusal_pointer(r: Refusal) -> usize
         Refusal::LastCell(_) => 0,
         Refusal::LoopFact(_) => 0,
         Refusal::EditPosition(_) => 0,
+        Refusal::RoutineCount => 0,
+        Refusal::Callee(_) => 0,
+        Refusal::Arguments(_) => 0,
     }
 }

@@ -4,7 +4,7 @@ use mathlib.Core.List.{List, [], _∷_, _++_}
 use lib.IntN.{ℤ}
 use lib.ListN.{length}
 use Rattle.words.specs.declared.sections.Sections.{Sections}
-use Rattle.blocks.specs.Tree.{Block, nil, plain, branch, loop, bundle, unread, tree}
+use Rattle.blocks.specs.Tree.{Block, nil, plain, call, branch, loop, bundle, unread, tree}
 
 -- The two successors of a statement: `next`, and `other` where the condition of an if or a while fails.
 pub record Successors : Type 0 where
@@ -19,6 +19,7 @@ successors a y n = record { statement = a; next = y; other = n }
 unfoldable pub entry : Block → ℕ → ℕ
 entry nil after = after
 entry (plain a s r) after = a
+entry (call a s r) after = a
 entry (branch a c t e r) after = a
 entry (loop a c t r) after = a
 entry (bundle a ss r) after = a
@@ -41,6 +42,7 @@ line a (suc n) after = successors a (lead (a + 1) n after) (lead (a + 1) n after
 unfoldable pub flow : Block → ℕ → List Successors
 flow nil after = []
 flow (plain a s r) after = successors a (entry r after) (entry r after) ∷ flow r after
+flow (call a s r) after = successors a (entry r after) (entry r after) ∷ flow r after
 flow (branch a c t e r) after =
     successors a (entry t (entry r after)) (entry e (entry r after))
     ∷ (flow t (entry r after) ++ (flow e (entry r after) ++ flow r after))

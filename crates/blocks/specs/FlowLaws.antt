@@ -11,14 +11,15 @@ use lib.ListN.{length, length-set}
 use lib.Dec.{ltb}
 use Rattle.words.specs.declared.sections.Sections.{Sections}
 use Rattle.conditions.specs.declared.Condition.{Condition}
+use Rattle.statements.specs.declared.CallSite.{CallSite}
 use Rattle.statements.specs.declared.Simple.{Simple}
 use Rattle.statements.specs.declared.Statement.{Statement}
-use Rattle.statements.specs.declared.Statement.the-variants.{Plain, If, While, Bundle}
+use Rattle.statements.specs.declared.Statement.the-variants.{Plain, If, While, Bundle, Call}
 use Rattle.statements.specs.declared.StatementRead.{StatementRead}
 use Rattle.statements.specs.declared.StatementRead.the-variants.{Read, Unread}
 use Rattle.statements.specs.Statements.{statementAt}
 use Rattle.statements.specs.StatementLaws.{read-within}
-use Rattle.blocks.specs.Tree.{Block, plain, branch, loop, bundle, simples, simplesFrom, node, parse, tree}
+use Rattle.blocks.specs.Tree.{Block, plain, branch, loop, bundle, call, simples, simplesFrom, node, parse, tree}
 use Rattle.blocks.specs.TreeLaws.{parse-none, parse-end, parse-some}
 use Rattle.blocks.specs.Flow.{Successors, successors, entry, lead, line, flow, tableFlow}
 use Rattle.blocks.specs.Written.{FirstDue, put, written, Written}
@@ -36,6 +37,7 @@ begins (suc l) T h a b {after} {r} k = go (ltb a b) (statementAt T h a) refl
     go true (Read (If c n m)) e = k .some (omega arith) (ltb-true a b e)
     go true (Read (While c n)) e = k .some (omega arith) (ltb-true a b e)
     go true (Read (Bundle n)) e = k .some (omega arith) (ltb-true a b e)
+    go true (Read (Call c)) e = k .some (omega arith) (ltb-true a b e)
 
 -- Lists of successors.
 pub written-append : (xs ys : List Successors) (w : List ℕ) → written (xs ++ ys) w ≡ written ys (written xs w)
@@ -100,6 +102,7 @@ module _ (n : ℕ) (T : List ℤ) (h : Sections) (a : ℕ) (some : 0 < n) where
   simples-other (If c k m) q e = ap length (simples-some n T h a _ some e)
   simples-other (While c k) q e = ap length (simples-some n T h a _ some e)
   simples-other (Bundle k) q e = ap length (simples-some n T h a _ some e)
+  simples-other (Call k) q e = ap length (simples-some n T h a _ some e)
 
 -- They are statements of the table.
 pub simples-within : (n : ℕ) (T : List ℤ) (h : Sections) (a : ℕ) → a ≤ h .statements → a + length (simples n T h a) ≤ h .statements
@@ -114,6 +117,7 @@ simples-within (suc n) T h a p = go (statementAt T h a) refl (λ q. simples-with
     go (Read (If c k m)) e i = omega arith
     go (Read (While c k)) e i = omega arith
     go (Read (Bundle k)) e i = omega arith
+    go (Read (Call k)) e i = omega arith
 
 -- One statement's node, by what the code has at hand.
 module _ (r : Block) (a after : ℕ) (w : List ℕ) where
@@ -121,6 +125,11 @@ module _ (r : Block) (a after : ℕ) (w : List ℕ) where
       → written (flow (plain a s r) after) w ≡ written (flow r after) v
   unfolding flow written
   plain-written s q v i e = rw (e, i)
+
+  call-written : (c : CallSite) (q : ℕ) (v : List ℕ) → q ≡ entry r after → v ≡ put w (successors a q q)
+      → written (flow (call a c r) after) w ≡ written (flow r after) v
+  unfolding flow written
+  call-written c q v i e = rw (e, i)
 
   branch-written : (c : Condition) (t e : Block) (q x y : ℕ) (w₁ w₂ w₃ : List ℕ) → q ≡ entry r after → x ≡ entry t q → y ≡ entry e q
       → w₁ ≡ put w (successors a x y) → w₂ ≡ written (flow t q) w₁ → w₃ ≡ written (flow e q) w₂
@@ -207,6 +216,15 @@ module _ {T : List ℤ} {h : Sections} {end allowed after : ℕ} {v : List ℕ} 
       → Kept T h end allowed after v n (at + 1) (left - 1) w₁
   link-plain {p} {q} {w₁} u i e = record {
     same = here (Plain p) u ∙ plain-written _ at after w p q w₁ (begins _ T h _ _ i) e;
+    less = fewer u;
+    long = ap length e ∙ (length-put w _ ∙ u .so-far .long);
+  }
+
+  pub link-call : {c : CallSite} {q : ℕ} {w₁ : List ℕ} → Turn T h end allowed after v n at left w (Call c)
+      → FirstDue (left - 1) (at + 1) end after q → w₁ ≡ put w (successors at q q)
+      → Kept T h end allowed after v n (at + 1) (left - 1) w₁
+  link-call {c} {q} {w₁} u i e = record {
+    same = here (Call c) u ∙ call-written _ at after w c q w₁ (begins _ T h _ _ i) e;
     less = fewer u;
     long = ap length e ∙ (length-put w _ ∙ u .so-far .long);
   }

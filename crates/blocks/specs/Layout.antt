@@ -8,7 +8,7 @@ use Rattle.answers.specs.declared.refusals.Refusal.{Refusal}
 use Rattle.answers.specs.declared.refusals.Refusal.the-variants.{StatementRecord, BlockLayout}
 use Rattle.words.specs.declared.sections.Sections.{Sections}
 use Rattle.statements.specs.declared.Statement.{Statement}
-use Rattle.statements.specs.declared.Statement.the-variants.{Plain, If, While, Bundle}
+use Rattle.statements.specs.declared.Statement.the-variants.{Plain, If, While, Bundle, Call}
 use Rattle.statements.specs.declared.StatementRead.{StatementRead}
 use Rattle.statements.specs.declared.StatementRead.the-variants.{Read, Unread}
 use Rattle.statements.specs.Statements.{statementAt}
@@ -38,6 +38,7 @@ contentsFrom (Read (Plain s)) a x rest = rest
 contentsFrom (Read (If c n m)) a x rest = BlockLayout a ∷ []
 contentsFrom (Read (While c n)) a x rest = BlockLayout a ∷ []
 contentsFrom (Read (Bundle n)) a x rest = BlockLayout a ∷ []
+contentsFrom (Read (Call c)) a x rest = BlockLayout a ∷ []
 
 unfoldable pub contents : ℕ → List ℤ → Sections → ℕ → ℕ → List Refusal
 contents zero T h a x = []
@@ -59,6 +60,7 @@ kindLayout (If c n m) rec T h d a b =
 kindLayout (While c n) rec T h d a b =
     also (when (ltb b (a + 1 + n)) (BlockLayout a)) (also (rec (d + 1) (a + 1) (a + 1 + n)) (rec d (a + 1 + n) b))
 kindLayout (Bundle n) rec T h d a b = also (bundleLayout T h a n b) (rec d (a + 1 + n) b)
+kindLayout (Call c) rec T h d a b = rec d (a + 1) b
 
 abbrev pub nodeLayout : Bool → StatementRead → (ℕ → ℕ → ℕ → List Refusal) → List ℤ → Sections → ℕ → ℕ → ℕ → List Refusal
 nodeLayout false s rec T h d a b = []

@@ -14,7 +14,7 @@ use Rattle.answers.specs.declared.refusals.Refusal.the-variants.{StatementRecor
 use Rattle.words.specs.declared.sections.Sections.{Sections}
 use Rattle.statements.specs.declared.Simple.{Simple}
 use Rattle.statements.specs.declared.Statement.{Statement}
-use Rattle.statements.specs.declared.Statement.the-variants.{Plain, If, While, Bundle}
+use Rattle.statements.specs.declared.Statement.the-variants.{Plain, If, While, Bundle, Call}
 use Rattle.statements.specs.declared.StatementRead.{StatementRead}
 use Rattle.statements.specs.declared.StatementRead.the-variants.{Read, Unread}
 use Rattle.statements.specs.Statements.{statementAt}
@@ -99,6 +99,7 @@ module _ (n : ℕ) (T : List ℤ) (h : Sections) (a x : ℕ) (some : 0 < n) wher
   contents-other (If c k m) r q e w = rw (contents-some n T h a x _ some e) w
   contents-other (While c k) r q e w = rw (contents-some n T h a x _ some e) w
   contents-other (Bundle k) r q e w = rw (contents-some n T h a x _ some e) w
+  contents-other (Call k) r q e w = rw (contents-some n T h a x _ some e) w
 
 -- A bundle.
 

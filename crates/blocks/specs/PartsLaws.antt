@@ -11,9 +11,10 @@ use Rattle.answers.specs.declared.refusals.Refusal.{Refusal}
 use Rattle.answers.specs.declared.refusals.Refusal.the-variants.{StatementRecord, BlockLayout}
 use Rattle.words.specs.declared.sections.Sections.{Sections}
 use Rattle.conditions.specs.declared.Condition.{Condition}
+use Rattle.statements.specs.declared.CallSite.{CallSite}
 use Rattle.statements.specs.declared.Simple.{Simple}
 use Rattle.statements.specs.declared.Statement.{Statement}
-use Rattle.statements.specs.declared.Statement.the-variants.{Plain, If, While, Bundle}
+use Rattle.statements.specs.declared.Statement.the-variants.{Plain, If, While, Bundle, Call}
 use Rattle.statements.specs.declared.StatementRead.the-variants.{Read, Unread}
 use Rattle.statements.specs.Statements.{statementAt}
 use Rattle.blocks.specs.declared.Layout.{Layout}
@@ -45,6 +46,9 @@ module _ (T : List ℤ) (h : Sections) (d a b : ℕ) (within : a < b) where
 
     pub part-plain : {p : Simple} → statementAt T h a ≡ Read (Plain p) → Parted T h d a b (Next (a + 1))
     part-plain e = record { leads = λ l some. kind _ l some e }
+
+    pub part-call : {c : CallSite} → statementAt T h a ≡ Read (Call c) → Parted T h d a b (Next (a + 1))
+    part-call e = record { leads = λ l some. kind _ l some e }
 
     if-leads : {c : Condition} {n m : ℕ} (t : Bool) → ltb b (a + 1 + n + m) ≡ t → statementAt T h a ≡ Read (If c n m) → (l : ℕ) → 0 < l
         → Leads (cond t (Refused (BlockLayout a)) (Blocks (a + 1 + n) (a + 1 + n + m))) T h d a b l

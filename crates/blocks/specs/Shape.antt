@@ -6,10 +6,10 @@ use lib.IntN.{ℤ}
 use lib.ListN.{length, getD}
 use Rattle.words.specs.declared.sections.Sections.{Sections}
 use Rattle.statements.specs.declared.Simple.{Simple}
-use Rattle.statements.specs.declared.Statement.the-variants.{Plain, If, While, Bundle}
+use Rattle.statements.specs.declared.Statement.the-variants.{Plain, If, While, Bundle, Call}
 use Rattle.statements.specs.declared.StatementRead.the-variants.{Read}
 use Rattle.statements.specs.Statements.{statementAt}
-use Rattle.blocks.specs.Tree.{Block, nil, plain, branch, loop, bundle, unread}
+use Rattle.blocks.specs.Tree.{Block, nil, plain, call, branch, loop, bundle, unread}
 use Rattle.blocks.specs.Layout.{maxDepth, maxBundle}
 use Rattle.blocks.specs.Flow.{Successors, successors, entry, lead}
 
@@ -17,6 +17,7 @@ use Rattle.blocks.specs.Flow.{Successors, successors, entry, lead}
 unfoldable pub size : Block → ℕ
 size nil = 0
 size (plain a s r) = 1 + size r
+size (call a s r) = 1 + size r
 size (branch a c t e r) = 1 + size t + size e + size r
 size (loop a c t r) = 1 + size t + size r
 size (bundle a ss r) = 1 + length ss + size r
@@ -26,6 +27,7 @@ size (unread a) = 0
 abbrev pub Numbered : Block → ℕ → Type 0
 Numbered nil lo = Unit
 Numbered (plain a s r) lo = (a ≡ lo) × Numbered r (a + 1)
+Numbered (call a s r) lo = (a ≡ lo) × Numbered r (a + 1)
 Numbered (branch a c t e r) lo = (a ≡ lo) × Numbered t (a + 1) × Numbered e (a + 1 + size t) × Numbered r (a + 1 + size t + size e)
 Numbered (loop a c t r) lo = (a ≡ lo) × Numbered t (a + 1) × Numbered r (a + 1 + size t)
 Numbered (bundle a ss r) lo = (a ≡ lo) × Numbered r (a + 1 + length ss)
@@ -35,6 +37,7 @@ Numbered (unread a) lo = ⊥
 abbrev pub Formed : ℕ → Block → Type 0
 Formed d nil = Unit
 Formed d (plain a s r) = (d ≤ maxDepth) × Formed d r
+Formed d (call a s r) = (d ≤ maxDepth) × Formed d r
 Formed d (branch a c t e r) = (d ≤ maxDepth) × Formed (d + 1) t × Formed (d + 1) e × Formed d r
 Formed d (loop a c t r) = (d ≤ maxDepth) × Formed (d + 1) t × Formed d r
 Formed d (bundle a ss r) = (d ≤ maxDepth) × (1 ≤ length ss) × (length ss ≤ maxBundle) × Formed d r
@@ -48,6 +51,7 @@ ReadsLine T h a (s ∷ ss) = (statementAt T h a ≡ Read (Plain s)) × ReadsLine
 abbrev pub Reads : List ℤ → Sections → Block → Type 0
 Reads T h nil = Unit
 Reads T h (plain a s r) = (statementAt T h a ≡ Read (Plain s)) × Reads T h r
+Reads T h (call a s r) = (statementAt T h a ≡ Read (Call s)) × Reads T h r
 Reads T h (branch a c t e r) = (statementAt T h a ≡ Read (If c (size t) (size e))) × Reads T h t × Reads T h e × Reads T h r
 Reads T h (loop a c t r) = (statementAt T h a ≡ Read (While c (size t))) × Reads T h t × Reads T h r
 Reads T h (bundle a ss r) = (statementAt T h a ≡ Read (Bundle (length ss))) × ReadsLine T h (a + 1) ss × Reads T h r
@@ -68,6 +72,7 @@ RightLine f a (s ∷ ss) after = (f a ≡ successors a (lead (a + 1) (length ss)
 abbrev pub Right : (ℕ → Successors) → Block → ℕ → Type 0
 Right f nil after = Unit
 Right f (plain a s r) after = (f a ≡ successors a (entry r after) (entry r after)) × Right f r after
+Right f (call a s r) after = (f a ≡ successors a (entry r after) (entry r after)) × Right f r after
 Right f (branch a c t e r) after =
     (f a ≡ successors a (entry t (entry r after)) (entry e (entry r after)))
     × Right f t (entry r after) × Right f e (entry r after) × Right f r after

@@ -11,7 +11,7 @@ use lib.Dec.{ltb}
 use Rattle.words.specs.declared.sections.Sections.{Sections}
 use Rattle.statements.specs.declared.Simple.{Simple}
 use Rattle.statements.specs.declared.Statement.{Statement}
-use Rattle.statements.specs.declared.Statement.the-variants.{Plain, If, While, Bundle}
+use Rattle.statements.specs.declared.Statement.the-variants.{Plain, If, While, Bundle, Call}
 use Rattle.statements.specs.declared.StatementRead.{StatementRead}
 use Rattle.statements.specs.declared.StatementRead.the-variants.{Read, Unread}
 use Rattle.statements.specs.Statements.{statementAt}
@@ -38,6 +38,7 @@ held (suc n) T h a x e = go (statementAt T h x) refl e (λ p. held n T h a (x + 
     go (Read (If c k m)) q p i = let o : _≡_ {A = ℕ} 0 1 = cc in absurd (omega arith)
     go (Read (While c k)) q p i = let o : _≡_ {A = ℕ} 0 1 = cc in absurd (omega arith)
     go (Read (Bundle k)) q p i = let o : _≡_ {A = ℕ} 0 1 = cc in absurd (omega arith)
+    go (Read (Call k)) q p i = let o : _≡_ {A = ℕ} 0 1 = cc in absurd (omega arith)
 
 -- One statement and the rest of its block, given the same of the blocks that start later.
 module _ (l : ℕ) (T : List ℤ) (h : Sections)
@@ -89,6 +90,9 @@ module _ (l : ℕ) (T : List ℤ) (h : Sections)
         formed = (w, omega (arith, x, z .0), omega (arith, x, z .1), k .formed);
         reads = rw x (r, i .line, k .reads);
       }
+  kind-laid d a b (Call s) p q r w e =
+      let i = ih d (a + 1) b (omega arith) (omega arith) e in
+      record { ends = omega (arith, i .ends); numbered = (refl, i .numbered); formed = (w, i .formed); reads = (r, i .reads) }
 
   node-laid : (d a b : ℕ) (x : Bool) (s : StatementRead) → a ≤ b → b ≤ a + suc l → ltb a b ≡ x → statementAt T h a ≡ s
       → nodeLayout x s (λ e y z. blockLayout l T h e y z) T h d a b ≡ []

@@ -8,7 +8,7 @@ use lib.ListN.{length, getD, set, length-append, length-set}
 use lib.Seq.{getD-set-same, getD-set-other}
 use Rattle.words.specs.declared.sections.Sections.{Sections}
 use Rattle.statements.specs.declared.Simple.{Simple}
-use Rattle.blocks.specs.Tree.{Block, nil, plain, branch, loop, bundle, unread, tree}
+use Rattle.blocks.specs.Tree.{Block, nil, plain, call, branch, loop, bundle, unread, tree}
 use Rattle.blocks.specs.Layout.{layout}
 use Rattle.blocks.specs.Flow.{Successors, successors, entry, lead, line, flow, tableFlow}
 use Rattle.blocks.specs.Written.{put, written}
@@ -27,6 +27,7 @@ pub length-flow : (t : Block) (after : ℕ) → length (flow t after) ≡ size t
 unfolding flow size
 length-flow nil after = refl
 length-flow (plain a s r) after = omega (arith, length-flow r after)
+length-flow (call a s r) after = omega (arith, length-flow r after)
 length-flow (branch a c t e r) after =
     simp length-append (omega (arith, length-flow t (entry r after), length-flow e (entry r after), length-flow r after))
 length-flow (loop a c t r) after = simp length-append (omega (arith, length-flow t a, length-flow r after))
@@ -44,6 +45,9 @@ pub right : (f : ℕ → Successors) (t : Block) (lo after : ℕ) → Numbered t
 unfolding flow
 right f nil lo after n h = tt
 right f (plain a s r) lo after n h =
+    let g = rw (sym (n .0)) at h in
+    (g .0, right f r (a + 1) after (n .1) (g .1))
+right f (call a s r) lo after n h =
     let g = rw (sym (n .0)) at h in
     (g .0, right f r (a + 1) after (n .1) (g .1))
 right f (branch a c t e r) lo after n h =
@@ -85,6 +89,7 @@ pub small-entry : (t : Block) (lo after m : ℕ) → Numbered t lo → lo + size
 unfolding entry size
 small-entry nil lo after m n p q = q
 small-entry (plain a s r) lo after m n p q = omega (arith, n .0)
+small-entry (call a s r) lo after m n p q = omega (arith, n .0)
 small-entry (branch a c t e r) lo after m n p q = omega (arith, n .0)
 small-entry (loop a c t r) lo after m n p q = omega (arith, n .0)
 small-entry (bundle a ss r) lo after m n p q = omega (arith, n .0)
@@ -106,6 +111,10 @@ pub bounded-flow : (t : Block) (lo after m : ℕ) → Numbered t lo → lo + siz
 unfolding flow size
 bounded-flow nil lo after m n p q = tt
 bounded-flow (plain a s r) lo after m n p q =
+    let g = n .0 in
+    let u = small-entry r (a + 1) after m (n .1) (omega arith) q in
+    (u, u, bounded-flow r (a + 1) after m (n .1) (omega arith) q)
+bounded-flow (call a s r) lo after m n p q =
     let g = n .0 in
     let u = small-entry r (a + 1) after m (n .1) (omega arith) q in
     (u, u, bounded-flow r (a + 1) after m (n .1) (omega arith) q)
@@ -150,6 +159,7 @@ pub consecutive-flow : (t : Block) (lo after : ℕ) → Numbered t lo → Consec
 unfolding flow
 consecutive-flow nil lo after n = tt
 consecutive-flow (plain a s r) lo after n = rw (sym (n .0)) (refl, consecutive-flow r (a + 1) after (n .1))
+consecutive-flow (call a s r) lo after n = rw (sym (n .0)) (refl, consecutive-flow r (a + 1) after (n .1))
 consecutive-flow (branch a c t e r) lo after n =
     let k = entry r after in
     rw (sym (n .0)) (

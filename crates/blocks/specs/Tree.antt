@@ -1,15 +1,17 @@
 -- The tree of blocks that the statements of a table are (document 01, "The routine table").
 use Prim.Native.Nat.{ℕ, zero, suc, _+_}
-use mathlib.Core.Bool.{Bool, true, false}
+use mathlib.Core.Bool.{Bool, true, false, cond}
 use mathlib.Core.List.{List, [], _∷_, _++_}
 use lib.IntN.{ℤ}
-use lib.Dec.{ltb}
+use lib.Dec.{ltb, eqb}
+use Rattle.sums.specs.Numbers.{zeroVar}
 use Rattle.words.specs.declared.sections.Sections.{Sections}
 use Rattle.conditions.specs.declared.Condition.{Condition}
+use Rattle.statements.specs.declared.CallSite.{CallSite}
 use Rattle.statements.specs.declared.Simple.{Simple}
 use Rattle.statements.specs.declared.Simple.the-variants.{Literal, AddConstant, Arithmetic, Null, Address}
 use Rattle.statements.specs.declared.Simple.the-variants.{PointerOffset, PointerIndex, Load, Store, Check, Declare}
-use Rattle.statements.specs.declared.Statement.the-variants.{Plain, If, While, Bundle}
+use Rattle.statements.specs.declared.Statement.the-variants.{Plain, If, While, Bundle, Call}
 use Rattle.statements.specs.declared.StatementRead.{StatementRead}
 use Rattle.statements.specs.declared.StatementRead.the-variants.{Read, Unread}
 use Rattle.statements.specs.Statements.{statementAt}
@@ -22,6 +24,7 @@ pub data Block : Type 0 where
   branch : ℕ → Condition → Block → Block → Block → Block
   loop : ℕ → Condition → Block → Block → Block
   bundle : ℕ → List Simple → Block → Block
+  call : ℕ → CallSite → Block → Block
   unread : ℕ → Block
 
 -- "A bundle holds kinds 1 to 10 only", and 14: the n statements from a on, cut short at the first that is of another kind or does not read.
@@ -31,6 +34,7 @@ simplesFrom (Read (Plain s)) ss = s ∷ ss
 simplesFrom (Read (If c n m)) ss = []
 simplesFrom (Read (While c n)) ss = []
 simplesFrom (Read (Bundle n)) ss = []
+simplesFrom (Read (Call c)) ss = []
 
 unfoldable pub simples : ℕ → List ℤ → Sections → ℕ → List Simple
 simples zero T h a = []
@@ -46,6 +50,7 @@ node true (Read (If c n m)) rec T h a b =
     branch a c (rec (a + 1) (a + 1 + n)) (rec (a + 1 + n) (a + 1 + n + m)) (rec (a + 1 + n + m) b)
 node true (Read (While c n)) rec T h a b = loop a c (rec (a + 1) (a + 1 + n)) (rec (a + 1 + n) b)
 node true (Read (Bundle n)) rec T h a b = bundle a (simples n T h (a + 1)) (rec (a + 1 + n) b)
+node true (Read (Call c)) rec T h a b = call a c (rec (a + 1) b)
 
 -- The fuel is the number of statements left; it falls at each statement.
 unfoldable pub parse : ℕ → List ℤ → Sections → ℕ → ℕ → Block
@@ -71,6 +76,10 @@ target (Check c) = []
 -- Point 2: kind 14 assigns nothing.
 target (Declare p r) = []
 
+-- Point 14: the result of a call counts as assigned; a missing one is no variable.
+abbrev pub callTarget : CallSite → List ℕ
+callTarget c = cond (eqb (c .result) zeroVar) [] (c .result ∷ [])
+
 unfoldable pub targets : List Simple → List ℕ
 targets [] = []
 targets (s ∷ ss) = target s ++ targets ss
@@ -82,4 +91,5 @@ assigned (plain a s r) = target s ++ assigned r
 assigned (branch a c t e r) = assigned t ++ (assigned e ++ assigned r)
 assigned (loop a c t r) = assigned t ++ assigned r
 assigned (bundle a ss r) = targets ss ++ assigned r
+assigned (call a c r) = callTarget c ++ assigned r
 assigned (unread a) = []

@@ -137,6 +137,11 @@ fn link_block(
                 link_bundle(inner, held, after_bundle, entries);
                 at = rest;
             }
+            Statement::Call(_) => {
+                let next = first_due(inner, end, left, after);
+                put_successors(entries, at, next, next);
+                at = inner;
+            }
         }
     }
 }

@@ -123,6 +123,7 @@ fn read_parts(table: &[i32], sections: Sections, depth: usize, at: usize, end: u
                 Layout::LaidOut => Parts::Next(at + 1 + count),
             }
         }
+        Statement::Call(_) => Parts::Next(at + 1),
     }
 }
 

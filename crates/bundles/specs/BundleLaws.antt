@@ -13,7 +13,7 @@ use Rattle.words.specs.declared.sections.Sections.{Sections}
 use Rattle.statements.specs.declared.Simple.{Simple}
 use Rattle.statements.specs.declared.Simple.the-variants.{Declare}
 use Rattle.statements.specs.declared.Statement.{Statement}
-use Rattle.statements.specs.declared.Statement.the-variants.{Plain, If, While, Bundle}
+use Rattle.statements.specs.declared.Statement.the-variants.{Plain, If, While, Bundle, Call}
 use Rattle.statements.specs.declared.StatementRead.the-variants.{Read, Unread}
 use Rattle.statements.specs.Statements.{statementAt}
 use Rattle.statements.specs.StatementLaws.{read-typed, read-limits}
@@ -240,6 +240,7 @@ module _ {T : List ℤ} {h : Sections} {E : Environment} {head count : ℕ} {w�
     cut (If c i j) n ss = refl
     cut (While c i) n ss = refl
     cut (Bundle i) n ss = refl
+    cut (Call i) n ss = refl
 
     pub held-other : {w : Walked} {s : Statement} → statementAt T h at ≡ Read s → ((p : Simple) → s ≡ Plain p → ⊥)
         → Passes (boundsAt head (unshown (seenAs I) f K)) (stateOf f R) M w

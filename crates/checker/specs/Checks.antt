@@ -8,6 +8,7 @@ use Rattle.words.specs.declared.sections.Sections.{Sections}
 use Rattle.reports.specs.Reports.{noWords, reported}
 use Rattle.rules.specs.Stored.{store, sectionFaults}
 use Rattle.rules.specs.Verdict.{verdictOf}
+use Rattle.rules.specs.Calls.{Routine}
 use Rattle.rules.specs.Report.{reportedIf, safeAt}
 use Rattle.rules.specs.declared.Verdict.the-variants.{Refused}
 use Rattle.checker.specs.declared.Checked.{Checked}
@@ -17,7 +18,7 @@ pub record Refuses (f : Refusal) (c : Checked) : Type 0 where
   pub verdict : c .verdict ≡ Refused f
   pub report : c .report .words ≡ noWords
 
--- The verdict of the first fault of a well-formed table and its list, and the report.
-pub record ChecksSections (T : List ℤ) (h : Sections) (L : List ℤ) (c : Checked) : Type 0 where
-  pub verdict : c .verdict ≡ verdictOf (sectionFaults T h L)
-  pub report : (a : ℕ) → a < 1024 → reported (c .report .words) a ≡ reportedIf (sectionFaults T h L) (safeAt store T h L a)
+-- The verdict of the first fault of a well-formed table and its list, of a routine that may call the `callees`, and the report.
+pub record ChecksSections (callees : List Routine) (T : List ℤ) (h : Sections) (L : List ℤ) (c : Checked) : Type 0 where
+  pub verdict : c .verdict ≡ verdictOf (sectionFaults callees T h L)
+  pub report : (a : ℕ) → a < 1024 → reported (c .report .words) a ≡ reportedIf (sectionFaults callees T h L) (safeAt store T h L a)

@@ -18,13 +18,13 @@ use Rattle.statements.specs.declared.Simple.{Simple}
 use Rattle.statements.specs.declared.StatementRead.{StatementRead}
 use Rattle.statements.specs.declared.StatementRead.the-variants.{Read}
 use Rattle.statements.specs.declared.Statement.the-variants.{Plain}
-use Rattle.blocks.specs.Tree.{Block, nil, plain, branch, loop, bundle, unread, assigned}
+use Rattle.blocks.specs.Tree.{Block, nil, plain, branch, loop, bundle, call, unread, assigned}
 use Rattle.blocks.specs.Shape.{size, Numbered, ReadsLine, Reads}
 use Rattle.listed.specs.Entries.{entriesOf}
 use Rattle.reports.specs.Reports.{marked, markedIf, reported}
 use Rattle.reports.specs.ReportLaws.{mark-same, mark-other}
 use Rattle.rules.specs.FactSets.{State}
-use Rattle.rules.specs.Stored.{store, stateAfter, assumed, atHead, safeIn, sidesJoined, bundleAfter, blockAfter}
+use Rattle.rules.specs.Stored.{store, stateAfter, calledState, assumed, atHead, safeIn, sidesJoined, bundleAfter, blockAfter}
 use Rattle.rules.specs.StateBefore.{lineBefore, stateBefore}
 use Rattle.rules.specs.Report.{readSafe}
 use Rattle.rules.specs.declared.Environment.{Environment}
@@ -125,6 +125,7 @@ module _ (T : List ℤ) (h : Sections) (E : Environment) (L : List ℤ) where
       block-long r (a + 1 + size t) _ _ (n .2) p (omega (arith, n .0))
   block-long (bundle a ss r) lo w M n l k =
       block-long r (a + 1 + length ss) _ _ (n .1) (line-long T h E (a + 1) ss w M l (omega (arith, n .0))) (omega (arith, n .0))
+  block-long (call a c r) lo w M n l k = block-long r (a + 1) _ M (n .1) l (omega (arith, n .0))
   block-long (unread a) lo w M n l k = l
 
   pub block-outside : (b : Block) (lo : ℕ) (w : State FactSet) (M : List ℕ) → Numbered b lo → length M ≡ 32 → lo + size b ≤ 1024 → (d : ℕ) → Outside lo
@@ -150,9 +151,11 @@ module _ (T : List ℤ) (h : Sections) (E : Environment) (L : List ℤ) where
       block-outside r (a + 1 + length ss) _ _ (n .1) (line-long T h E (a + 1) ss w M l (omega (arith, n .0))) (omega (arith, n .0)) d
       (part o (omega (arith, n .0)) (omega (arith, n .0)))
       ∙ line-outside T h E (a + 1) ss w M l (omega (arith, n .0)) d (part o (omega (arith, n .0)) (omega (arith, n .0)))
+  block-outside (call a c r) lo w M n l k d o = block-outside r (a + 1) _ M (n .1) l (omega (arith, n .0)) d
+      (part o (omega (arith, n .0)) (omega (arith, n .0)))
   block-outside (unread a) lo w M n l k d o = refl
 
-  -- A head is no access.
+  -- A head of a block, or a call, is no access.
   head-unsafe : (d a : ℕ) (k : StatementRead) (w : State FactSet) → d ≡ a → statementAt T h a ≡ k → readSafe store E k w ≡ false
       → readSafe store E (statementAt T h d) w ≡ false
   head-unsafe d a k w q r e = ap (λ (x : StatementRead). readSafe store E x w) (ap (statementAt T h) q ∙ r) ∙ e
@@ -291,4 +294,13 @@ module _ (T : List ℤ) (h : Sections) (E : Environment) (L : List ℤ) where
           let i : a < d = after-head (omega (arith, n .0)) (eqb-false d a g) in
           outside-u j ∙ line-inside T h E (a + 1) ss w M l (omega (arith, n .0)) (r .1) d (omega arith) j z
       go false g false g₂ f₂ = f₂ (ltb-false _ _ g₂)
+  block-inside (call a c u) lo w M n r l k d x y z = go (eqb d a) refl
+      (λ i. block-inside u (a + 1) (calledState c w) M (n .1) (r .1) l (omega (arith, n .0)) d (omega arith) (omega (arith, n .0)) z)
+    where
+      go : (b : Bool) → eqb d a ≡ b → (a < d → Inside u (calledState c w) M d)
+          → reported (blockMarks E L u (calledState c w) M) d ≡ readSafe store E (statementAt T h d) (cond b w (stateBefore store E L u (calledState c w) d))
+      go true e ih =
+          let q : d ≡ a = eqb-true d a e in
+          block-outside u (a + 1) (calledState c w) M (n .1) l (omega (arith, n .0)) d (under (omega arith)) ∙ (z ∙ sym (head-unsafe d a _ w q (r .0) refl))
+      go false e ih = ih (after-head (omega (arith, n .0)) (eqb-false d a e))
   block-inside (unread a) lo w M n r l k d x y z = absurd n

@@ -6,11 +6,12 @@ use lib.IntN.{ℤ}
 use lib.ListN.{length}
 use Rattle.words.specs.declared.sections.Sections.{Sections}
 use Rattle.conditions.specs.declared.Condition.{Condition}
+use Rattle.statements.specs.declared.CallSite.{CallSite}
 use Rattle.statements.specs.declared.Simple.{Simple}
 use Rattle.statements.specs.declared.Statement.the-variants.{If, While, Bundle}
 use Rattle.statements.specs.declared.StatementRead.the-variants.{Read}
 use Rattle.statements.specs.Statements.{statementAt}
-use Rattle.blocks.specs.Tree.{Block, plain, branch, loop, bundle, assigned}
+use Rattle.blocks.specs.Tree.{Block, plain, branch, loop, bundle, call, assigned}
 use Rattle.blocks.specs.Shape.{size}
 use Rattle.effects.specs.Marks.{targetsFrom}
 use Rattle.effects.specs.AssignedLaws.{assigned-targets}
@@ -19,6 +20,9 @@ use Rattle.checker.specs.Walk.{InPlace}
 module _ {T : List ℤ} {h : Sections} {a : ℕ} where
   pub after-plain : {s : Simple} {r : Block} → InPlace T h a (plain a s r) → InPlace T h (a + 1) r
   after-plain p = record { numbered = p .numbered .1; reads = p .reads .1 }
+
+  pub after-call : {c : CallSite} {r : Block} → InPlace T h a (call a c r) → InPlace T h (a + 1) r
+  after-call p = record { numbered = p .numbered .1; reads = p .reads .1 }
 
   module _ {c : Condition} {n m : ℕ} {t e r : Block} (q : statementAt T h a ≡ Read (If c n m)) (p : InPlace T h a (branch a c t e r)) where
     counts : (n ≡ size t) × (m ≡ size e)

@@ -20,7 +20,7 @@ use Rattle.words.specs.SectionsLaws.{object-limits}
 use Rattle.words.specs.declared.sections.Sections.{Sections}
 use Rattle.table.specs.Variables.{objectCells, objectAt}
 use Rattle.table.specs.Form.{formOf, sectionsOf}
-use Rattle.table.specs.FormLaws.{Formed, well-formed}
+use Rattle.table.specs.FormLaws.{Formed, well-formed, formed-sections}
 use Rattle.table.specs.declared.Form.{Form}
 use Rattle.table.specs.declared.Form.the-variants as form
 use Rattle.blocks.specs.Tree.{parse, tree}
@@ -43,7 +43,7 @@ use Rattle.rules.specs.Stored.{store, newState, blockFaults, sectionFaults, for
 use Rattle.rules.specs.StateBefore.{stateBefore}
 use Rattle.rules.specs.Report.{readSafe, safeAt, reportedIf, reportedAt}
 use Rattle.rules.specs.ReportLaws.{reported-stored}
-use Rattle.rules.specs.AcceptedLaws.{accepted-clear, formed-sections}
+use Rattle.rules.specs.AcceptedLaws.{accepted-clear}
 use Rattle.checker.specs.Checks.{Refuses, ChecksSections}
 use Rattle.checker.specs.MarkLaws.{over, block-inside, block-outside}
 use Rattle.checker.specs.declared.Checked.{Checked}
@@ -51,6 +51,8 @@ use Rattle.rules.specs.Verdict.{environmentOf, verdictOf}
 use Rattle.rules.specs.Ranges.{Measured}
 use Rattle.rules.specs.ByChains.{Judged, Reported}
 use Rattle.rules.specs.Decidable.{judged}
+use Rattle.rules.specs.CallLaws.{none-formed}
+use Rattle.rules.specs.Calls.{Routine}
 use Rattle.rules.specs.BoundsRules.{ownRows, upperLimit}
 use Rattle.checker.specs.Walk.{InPlace, blockMarks, Walks}
 use Rattle.rules.specs.declared.Verdict.{Verdict}
@@ -143,23 +145,28 @@ unfolding reportedIf
 refused-none [] b n = absurd (n refl)
 refused-none (f ∷ fs) b n = refl
 
-module _ (T : List ℤ) (h : Sections) (L : List ℤ) where
+pub layout-clear : (T : List ℤ) (h : Sections) {l : Layout} → l ≡ verdict (layout T h) → l ≡ layout-variant.LaidOut → layout T h ≡ []
+layout-clear T h {l} e p = none-refused (layout T h) l e p
+
+pub table-placed : (T : List ℤ) (h : Sections) → layout T h ≡ [] → InPlace T h 0 (parse (h .statements) T h 0 (h .statements))
+unfolding tree
+table-placed T h laid = let w = table-laid T h laid in record { numbered = w .numbered; reads = w .reads }
+
+module _ (rs : List Routine) (T : List ℤ) (h : Sections) (L : List ℤ) where
   -- A refusal that is that of the first fault.
-  pub refused-checks : {f : Refusal} {c : Checked} → Refuses f c → Refused f ≡ verdictOf (sectionFaults T h L) → sectionFaults T h L ≢ []
-      → ChecksSections T h L c
+  pub refused-checks : {f : Refusal} {c : Checked} → Refuses f c → Refused f ≡ verdictOf (sectionFaults rs T h L) → sectionFaults rs T h L ≢ []
+      → ChecksSections rs T h L c
   refused-checks w e n =
       record {
         verdict = w .verdict ∙ e;
-        report = λ a l. ap (λ (M : List ℕ). reported M a) (w .report) ∙ (none-reported a ∙ sym (refused-none (sectionFaults T h L) (safeAt store T h L a) n));
+        report = λ a l. ap (λ (M : List ℕ). reported M a) (w .report) ∙ (none-reported a
+            ∙ sym (refused-none (sectionFaults rs T h L) (safeAt store T h L a) n));
       }
 
   module _ {l : Layout} (e : l ≡ verdict (layout T h)) where
-    pub layout-refused : {r : Refusal} {c : Checked} → l ≡ layout-variant.Refused r → Refuses r c → ChecksSections T h L c
+    pub layout-refused : {r : Refusal} {c : Checked} → l ≡ layout-variant.Refused r → Refuses r c → ChecksSections rs T h L c
     unfolding verdictRules.sectionFaults
     layout-refused p w = let q = first-refused (layout T h) _ (sym e ∙ p) in refused-checks w (q .0) (q .1)
-
-    pub layout-clear : l ≡ layout-variant.LaidOut → layout T h ≡ []
-    layout-clear p = none-refused (layout T h) l e p
 
   module _ (laid : layout T h ≡ []) where
     list-first : (xs ys : List Refusal) {r : Refusal} → listForm xs ≡ list-variant.Refused r → (Refused r ≡ verdictOf (also xs ys)) × (also xs ys ≢ [])
@@ -167,46 +174,42 @@ module _ (T : List ℤ) (h : Sections) (L : List ℤ) where
     list-first [] ys e = let z : _≡_ {A = ℕ} 0 1 = cc in absurd (omega arith)
     list-first (x ∷ xs) ys e = (ap Refused (cc), λ q. let z : _≡_ {A = ℕ} 0 1 = cc in omega arith)
 
-    after-layout : sectionFaults T h L ≡ also (listFaults T h L) (blockFaults (environmentOf T h) L (tree T h) newState)
+    after-layout : sectionFaults rs T h L ≡ also (listFaults T h L) (blockFaults (environmentOf T h) L rs (tree T h) newState)
     unfolding verdictRules.sectionFaults
     after-layout = pass _ _ laid
 
     pub list-refused : {l : ListForm} {r : Refusal} {c : Checked} → l ≡ listForm (listFaults T h L) → l ≡ list-variant.Refused r → Refuses r c
-        → ChecksSections T h L c
+        → ChecksSections rs T h L c
     list-refused e p w =
-        let q = list-first (listFaults T h L) (blockFaults (environmentOf T h) L (tree T h) newState) (sym e ∙ p) in
+        let q = list-first (listFaults T h L) (blockFaults (environmentOf T h) L rs (tree T h) newState) (sym e ∙ p) in
         refused-checks w (q .0 ∙ ap verdictOf (sym after-layout)) (λ z. q .1 (sym after-layout ∙ z))
 
-    pub table-placed : InPlace T h 0 (parse (h .statements) T h 0 (h .statements))
-    unfolding tree
-    table-placed = let w = table-laid T h laid in record { numbered = w .numbered; reads = w .reads }
-
     module _ (listed : listFaults T h L ≡ []) where
-      after-list : sectionFaults T h L ≡ blockFaults (environmentOf T h) L (tree T h) newState
+      after-list : sectionFaults rs T h L ≡ blockFaults (environmentOf T h) L rs (tree T h) newState
       after-list = after-layout ∙ pass _ _ listed
 
       module _ {F : Force} {f : FactSet} {M : List ℕ} {r : Walked} (o : Forced (environmentOf T h) ownRows F) (n : f ≡ newSet) (m : M ≡ noWords)
-          (w : Walks (environmentOf T h) L (parse (h .statements) T h 0 (h .statements)) (stateOf f (F .rows .each)) M r) where
+          (w : Walks (environmentOf T h) L rs (parse (h .statements) T h 0 (h .statements)) (stateOf f (F .rows .each)) M r) where
         begun : stateOf f (F .rows .each) ≡ newState
         begun = ap₂ stateOf n (o .rows)
 
-        walked : Walks (environmentOf T h) L (tree T h) newState noWords r
+        walked : Walks (environmentOf T h) L rs (tree T h) newState noWords r
         unfolding tree
         walked = rw (begun, m) at w
 
-        said : r .verdict ≡ verdictOf (sectionFaults T h L)
+        said : r .verdict ≡ verdictOf (sectionFaults rs T h L)
         said = walked .said ∙ ap verdictOf (sym after-list)
 
-        pub walk-refused : {x : Refusal} {c : Checked} → r .verdict ≡ Refused x → Refuses x c → ChecksSections T h L c
-        walk-refused e q = refused-checks q (sym e ∙ said) (refuses (sectionFaults T h L) (sym e ∙ said))
+        pub walk-refused : {x : Refusal} {c : Checked} → r .verdict ≡ Refused x → Refuses x c → ChecksSections rs T h L c
+        walk-refused e q = refused-checks q (sym e ∙ said) (refuses (sectionFaults rs T h L) (sym e ∙ said))
           where
             refuses : (fs : List Refusal) {x : Refusal} → Refused x ≡ verdictOf fs → fs ≢ []
             refuses fs {x} v z = let a : Refused x ≡ Accepted = v ∙ (ap verdictOf z ∙ none-accepts) in let y : _≡_ {A = ℕ} 0 1 = cc in omega arith
 
         pub walk-accepted : {c : Checked} → r .verdict ≡ Accepted → c .verdict ≡ Accepted → c .report .words ≡ r .report .words → h .statements ≤ 1024
-            → ChecksSections T h L c
+            → ChecksSections rs T h L c
         walk-accepted {c} e v u few =
-            let clear : blockFaults (environmentOf T h) L (tree T h) newState ≡ [] = none-refused-walk e in
+            let clear : blockFaults (environmentOf T h) L rs (tree T h) newState ≡ [] = none-refused-walk e in
             record {
               verdict = v ∙ (sym e ∙ said);
               report = λ a l. ap (λ (N : List ℕ). reported N a) (u ∙ walked .marked clear)
@@ -214,8 +217,8 @@ module _ (T : List ℤ) (h : Sections) (L : List ℤ) where
                   ∙ none-if (safeAt store T h L a)));
             }
           where
-            none-refused-walk : r .verdict ≡ Accepted → blockFaults (environmentOf T h) L (tree T h) newState ≡ []
-            none-refused-walk e = accepted-clear (blockFaults (environmentOf T h) L (tree T h) newState) (walked .said) e
+            none-refused-walk : r .verdict ≡ Accepted → blockFaults (environmentOf T h) L rs (tree T h) newState ≡ []
+            none-refused-walk e = accepted-clear (blockFaults (environmentOf T h) L rs (tree T h) newState) (walked .said) e
 
             bit : (a : ℕ) (b : Bool) → ltb a (h .statements) ≡ b → reported (blockMarks (environmentOf T h) L
                 (tree T h) newState noWords) a ≡ safeAt store T h L a
@@ -223,36 +226,39 @@ module _ (T : List ℤ) (h : Sections) (L : List ℤ) where
             bit a false i = outside-safe T h L laid a (ltb-false _ _ i) few
 
 module _ (T L : List ℤ) {f : Form} (e : f ≡ formOf T) where
-  refused-faults : {r : Refusal} → f ≡ form.Refused r → faults T L ≡ r ∷ []
+  refused-faults : {r : Refusal} → f ≡ form.Refused r → faults [] T L ≡ r ∷ []
   unfolding verdictRules.faults
-  refused-faults p = ap (λ (g : Form). formFaults T L g) (sym e ∙ p)
+  refused-faults p = ap (λ (g : Form). formFaults [] T L g) (sym e ∙ p)
 
-  checked-faults : {h : Sections} → f ≡ form.WellFormed h → faults T L ≡ sectionFaults T h L
+  checked-faults : {h : Sections} → f ≡ form.WellFormed h → faults [] T L ≡ sectionFaults [] T h L
   unfolding verdictRules.faults
-  checked-faults p = ap (λ (g : Form). formFaults T L g) (sym e ∙ p)
+  checked-faults p = ap (λ (g : Form). formFaults [] T L g) (sym e ∙ p)
 
-  pub form-refused : {r : Refusal} {c : Checked} → f ≡ form.Refused r → Refuses r c → Judged T L (c .verdict) × Reported T L (c .report .words)
+  pub form-refused : {r : Refusal} {c : Checked} → f ≡ form.Refused r → Refuses r c → Judged [] T L (c .verdict) × Reported T L (c .report .words)
   unfolding verdictOf reportedAt
   form-refused {r} {c} p w =
       let q = refused-faults p in (
-        judged T L (c .verdict) (w .verdict ∙ (first-verdict ∙ ap verdictOf (sym q))),
+        judged [] none-formed T L (c .verdict) (w .verdict ∙ (first-verdict ∙ ap verdictOf (sym q))),
         reported-stored T L (c .report .words) (λ a l.
-            ap (λ (M : List ℕ). reported M a) (w .report) ∙ (none-reported a ∙ sym (refused-none (faults T L) (safeAt store T (sectionsOf T) L a)
+            ap (λ (M : List ℕ). reported M a) (w .report) ∙ (none-reported a ∙ sym (refused-none (faults [] T L) (safeAt store T (sectionsOf T) L a)
             (λ z. let y : _≡_ {A = ℕ} 0 1 = cc in omega arith)))),
       )
     where
       first-verdict : Refused r ≡ verdictOf (r ∷ [])
       first-verdict = refl
 
-  pub form-checked : {h : Sections} {c : Checked} → f ≡ form.WellFormed h → ChecksSections T h L c → Judged T L (c .verdict) × Reported T L (c .report .words)
+  -- Of a routine by itself, which may call none.
+  pub form-checked : {h : Sections} {c : Checked} → f ≡ form.WellFormed h → {rs : List Routine} → rs ≡ [] → ChecksSections rs T h L c
+      → Judged [] T L (c .verdict) × Reported T L (c .report .words)
   unfolding reportedAt
-  form-checked {h} {c} p q =
+  form-checked {h} {c} p {rs} n s =
+      let q : ChecksSections [] T h L c = rw n at s in
       let d = checked-faults p in
       let k = formed-sections T h (sym e ∙ p) in (
-        judged T L (c .verdict) (q .verdict ∙ ap verdictOf (sym d)),
+        judged [] none-formed T L (c .verdict) (q .verdict ∙ ap verdictOf (sym d)),
         reported-stored T L (c .report .words) (λ a l. q .report a l
-            ∙ (ap (λ (fs : List Refusal). reportedIf fs (safeAt store T h L a)) (sym d) ∙ ap (λ (g : Sections). reportedIf (faults T L)
-            (safeAt store T g L a)) k)),
+            ∙ (ap (λ (fs : List Refusal). reportedIf fs (safeAt store T h L a)) (sym d)
+            ∙ ap (λ (g : Sections). reportedIf (faults [] T L) (safeAt store T g L a)) k)),
       )
 
 pub form-formed : (T : List ℤ) {f : Form} → f ≡ formOf T → {h : Sections} → f ≡ form.WellFormed h → Formed T h

@@ -5,12 +5,13 @@ use lib.IntN.{ℤ}
 use Rattle.facts.specs.declared.FactSet.{FactSet}
 use Rattle.words.specs.declared.sections.Sections.{Sections}
 use Rattle.conditions.specs.Conditions.{negatedOf}
-use Rattle.blocks.specs.Tree.{Block, nil, plain, branch, loop, bundle, unread, assigned}
+use Rattle.blocks.specs.Tree.{Block, nil, plain, branch, loop, bundle, call, unread, assigned}
 use Rattle.listed.specs.Entries.{entriesOf}
 use Rattle.reports.specs.Reports.{markedIf}
 use Rattle.blocks.specs.Shape.{Numbered, Reads}
 use Rattle.rules.specs.FactSets.{State}
-use Rattle.rules.specs.Stored.{blockAfter, blockFaults, stateAfter, assumed, atHead, safeIn, sidesJoined, bundleAfter}
+use Rattle.rules.specs.Calls.{Routine}
+use Rattle.rules.specs.Stored.{blockAfter, blockFaults, stateAfter, calledState, assumed, atHead, safeIn, sidesJoined, bundleAfter}
 use Rattle.rules.specs.declared.Environment.{Environment}
 use Rattle.bundles.specs.Bundles.{lineMarks, Passes}
 use Rattle.bundles.specs.declared.Walked.{Walked}
@@ -31,8 +32,9 @@ blockMarks E L (loop a c t r) w M =
     blockMarks E L r (assumed (atHead (entriesOf L a) (assigned t) w) (negatedOf c))
     (blockMarks E L t (assumed (atHead (entriesOf L a) (assigned t) w) c) M)
 blockMarks E L (bundle a ss r) w M = blockMarks E L r (bundleAfter ss w) (lineMarks E (a + 1) ss w M)
+blockMarks E L (call a c r) w M = blockMarks E L r (calledState c w) M
 blockMarks E L (unread a) w M = M
 
--- The walk over a block b from the state w, beside the list L of loop facts, with the words M of the report so far.
-abbrev pub Walks : Environment → List ℤ → Block → State FactSet → List ℕ → Walked → Type 0
-Walks E L b w M r = Passes (blockFaults E L b w) (blockAfter E L b w) (blockMarks E L b w M) r
+-- The walk over a block b from the state w, beside the list L of loop facts, of a routine that may call the `callees`, with the words M of the report so far.
+abbrev pub Walks : Environment → List ℤ → List Routine → Block → State FactSet → List ℕ → Walked → Type 0
+Walks E L callees b w M r = Passes (blockFaults E L callees b w) (blockAfter E L b w) (blockMarks E L b w M) r

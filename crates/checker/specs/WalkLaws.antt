@@ -17,7 +17,7 @@ use Rattle.conditions.specs.Conditions.{negatedOf}
 use Rattle.statements.specs.declared.Simple.{Simple}
 use Rattle.statements.specs.declared.Simple.the-variants.{Declare}
 use Rattle.statements.specs.declared.Statement.{Statement}
-use Rattle.statements.specs.declared.Statement.the-variants.{Plain, If, While, Bundle}
+use Rattle.statements.specs.declared.Statement.the-variants.{Plain, If, While, Bundle, Call}
 use Rattle.statements.specs.declared.StatementRead.the-variants.{Read, Unread}
 use Rattle.statements.specs.Statements.{statementAt}
 use Rattle.statements.specs.StatementLaws.{read-typed, read-limits, read-counts-if, read-counts-while, read-counts-bundle}
@@ -25,7 +25,8 @@ use Rattle.blocks.specs.Tree.{Block, nil, unread, simples, node, parse, assigne
 use Rattle.blocks.specs.TreeLaws.{parse-none, parse-end, parse-some}
 use Rattle.blocks.specs.Layout.{also, when}
 use Rattle.rules.specs.FactSets.{State}
-use Rattle.rules.specs.Stored.{factsAfter, conditionFacts, loopFacts, effect, unshown, bundleBounds, bundleFaults, blockFaults, boundsAfter}
+use Rattle.rules.specs.Stored.{store, factsAfter, conditionFacts, loopFacts, effect, unshown}
+use Rattle.rules.specs.Stored.{bundleBounds, bundleFaults, blockFaults, boundsAfter, calledState, callFaults}
 use Rattle.rules.specs.Stored.{stateAfter, assumed, atHead, unshownIn, rowUnshown, declaredIn, bundleAfter, sidesJoined, blockAfter}
 use Rattle.rules.specs.Stored.{entriesUnshown, entryFacts, safeIn, accessSafe}
 use Rattle.listed.specs.Entries.{entriesOf}
@@ -45,7 +46,7 @@ use Rattle.bounds.specs.declared.touched.Seen.{Seen}
 use Rattle.declared.specs.UntouchedLaws.{unnamed}
 use Rattle.bundles.specs.Bundles.{lineMarks, WalksBundle}
 use Rattle.checker.specs.Walk.{InPlace, blockMarks, Walks}
-use Rattle.checker.specs.PlaceLaws.{after-plain, after-if, after-while, after-bundle, body-assigned}
+use Rattle.checker.specs.PlaceLaws.{after-plain, after-call, after-if, after-while, after-bundle, body-assigned}
 use Rattle.effects.specs.FactRulesLaws.{read-ranged, appliedOf, carried-out}
 use Rattle.rules.specs.declared.Environment.{Environment}
 use Rattle.rules.specs.declared.lookups.Rows.{Rows}
@@ -65,26 +66,31 @@ use Rattle.bundles.specs.BundleLaws.{stops, ends, carry, also-assoc, applied-fa
 use Rattle.bundles.specs.BundleLaws.{lineFaults, declare-after, declare-keeps, declare-unmarked, nothing-asked, row-limits}
 use Rattle.rules.specs.Rules as walkRules
 use Rattle.rules.specs.RuleLaws.{same-rows}
+use Rattle.rules.specs.Calls.{Routine, resultEffect, resultFacts}
+use Rattle.declared.specs.Callee.{callChecked}
+use Rattle.statements.specs.declared.CallSite.{CallSite}
 
 -- A walk of the one block is a walk of the other.
-pub record Same (E : Environment) (L : List ℤ) (b : Block) (v : State FactSet) (M : List ℕ) (c : Block) (w : State FactSet) (N : List ℕ) : Type 0 where
-  pub blamed : blockFaults E L b v ≡ blockFaults E L c w
+pub record Same (E : Environment) (L : List ℤ) (rs : List Routine) (b : Block) (v : State FactSet) (M : List ℕ) (c : Block) (w : State FactSet)
+    (N : List ℕ) : Type 0 where
+  pub blamed : blockFaults E L rs b v ≡ blockFaults E L rs c w
   pub left : blockAfter E L b v ≡ blockAfter E L c w
   pub marks : blockMarks E L b v M ≡ blockMarks E L c w N
 
 -- The loop's invariant: a walk of what is left, from the facts now and what is in force now, is a walk of the whole.
-pub record Kept (T : List ℤ) (h : Sections) (E : Environment) (L : List ℤ) (end allowed : ℕ) (b : Block) (w₀ : State FactSet) (M₀ : List ℕ)
+pub record Kept (T : List ℤ) (h : Sections) (E : Environment) (L : List ℤ) (rs : List Routine) (end allowed : ℕ) (b : Block) (w₀ : State FactSet) (M₀ : List ℕ)
     (at left : ℕ) (f : FactSet) (F : Force) (M : List ℕ) : Type 0 where
-  pub same : Same E L b w₀ M₀ (parse left T h at end) (stateOf f (F .rows .each)) M
+  pub same : Same E L rs b w₀ M₀ (parse left T h at end) (stateOf f (F .rows .each)) M
   pub forced : Forced E (F .rows .each) F
   pub less : left ≤ allowed
   pub in-place : InPlace T h at (parse left T h at end)
 
-pub kept-none : (T : List ℤ) (h : Sections) (E : Environment) (L : List ℤ) (first end allowed : ℕ) (f : FactSet) (F : Force) (M : List ℕ) → Forced E
+pub kept-none : (T : List ℤ) (h : Sections) (E : Environment) (L : List ℤ) (rs : List Routine) (first end allowed : ℕ) (f : FactSet) (F : Force) (M : List ℕ)
+    → Forced E
     (F .rows .each) F
     → InPlace T h first (parse allowed T h first end)
-    → Kept T h E L end allowed (parse allowed T h first end) (stateOf f (F .rows .each)) M first allowed f F M
-kept-none T h E L first end allowed f F M o p = record {
+    → Kept T h E L rs end allowed (parse allowed T h first end) (stateOf f (F .rows .each)) M first allowed f F M
+kept-none T h E L rs first end allowed f F M o p = record {
   same = record
       { blamed = refl; left = refl; marks = refl };
   forced = o;
@@ -92,41 +98,41 @@ kept-none T h E L first end allowed f F M o p = record {
   in-place = p;
 }
 
-nil-passes : (E : Environment) (L : List ℤ) (b : Block) (v : State FactSet) (M : List ℕ) {w : Walked} → b ≡ nil → w .verdict ≡ Accepted
-    → stateOf (w .facts) (w .rows .each) ≡ v → w .report .words ≡ M → Walks E L b v M w
+nil-passes : (E : Environment) (L : List ℤ) (rs : List Routine) (b : Block) (v : State FactSet) (M : List ℕ) {w : Walked} → b ≡ nil → w .verdict ≡ Accepted
+    → stateOf (w .facts) (w .rows .each) ≡ v → w .report .words ≡ M → Walks E L rs b v M w
 unfolding walkRules.blockFaults walkRules.blockAfter blockMarks
-nil-passes E L b v M e p q r = rw e (ends refl p q r)
+nil-passes E L rs b v M e p q r = rw e (ends refl p q r)
 
-unread-stops : (E : Environment) (L : List ℤ) (b : Block) (v : State FactSet) (M : List ℕ) (a : ℕ) {w : Walked} → b ≡ unread a
-    → w .verdict ≡ Refused (StatementRecord a) → Walks E L b v M w
+unread-stops : (E : Environment) (L : List ℤ) (rs : List Routine) (b : Block) (v : State FactSet) (M : List ℕ) (a : ℕ) {w : Walked} → b ≡ unread a
+    → w .verdict ≡ Refused (StatementRecord a) → Walks E L rs b v M w
 unfolding walkRules.blockFaults verdictOf
-unread-stops E L b v M a e p = rw e (record {
+unread-stops E L rs b v M a e p = rw e (record {
   said = p;
   kept = λ q. let o : _≡_ {A = ℕ} 0 1 = cc in absurd (omega arith);
   marked = λ q. let o : _≡_ {A = ℕ} 0 1 = cc in absurd (omega arith);
 })
 
-module _ {T : List ℤ} {h : Sections} {E : Environment} {L : List ℤ} {end allowed : ℕ} {b : Block} {w₀ : State FactSet} {M₀ : List ℕ}
-    {at left : ℕ} {f : FactSet} {F : Force} {M : List ℕ} (k : Kept T h E L end allowed b w₀ M₀ at left f F M) where
-  walks : {w : Walked} → Walks E L (parse left T h at end) (stateOf f (F .rows .each)) M w → Walks E L b w₀ M₀ w
+module _ {T : List ℤ} {h : Sections} {E : Environment} {L : List ℤ} {rs : List Routine} {end allowed : ℕ} {b : Block} {w₀ : State FactSet} {M₀ : List ℕ}
+    {at left : ℕ} {f : FactSet} {F : Force} {M : List ℕ} (k : Kept T h E L rs end allowed b w₀ M₀ at left f F M) where
+  walks : {w : Walked} → Walks E L rs (parse left T h at end) (stateOf f (F .rows .each)) M w → Walks E L rs b w₀ M₀ w
   walks p = carry (k .same .blamed) (k .same .left) (k .same .marks) p
 
   pub kept-done : {w : Walked} → left ≤ 0 → w .verdict ≡ Accepted → w .facts ≡ f → w .rows ≡ F .rows → w .report .words ≡ M
-      → Walks E L b w₀ M₀ w
-  kept-done z p q r v = walks (nil-passes E L _ _ _ (parse-none left T h at end z) p (ap₂ (λ (g : FactSet) (x : Rows). stateOf g (x .each)) q r) v)
+      → Walks E L rs b w₀ M₀ w
+  kept-done z p q r v = walks (nil-passes E L rs _ _ _ (parse-none left T h at end z) p (ap₂ (λ (g : FactSet) (x : Rows). stateOf g (x .each)) q r) v)
 
   pub kept-end : {w : Walked} → end ≤ at → w .verdict ≡ Accepted → w .facts ≡ f → w .rows ≡ F .rows → w .report .words ≡ M
-      → Walks E L b w₀ M₀ w
-  kept-end z p q r v = walks (nil-passes E L _ _ _ (parse-end left T h at end z) p (ap₂ (λ (g : FactSet) (x : Rows). stateOf g (x .each)) q r) v)
+      → Walks E L rs b w₀ M₀ w
+  kept-end z p q r v = walks (nil-passes E L rs _ _ _ (parse-end left T h at end z) p (ap₂ (λ (g : FactSet) (x : Rows). stateOf g (x .each)) q r) v)
 
   module _ (some : 0 < left) (within : at < end) where
-    pub kept-unread : {w : Walked} → statementAt T h at ≡ Unread → w .verdict ≡ Refused (StatementRecord at) → Walks E L b w₀ M₀ w
-    kept-unread e p = walks (unread-stops E L _ _ _ at (parse-some left T h at end Unread some within e) p)
+    pub kept-unread : {w : Walked} → statementAt T h at ≡ Unread → w .verdict ≡ Refused (StatementRecord at) → Walks E L rs b w₀ M₀ w
+    kept-unread e p = walks (unread-stops E L rs _ _ _ at (parse-some left T h at end Unread some within e) p)
 
 -- A turn of the loop, once its statement is read.
-pub record Turn (T : List ℤ) (h : Sections) (E : Environment) (L : List ℤ) (end allowed : ℕ) (b : Block) (w₀ : State FactSet) (M₀ : List ℕ)
+pub record Turn (T : List ℤ) (h : Sections) (E : Environment) (L : List ℤ) (rs : List Routine) (end allowed : ℕ) (b : Block) (w₀ : State FactSet) (M₀ : List ℕ)
     (at left : ℕ) (f : FactSet) (F : Force) (M : List ℕ) (s : Statement) : Type 0 where
-  pub so-far : Kept T h E L end allowed b w₀ M₀ at left f F M
+  pub so-far : Kept T h E L rs end allowed b w₀ M₀ at left f F M
   pub some : 0 < left
   pub within : at < end
   pub read : statementAt T h at ≡ Read s
@@ -135,7 +141,7 @@ pub record Turn (T : List ℤ) (h : Sections) (E : Environment) (L : List ℤ) (
 abbrev rest : List ℤ → Sections → ℕ → ℕ → ℕ → Block
 rest T h left x y = parse (left - 1) T h x y
 
-module _ (T : List ℤ) (h : Sections) (E : Environment) (L : List ℤ) (at left end : ℕ) (w : State FactSet) where
+module _ (T : List ℤ) (h : Sections) (E : Environment) (L : List ℤ) (rs : List Routine) (at left end : ℕ) (w : State FactSet) where
   abbrev at-statement : Statement → Block
   at-statement s = node true (Read s) (rest T h left) T h at end
 
@@ -152,28 +158,33 @@ module _ (T : List ℤ) (h : Sections) (E : Environment) (L : List ℤ) (at left
   kindFaults (Plain s) =
       also (boundsAt at (rowUnshown E (w .facts) (declaredIn E w) s))
       (also (boundsAt at (unshownIn E (stateAfter s w) (boundsAfter (effect E (w .facts) s) (declaredIn E w))))
-      (blockFaults E L (rest T h left (at + 1) end) (stateAfter s w)))
+      (blockFaults E L rs (rest T h left (at + 1) end) (stateAfter s w)))
   kindFaults (If c n m) =
-      also (blockFaults E L (rest T h left (at + 1) (at + 1 + n)) (assumed w c))
-      (also (blockFaults E L (rest T h left (at + 1 + n) (at + 1 + n + m)) (assumed w (negatedOf c)))
+      also (blockFaults E L rs (rest T h left (at + 1) (at + 1 + n)) (assumed w c))
+      (also (blockFaults E L rs (rest T h left (at + 1 + n) (at + 1 + n + m)) (assumed w (negatedOf c)))
       (also (rowsAt at (after-then c n .rows) (after-else c n m .rows))
-      (blockFaults E L (rest T h left (at + 1 + n + m) end) (sidesJoined E (after-then c n) (after-else c n m)))))
+      (blockFaults E L rs (rest T h left (at + 1 + n + m) end) (sidesJoined E (after-then c n) (after-else c n m)))))
   kindFaults (While c n) =
       also (entriesUnshown (entriesOf L at) (w .facts))
-      (also (blockFaults E L (rest T h left (at + 1) (at + 1 + n)) (assumed (head-state n) c))
+      (also (blockFaults E L rs (rest T h left (at + 1) (at + 1 + n)) (assumed (head-state n) c))
       (also (entriesUnshown (entriesOf L at) (blockAfter E L (rest T h left (at + 1) (at + 1 + n)) (assumed (head-state n) c) .facts))
       (also (rowsAt at (w .rows) (blockAfter E L (rest T h left (at + 1) (at + 1 + n)) (assumed (head-state n) c) .rows))
-      (blockFaults E L (rest T h left (at + 1 + n) end) (assumed (head-state n) (negatedOf c))))))
+      (blockFaults E L rs (rest T h left (at + 1 + n) end) (assumed (head-state n) (negatedOf c))))))
   kindFaults (Bundle n) =
       also (bundleFaults E (at + 1) (simples n T h (at + 1)) w (declaredIn E w))
       (also (boundsAt at (unshownIn E (bundleAfter (simples n T h (at + 1)) w) (bundleBounds E (simples n T h (at + 1)) w (declaredIn E w))))
-      (blockFaults E L (rest T h left (at + 1 + n) end) (bundleAfter (simples n T h (at + 1)) w)))
+      (blockFaults E L rs (rest T h left (at + 1 + n) end) (bundleAfter (simples n T h (at + 1)) w)))
+  kindFaults (Call c) =
+      also (callFaults rs E at c (w .facts) (declaredIn E w))
+      (also (boundsAt at (unshownIn E (calledState c w) (boundsAfter (resultEffect c) (declaredIn E w))))
+      (blockFaults E L rs (rest T h left (at + 1) end) (calledState c w)))
 
   abbrev kindAfter : Statement → State FactSet
   kindAfter (Plain s) = blockAfter E L (rest T h left (at + 1) end) (stateAfter s w)
   kindAfter (If c n m) = blockAfter E L (rest T h left (at + 1 + n + m) end) (sidesJoined E (after-then c n) (after-else c n m))
   kindAfter (While c n) = blockAfter E L (rest T h left (at + 1 + n) end) (assumed (head-state n) (negatedOf c))
   kindAfter (Bundle n) = blockAfter E L (rest T h left (at + 1 + n) end) (bundleAfter (simples n T h (at + 1)) w)
+  kindAfter (Call c) = blockAfter E L (rest T h left (at + 1) end) (calledState c w)
 
   abbrev kindMarks : Statement → List ℕ → List ℕ
   kindMarks (Plain s) M = blockMarks E L (rest T h left (at + 1) end) (stateAfter s w) (markedIf (safeIn E w s) M at)
@@ -186,6 +197,7 @@ module _ (T : List ℤ) (h : Sections) (E : Environment) (L : List ℤ) (at left
       (blockMarks E L (rest T h left (at + 1) (at + 1 + n)) (assumed (head-state n) c) M)
   kindMarks (Bundle n) M =
       blockMarks E L (rest T h left (at + 1 + n) end) (bundleAfter (simples n T h (at + 1)) w) (lineMarks E (at + 1) (simples n T h (at + 1)) w M)
+  kindMarks (Call c) M = blockMarks E L (rest T h left (at + 1) end) (calledState c w) M
 
   marks-here : (s : Statement) (M : List ℕ) → blockMarks E L (at-statement s) w M ≡ kindMarks s M
   unfolding blockMarks
@@ -193,13 +205,15 @@ module _ (T : List ℤ) (h : Sections) (E : Environment) (L : List ℤ) (at left
   marks-here (If c n m) M = refl
   marks-here (While c n) M = refl
   marks-here (Bundle n) M = refl
+  marks-here (Call c) M = refl
 
-  faults-here : (s : Statement) → blockFaults E L (at-statement s) w ≡ kindFaults s
+  faults-here : (s : Statement) → blockFaults E L rs (at-statement s) w ≡ kindFaults s
   unfolding walkRules.blockFaults
   faults-here (Plain s) = refl
   faults-here (If c n m) = refl
   faults-here (While c n) = refl
   faults-here (Bundle n) = refl
+  faults-here (Call c) = refl
 
   after-here : (s : Statement) → blockAfter E L (at-statement s) w ≡ kindAfter s
   unfolding walkRules.blockAfter
@@ -207,6 +221,7 @@ module _ (T : List ℤ) (h : Sections) (E : Environment) (L : List ℤ) (at left
   after-here (If c n m) = refl
   after-here (While c n) = refl
   after-here (Bundle n) = refl
+  after-here (Call c) = refl
 
 -- 13, where the rows are not the same, and nothing where they are.
 rows-refused : (a : ℕ) (R Q : List ℕ) → sameRows R Q ≡ false → Refused (RowsDiffer a) ≡ verdictOf (rowsAt a R Q)
@@ -236,64 +251,65 @@ pub negated-offset : (c d : Condition) → d ≡ negatedOf c → c .offset < 2 ^
 unfolding negatedOf
 negated-offset c d e h = rw e h
 
-module _ {T : List ℤ} {h : Sections} {E : Environment} {L : List ℤ} {end allowed : ℕ} {b : Block} {w₀ : State FactSet} {M₀ : List ℕ} {at left : ℕ}
+module _ {T : List ℤ} {h : Sections} {E : Environment} {L : List ℤ} {rs : List Routine} {end allowed : ℕ} {b : Block} {w₀ : State FactSet} {M₀ : List ℕ}
+    {at left : ℕ}
     {f : FactSet} {F : Force} {M : List ℕ} where
-  pub arm : {s r : Statement} → Turn T h E L end allowed b w₀ M₀ at left f F M s → s ≡ r → Turn T h E L end allowed b w₀ M₀ at left f F M r
+  pub arm : {s r : Statement} → Turn T h E L rs end allowed b w₀ M₀ at left f F M s → s ≡ r → Turn T h E L rs end allowed b w₀ M₀ at left f F M r
   arm u e = rw e at u
 
-  pub falls : {s : Statement} {t : ℕ} → Turn T h E L end allowed b w₀ M₀ at left f F M s → allowed ≡ t → left - 1 < t
+  pub falls : {s : Statement} {t : ℕ} → Turn T h E L rs end allowed b w₀ M₀ at left f F M s → allowed ≡ t → left - 1 < t
   falls u e = omega (arith, u .some, u .so-far .less)
 
-  pub placed : {s : Statement} → Turn T h E L end allowed b w₀ M₀ at left f F M s → at < 1024
+  pub placed : {s : Statement} → Turn T h E L rs end allowed b w₀ M₀ at left f F M s → at < 1024
   placed u = let l = read-limits T h at _ (u .read) in omega (arith, l .0 .statements, l .1)
 
-  pub if-counts : {c : Condition} {n m : ℕ} → Turn T h E L end allowed b w₀ M₀ at left f F M (If c n m) → (n < 2 ^ 31) × (m < 2 ^ 31)
+  pub if-counts : {c : Condition} {n m : ℕ} → Turn T h E L rs end allowed b w₀ M₀ at left f F M (If c n m) → (n < 2 ^ 31) × (m < 2 ^ 31)
   if-counts {c} {n} {m} u = read-counts-if T h at c n m (u .read)
 
-  pub while-count : {c : Condition} {n : ℕ} → Turn T h E L end allowed b w₀ M₀ at left f F M (While c n) → n < 2 ^ 31
+  pub while-count : {c : Condition} {n : ℕ} → Turn T h E L rs end allowed b w₀ M₀ at left f F M (While c n) → n < 2 ^ 31
   while-count {c} {n} u = read-counts-while T h at c n (u .read)
 
-  pub bundle-count : {n : ℕ} → Turn T h E L end allowed b w₀ M₀ at left f F M (Bundle n) → n < 2 ^ 31
+  pub bundle-count : {n : ℕ} → Turn T h E L rs end allowed b w₀ M₀ at left f F M (Bundle n) → n < 2 ^ 31
   bundle-count {n} u = read-counts-bundle T h at n (u .read)
 
-  pub if-offset : {c : Condition} {n m : ℕ} → Turn T h E L end allowed b w₀ M₀ at left f F M (If c n m) → c .offset < 2 ^ 32
+  pub if-offset : {c : Condition} {n m : ℕ} → Turn T h E L rs end allowed b w₀ M₀ at left f F M (If c n m) → c .offset < 2 ^ 32
   if-offset {c} {n} {m} u = offset-small (read-typed T h at (If c n m) (u .read) .condition)
 
-  pub while-offset : {c : Condition} {n : ℕ} → Turn T h E L end allowed b w₀ M₀ at left f F M (While c n) → c .offset < 2 ^ 32
+  pub while-offset : {c : Condition} {n : ℕ} → Turn T h E L rs end allowed b w₀ M₀ at left f F M (While c n) → c .offset < 2 ^ 32
   while-offset {c} {n} u = offset-small (read-typed T h at (While c n) (u .read) .condition)
 
-  pub plain-ranged : {p : Simple} → Turn T h E L end allowed b w₀ M₀ at left f F M (Plain p) → InRange p
+  pub plain-ranged : {p : Simple} → Turn T h E L rs end allowed b w₀ M₀ at left f F M (Plain p) → InRange p
   plain-ranged {p} u = read-ranged T h at p (u .read)
 
-  pub row-named-within : {p : Simple} {y r : ℕ} → Turn T h E L end allowed b w₀ M₀ at left f F M (Plain p) → declaresOf p ≡ Row y r → (y < 16) × (r < 64)
+  pub row-named-within : {p : Simple} {y r : ℕ} → Turn T h E L rs end allowed b w₀ M₀ at left f F M (Plain p) → declaresOf p ≡ Row y r → (y < 16) × (r < 64)
   row-named-within u n = row-limits T h at (u .read) refl n
 
-  module _ (s : Statement) (u : Turn T h E L end allowed b w₀ M₀ at left f F M s) where
-    here : blockFaults E L b w₀ ≡ kindFaults T h E L at left end (stateOf f (F .rows .each)) s
-    here = u .so-far .same .blamed ∙ (ap (λ (x : Block). blockFaults E L x (stateOf f (F .rows .each)))
-        (parse-some left T h at end _ (u .some) (u .within) (u .read)) ∙ faults-here T h E L at left end (stateOf f (F .rows .each)) s)
+  module _ (s : Statement) (u : Turn T h E L rs end allowed b w₀ M₀ at left f F M s) where
+    here : blockFaults E L rs b w₀ ≡ kindFaults T h E L rs at left end (stateOf f (F .rows .each)) s
+    here = u .so-far .same .blamed ∙ (ap (λ (x : Block). blockFaults E L rs x (stateOf f (F .rows .each)))
+        (parse-some left T h at end _ (u .some) (u .within) (u .read)) ∙ faults-here T h E L rs at left end (stateOf f (F .rows .each)) s)
 
-    whole-after : blockAfter E L b w₀ ≡ kindAfter T h E L at left end (stateOf f (F .rows .each)) s
+    whole-after : blockAfter E L b w₀ ≡ kindAfter T h E L rs at left end (stateOf f (F .rows .each)) s
     whole-after = u .so-far .same .left ∙ (ap (λ (x : Block). blockAfter E L x (stateOf f (F .rows .each)))
-        (parse-some left T h at end _ (u .some) (u .within) (u .read)) ∙ after-here T h E L at left end (stateOf f (F .rows .each)) s)
+        (parse-some left T h at end _ (u .some) (u .within) (u .read)) ∙ after-here T h E L rs at left end (stateOf f (F .rows .each)) s)
 
-    whole-marks : blockMarks E L b w₀ M₀ ≡ kindMarks T h E L at left end (stateOf f (F .rows .each)) s M
+    whole-marks : blockMarks E L b w₀ M₀ ≡ kindMarks T h E L rs at left end (stateOf f (F .rows .each)) s M
     whole-marks = u .so-far .same .marks ∙ (ap (λ (x : Block). blockMarks E L x (stateOf f (F .rows .each)) M)
-        (parse-some left T h at end _ (u .some) (u .within) (u .read)) ∙ marks-here T h E L at left end (stateOf f (F .rows .each)) s M)
+        (parse-some left T h at end _ (u .some) (u .within) (u .read)) ∙ marks-here T h E L rs at left end (stateOf f (F .rows .each)) s M)
 
-  pub at-node : {s : Statement} → Turn T h E L end allowed b w₀ M₀ at left f F M s → InPlace T h at (at-statement T h E L at left end (stateOf f
+  pub at-node : {s : Statement} → Turn T h E L rs end allowed b w₀ M₀ at left f F M s → InPlace T h at (at-statement T h E L rs at left end (stateOf f
       (F .rows .each)) s)
   at-node u = let e = parse-some left T h at end _ (u .some) (u .within) (u .read) in rw e at (u .so-far .in-place)
 
   -- The next turn.
-  next : {s : Statement} {x : ℕ} {g : FactSet} {G : Force} {i : State FactSet} {N : List ℕ} → Turn T h E L end allowed b w₀ M₀ at left f F M s
-      → blockFaults E L b w₀ ≡ blockFaults E L (rest T h left x end) i → blockAfter E L b w₀ ≡ blockAfter E L (rest T h left x end) i
+  next : {s : Statement} {x : ℕ} {g : FactSet} {G : Force} {i : State FactSet} {N : List ℕ} → Turn T h E L rs end allowed b w₀ M₀ at left f F M s
+      → blockFaults E L rs b w₀ ≡ blockFaults E L rs (rest T h left x end) i → blockAfter E L b w₀ ≡ blockAfter E L (rest T h left x end) i
       → blockMarks E L b w₀ M₀ ≡ blockMarks E L (rest T h left x end) i N
       → stateOf g (G .rows .each) ≡ i → InPlace T h x (rest T h left x end)
-      → Forced E (G .rows .each) G → Kept T h E L end allowed b w₀ M₀ x (left - 1) g G N
+      → Forced E (G .rows .each) G → Kept T h E L rs end allowed b w₀ M₀ x (left - 1) g G N
   next {s} {x} {N = N} u p q v e n o = record {
     same = record {
-      blamed = p ∙ ap (blockFaults E L (rest T h left x end)) (sym e);
+      blamed = p ∙ ap (blockFaults E L rs (rest T h left x end)) (sym e);
       left = q ∙ ap (blockAfter E L (rest T h left x end)) (sym e);
       marks = v ∙ ap (λ (j : State FactSet). blockMarks E L (rest T h left x end) j N) (sym e);
     };
@@ -303,7 +319,7 @@ module _ {T : List ℤ} {h : Sections} {E : Environment} {L : List ℤ} {end all
   }
 
   -- Any kind but 14.
-  module _ {p : Simple} (u : Turn T h E L end allowed b w₀ M₀ at left f F M (Plain p)) (n : declaresOf p ≡ NoRow) {d : Applied}
+  module _ {p : Simple} (u : Turn T h E L rs end allowed b w₀ M₀ at left f F M (Plain p)) (n : declaresOf p ≡ NoRow) {d : Applied}
       (e : d ≡ applied (E .sizes) (E .spans) f p)
       {v : Verdict} (z : v ≡ verdictOf (boundsAt at (unshown (seenAs (F .seen)) (d .facts) (boundsAfter (d .effect) (F .seen .declared))))) where
     still : stateAfter p (stateOf f (F .rows .each)) ≡ stateOf (factsAfter p f) (F .rows .each)
@@ -320,12 +336,12 @@ module _ {T : List ℤ} {h : Sections} {E : Environment} {L : List ℤ} {end all
         ∙ ap (λ (w : State FactSet).
         verdictOf (boundsAt at (unshownIn E w (boundsAfter (effect E f p) (declaredIn E (stateOf f (F .rows .each))))))) (sym still))))
 
-    plain-here : blockFaults E L b w₀
+    plain-here : blockFaults E L rs b w₀
         ≡ also (boundsAt at (unshownIn E (stateAfter p (stateOf f (F .rows .each))) (boundsAfter (effect E f p) (declaredIn E (stateOf f (F .rows .each))))))
-        (blockFaults E L (rest T h left (at + 1) end) (stateAfter p (stateOf f (F .rows .each))))
+        (blockFaults E L rs (rest T h left (at + 1) end) (stateAfter p (stateOf f (F .rows .each))))
     plain-here = here (Plain p) u ∙ pass _ _ (nothing-asked E f (declaredIn E (stateOf f (F .rows .each))) p at n)
 
-    pub plain-refused : {w : Walked} {r : Refusal} → w .verdict ≡ v → v ≡ Refused r → Walks E L b w₀ M₀ w
+    pub plain-refused : {w : Walked} {r : Refusal} → w .verdict ≡ v → v ≡ Refused r → Walks E L rs b w₀ M₀ w
     plain-refused q x = stops _ _ plain-here (q ∙ shown-here) (q ∙ x)
 
     -- The report: the access is shown safe before it.
@@ -336,16 +352,17 @@ module _ {T : List ℤ} {h : Sections} {E : Environment} {L : List ℤ} {end all
         (ap (λ (z : Seen). accessSafe (seenAs z) f p) (u .so-far .forced .seen) ∙ seen-safe (inForce E (F .rows .each)) f p)))
 
     pub turn-plain : {N : List ℕ} → N ≡ markedIf (accessSafe (seenAs (F .seen)) f p) M at → v ≡ Accepted
-        → Kept T h E L end allowed b w₀ M₀ (at + 1) (left - 1) (d .facts) F N
+        → Kept T h E L rs end allowed b w₀ M₀ (at + 1) (left - 1) (d .facts) F N
     turn-plain t x =
         next u (plain-here ∙ pass _ _ (none-refused _ shown-here x)) (whole-after (Plain p) u) (marked-here t)
         (ap (λ (g : FactSet). stateOf g (F .rows .each)) (applied-facts E f p e) ∙ sym still) (after-plain (at-node u)) (u .so-far .forced)
 
   -- Nothing has to be shown again.
-  pub turn-untouched : {p : Simple} → Turn T h E L end allowed b w₀ M₀ at left f F M (Plain p) → declaresOf p ≡ NoRow → {d : Applied}
+  pub turn-untouched : {p : Simple} → Turn T h E L rs end allowed b w₀ M₀ at left f F M (Plain p) → declaresOf p ≡ NoRow → {d : Applied}
       → d ≡ applied (E .sizes) (E .spans) f p
       → {N : List ℕ} → N ≡ markedIf (accessSafe (seenAs (F .seen)) f p) M at
-      → {P : List Bool} → P ≡ E .pointers → touches (F .named .each) P (d .effect) ≡ false → Kept T h E L end allowed b w₀ M₀ (at + 1) (left - 1) (d .facts) F N
+      → {P : List Bool} → P ≡ E .pointers → touches (F .named .each) P (d .effect) ≡ false
+      → Kept T h E L rs end allowed b w₀ M₀ (at + 1) (left - 1) (d .facts) F N
   unfolding boundsAt verdictOf
   turn-untouched u n {d} e t y x =
       turn-plain u n e {v = Accepted}
@@ -353,25 +370,25 @@ module _ {T : List ℤ} {h : Sections} {E : Environment} {L : List ℤ} {end all
       (λ (z : List Bool). touches (F .named .each) z (d .effect)) (ap (λ (s : Seen). s .pointers) (u .so-far .forced .seen) ∙ sym y) ∙ x) (d .facts)))) t refl
 
   -- Kind 14.
-  module _ {p : Simple} (u : Turn T h E L end allowed b w₀ M₀ at left f F M (Plain p)) {y r : ℕ} (n : declaresOf p ≡ Row y r)
+  module _ {p : Simple} (u : Turn T h E L rs end allowed b w₀ M₀ at left f F M (Plain p)) {y r : ℕ} (n : declaresOf p ≡ Row y r)
       {d : Declared} (z : DeclaresRow E f (F .rows .each) y r at d) where
     row-after : stateAfter p (stateOf f (F .rows .each)) ≡ stateOf f (set (F .rows .each) y (r + 1))
     row-after = ap (λ (s : Simple). stateAfter s (stateOf f (F .rows .each))) (row-named p y r n) ∙ declare-after y r f (F .rows .each)
 
-    row-here : blockFaults E L b w₀ ≡ also (also (boundsAt at (rowUnshown E f (declaredIn E (stateOf f (F .rows .each))) (Declare y r)))
+    row-here : blockFaults E L rs b w₀ ≡ also (also (boundsAt at (rowUnshown E f (declaredIn E (stateOf f (F .rows .each))) (Declare y r)))
         (boundsAt at (unshown (inForce E (set (F .rows .each) y (r + 1))) f (boundsAfter Keep (declaredIn E (stateOf f (F .rows .each)))))))
-        (blockFaults E L (rest T h left (at + 1) end) (stateOf f (set (F .rows .each) y (r + 1))))
+        (blockFaults E L rs (rest T h left (at + 1) end) (stateOf f (set (F .rows .each) y (r + 1))))
     row-here =
-        here (Plain p) u ∙ (ap (λ (s : Simple). kindFaults T h E L at left end (stateOf f (F .rows .each)) (Plain s)) (row-named p y r n)
+        here (Plain p) u ∙ (ap (λ (s : Simple). kindFaults T h E L rs at left end (stateOf f (F .rows .each)) (Plain s)) (row-named p y r n)
         ∙ (ap₂ (λ (w : State FactSet) (x : Effect). also (boundsAt at (rowUnshown E f (declaredIn E (stateOf f (F .rows .each))) (Declare y r)))
-        (also (boundsAt at (unshownIn E w (boundsAfter x (declaredIn E (stateOf f (F .rows .each)))))) (blockFaults E L (rest T h left (at + 1) end) w)))
+        (also (boundsAt at (unshownIn E w (boundsAfter x (declaredIn E (stateOf f (F .rows .each)))))) (blockFaults E L rs (rest T h left (at + 1) end) w)))
         (declare-after y r f (F .rows .each)) (declare-keeps E f y r)
         ∙ sym (also-assoc _ _ _)))
 
-    pub row-refused : {w : Walked} {x : Refusal} → w .verdict ≡ d .verdict → d .verdict ≡ Refused x → Walks E L b w₀ M₀ w
+    pub row-refused : {w : Walked} {x : Refusal} → w .verdict ≡ d .verdict → d .verdict ≡ Refused x → Walks E L rs b w₀ M₀ w
     row-refused q x = stops _ _ row-here (q ∙ z .said) (q ∙ x)
 
-    pub turn-row : d .verdict ≡ Accepted → Kept T h E L end allowed b w₀ M₀ (at + 1) (left - 1) f (d .force) M
+    pub turn-row : d .verdict ≡ Accepted → Kept T h E L rs end allowed b w₀ M₀ (at + 1) (left - 1) f (d .force) M
     turn-row x =
         let o = z .kept x in
         next u (row-here ∙ pass _ _ (none-refused _ (z .said) x)) (whole-after (Plain p) u ∙ ap (blockAfter E L (rest T h left (at + 1) end)) row-after)
@@ -380,40 +397,40 @@ module _ {T : List ℤ} {h : Sections} {E : Environment} {L : List ℤ} {end all
         (F .rows .each)) y r M at))
         (ap (stateOf f) (o .rows)) (after-plain (at-node u)) (forced-own o)
 
-  module _ {c : Condition} {n m : ℕ} (u : Turn T h E L end allowed b w₀ M₀ at left f F M (If c n m))
-      {g : FactSet} (e : g ≡ conditionFacts f c) {r : Walked} (w : Walks E L (rest T h left (at + 1) (at + 1 + n)) (stateOf g (F .rows .each)) M r) where
-    then-walk : Walks E L (rest T h left (at + 1) (at + 1 + n)) (assumed (stateOf f (F .rows .each)) c) M r
+  module _ {c : Condition} {n m : ℕ} (u : Turn T h E L rs end allowed b w₀ M₀ at left f F M (If c n m))
+      {g : FactSet} (e : g ≡ conditionFacts f c) {r : Walked} (w : Walks E L rs (rest T h left (at + 1) (at + 1 + n)) (stateOf g (F .rows .each)) M r) where
+    then-walk : Walks E L rs (rest T h left (at + 1) (at + 1 + n)) (assumed (stateOf f (F .rows .each)) c) M r
     then-walk = rw e at w
 
-    pub then-refused : {v : Refusal} → r .verdict ≡ Refused v → Walks E L b w₀ M₀ r
+    pub then-refused : {v : Refusal} → r .verdict ≡ Refused v → Walks E L rs b w₀ M₀ r
     then-refused x = stops _ _ (here (If c n m) u) (then-walk .said) x
 
     module _ (q : r .verdict ≡ Accepted) {i : FactSet} {d : Condition} (j : d ≡ negatedOf c) (k : i ≡ conditionFacts f d) {o : Walked}
-        (z : Walks E L (rest T h left (at + 1 + n) (at + 1 + n + m)) (stateOf i (F .rows .each)) (r .report .words) o) where
-      else-walk : Walks E L (rest T h left (at + 1 + n) (at + 1 + n + m)) (assumed (stateOf f (F .rows .each)) (negatedOf c)) (r .report .words) o
+        (z : Walks E L rs (rest T h left (at + 1 + n) (at + 1 + n + m)) (stateOf i (F .rows .each)) (r .report .words) o) where
+      else-walk : Walks E L rs (rest T h left (at + 1 + n) (at + 1 + n + m)) (assumed (stateOf f (F .rows .each)) (negatedOf c)) (r .report .words) o
       else-walk = rw (k, j) at z
 
-      then-clear : blockFaults E L (rest T h left (at + 1) (at + 1 + n)) (assumed (stateOf f (F .rows .each)) c) ≡ []
+      then-clear : blockFaults E L rs (rest T h left (at + 1) (at + 1 + n)) (assumed (stateOf f (F .rows .each)) c) ≡ []
       then-clear = none-refused _ (then-walk .said) q
 
-      pub else-refused : {v : Refusal} → o .verdict ≡ Refused v → Walks E L b w₀ M₀ o
+      pub else-refused : {v : Refusal} → o .verdict ≡ Refused v → Walks E L rs b w₀ M₀ o
       else-refused x = stops _ _ (here (If c n m) u ∙ pass _ _ then-clear) (else-walk .said) x
 
       module _ (x : o .verdict ≡ Accepted) {s : Bool} (l : s ≡ sameRows (r .rows .each) (o .rows .each)) where
-        else-clear : blockFaults E L (rest T h left (at + 1 + n) (at + 1 + n + m)) (assumed (stateOf f (F .rows .each)) (negatedOf c)) ≡ []
+        else-clear : blockFaults E L rs (rest T h left (at + 1 + n) (at + 1 + n + m)) (assumed (stateOf f (F .rows .each)) (negatedOf c)) ≡ []
         else-clear = none-refused _ (else-walk .said) x
 
-        sides-here : blockFaults E L b w₀ ≡ also (rowsAt at (r .rows .each) (o .rows .each)) (blockFaults E L (rest T h left (at + 1 + n + m) end)
+        sides-here : blockFaults E L rs b w₀ ≡ also (rowsAt at (r .rows .each) (o .rows .each)) (blockFaults E L rs (rest T h left (at + 1 + n + m) end)
             (sidesJoined E (stateOf (r .facts) (r .rows .each)) (stateOf (o .facts) (o .rows .each))))
         sides-here =
             here (If c n m) u ∙ (pass _ _ then-clear ∙ (pass _ _ else-clear
-            ∙ ap₂ (λ (v w : State FactSet). also (rowsAt at (v .rows) (w .rows)) (blockFaults E L (rest T h left (at + 1 + n + m) end)
+            ∙ ap₂ (λ (v w : State FactSet). also (rowsAt at (v .rows) (w .rows)) (blockFaults E L rs (rest T h left (at + 1 + n + m) end)
             (sidesJoined E v w))) (sym (then-walk .kept then-clear)) (sym (else-walk .kept else-clear))))
 
-        pub sides-differ : {w : Walked} → s ≡ false → w .verdict ≡ Refused (RowsDiffer at) → Walks E L b w₀ M₀ w
+        pub sides-differ : {w : Walked} → s ≡ false → w .verdict ≡ Refused (RowsDiffer at) → Walks E L rs b w₀ M₀ w
         sides-differ t v = stops _ _ sides-here (v ∙ rows-refused at (r .rows .each) (o .rows .each) (sym l ∙ t)) v
 
-        sides-marked : kindMarks T h E L at left end (stateOf f (F .rows .each)) (If c n m) M ≡ blockMarks E L (rest T h left (at + 1 + n + m) end)
+        sides-marked : kindMarks T h E L rs at left end (stateOf f (F .rows .each)) (If c n m) M ≡ blockMarks E L (rest T h left (at + 1 + n + m) end)
             (sidesJoined E (stateOf (r .facts) (r .rows .each)) (stateOf (o .facts) (o .rows .each))) (o .report .words)
         sides-marked =
             ap₂ (blockMarks E L (rest T h left (at + 1 + n + m) end))
@@ -424,7 +441,7 @@ module _ {T : List ℤ} {h : Sections} {E : Environment} {L : List ℤ} {end all
 
         pub turn-if : {y : FactSet} {G : Force} → s ≡ true → {P : List Bool} → P ≡ E .pointers → y ≡ joined (λ v. getD P v false) (r .facts) (o .facts)
             → Forced E (r .rows .each) G
-            → Kept T h E L end allowed b w₀ M₀ (at + 1 + n + m) (left - 1) y G (o .report .words)
+            → Kept T h E L rs end allowed b w₀ M₀ (at + 1 + n + m) (left - 1) y G (o .report .words)
         turn-if t {P} p y a =
             next u (sides-here ∙ pass _ _ (rows-clear at (r .rows .each) (o .rows .each) (sym l ∙ t)))
             (whole-after (If c n m) u ∙ ap₂ (λ (v w : State FactSet). blockAfter E L (rest T h left (at + 1 + n + m) end) (sidesJoined E v w))
@@ -433,73 +450,74 @@ module _ {T : List ℤ} {h : Sections} {E : Environment} {L : List ℤ} {end all
             (ap₂ stateOf (y ∙ ap (λ (Q : List Bool). joined (λ v. getD Q v false) (r .facts) (o .facts)) p) (a .rows)) (after-if (u .read) (at-node u))
             (forced-own a)
 
-  module _ {c : Condition} {n : ℕ} (u : Turn T h E L end allowed b w₀ M₀ at left f F M (While c n))
+  module _ {c : Condition} {n : ℕ} (u : Turn T h E L rs end allowed b w₀ M₀ at left f F M (While c n))
       {v : Verdict} (asked : v ≡ verdictOf (entriesUnshown (entriesOf L at) f)) where
-    pub before-refused : {w : Walked} {x : Refusal} → w .verdict ≡ v → v ≡ Refused x → Walks E L b w₀ M₀ w
+    pub before-refused : {w : Walked} {x : Refusal} → w .verdict ≡ v → v ≡ Refused x → Walks E L rs b w₀ M₀ w
     before-refused q x = stops _ _ (here (While c n) u) (q ∙ asked) (q ∙ x)
 
     module _ (shown : v ≡ Accepted) {l : FactSet} (y : l ≡ loopFacts (targetsFrom T h (at + 1) n) f) {k : FactSet} (listed : k ≡ entryFacts (entriesOf L at) l)
         {g : FactSet} (e : g ≡ conditionFacts k c)
-        {r : Walked} (w : Walks E L (rest T h left (at + 1) (at + 1 + n)) (stateOf g (F .rows .each)) M r) where
+        {r : Walked} (w : Walks E L rs (rest T h left (at + 1) (at + 1 + n)) (stateOf g (F .rows .each)) M r) where
       lost : k ≡ entryFacts (entriesOf L at) (loopFacts (assigned (rest T h left (at + 1) (at + 1 + n))) f)
       lost = listed ∙ ap (entryFacts (entriesOf L at)) (y ∙ ap (λ (xs : List ℕ). loopFacts xs f) (sym (body-assigned (u .read) (at-node u))))
 
-      body-walk : Walks E L (rest T h left (at + 1) (at + 1 + n)) (assumed (head-state T h E L at left end (stateOf f (F .rows .each)) n) c) M r
+      body-walk : Walks E L rs (rest T h left (at + 1) (at + 1 + n)) (assumed (head-state T h E L rs at left end (stateOf f (F .rows .each)) n) c) M r
       body-walk = rw (e, lost) at w
 
-      body-here : blockFaults E L b w₀ ≡ also (blockFaults E L (rest T h left (at + 1) (at + 1 + n))
-          (assumed (head-state T h E L at left end (stateOf f (F .rows .each)) n) c))
+      body-here : blockFaults E L rs b w₀ ≡ also (blockFaults E L rs (rest T h left (at + 1) (at + 1 + n))
+          (assumed (head-state T h E L rs at left end (stateOf f (F .rows .each)) n) c))
           (also (entriesUnshown (entriesOf L at) (blockAfter E L (rest T h left (at + 1) (at + 1 + n))
-          (assumed (head-state T h E L at left end (stateOf f (F .rows .each)) n) c) .facts))
+          (assumed (head-state T h E L rs at left end (stateOf f (F .rows .each)) n) c) .facts))
           (also (rowsAt at (F .rows .each) (blockAfter E L (rest T h left (at + 1) (at + 1 + n))
-          (assumed (head-state T h E L at left end (stateOf f (F .rows .each)) n) c) .rows))
-          (blockFaults E L (rest T h left (at + 1 + n) end) (assumed (head-state T h E L at left end (stateOf f (F .rows .each)) n) (negatedOf c)))))
+          (assumed (head-state T h E L rs at left end (stateOf f (F .rows .each)) n) c) .rows))
+          (blockFaults E L rs (rest T h left (at + 1 + n) end) (assumed (head-state T h E L rs at left end (stateOf f (F .rows .each)) n) (negatedOf c)))))
       body-here = here (While c n) u ∙ pass _ _ (none-refused _ asked shown)
 
-      pub body-refused : {x : Refusal} → r .verdict ≡ Refused x → Walks E L b w₀ M₀ r
+      pub body-refused : {x : Refusal} → r .verdict ≡ Refused x → Walks E L rs b w₀ M₀ r
       body-refused x = stops _ _ body-here (body-walk .said) x
 
       module _ (x : r .verdict ≡ Accepted) {a : Verdict} (again : a ≡ verdictOf (entriesUnshown (entriesOf L at) (r .facts))) where
-        body-clear : blockFaults E L (rest T h left (at + 1) (at + 1 + n)) (assumed (head-state T h E L at left end (stateOf f (F .rows .each)) n) c) ≡ []
+        body-clear : blockFaults E L rs (rest T h left (at + 1) (at + 1 + n)) (assumed (head-state T h E L rs at left end (stateOf f (F .rows .each)) n) c) ≡ []
         body-clear = none-refused _ (body-walk .said) x
 
-        end-here : blockFaults E L b w₀ ≡ also (entriesUnshown (entriesOf L at) (r .facts)) (also (rowsAt at (F .rows .each) (r .rows .each))
-            (blockFaults E L (rest T h left (at + 1 + n) end) (assumed (head-state T h E L at left end (stateOf f (F .rows .each)) n) (negatedOf c))))
+        end-here : blockFaults E L rs b w₀ ≡ also (entriesUnshown (entriesOf L at) (r .facts)) (also (rowsAt at (F .rows .each) (r .rows .each))
+            (blockFaults E L rs (rest T h left (at + 1 + n) end) (assumed (head-state T h E L rs at left end (stateOf f (F .rows .each)) n) (negatedOf c))))
         end-here =
             body-here ∙ (pass _ _ body-clear
             ∙ ap (λ (v : State FactSet). also (entriesUnshown (entriesOf L at) (v .facts)) (also (rowsAt at (F .rows .each) (v .rows))
-            (blockFaults E L (rest T h left (at + 1 + n) end) (assumed (head-state T h E L at left end (stateOf f (F .rows .each)) n) (negatedOf c)))))
+            (blockFaults E L rs (rest T h left (at + 1 + n) end) (assumed (head-state T h E L rs at left end (stateOf f (F .rows .each)) n) (negatedOf c)))))
             (sym (body-walk .kept body-clear)))
 
-        pub again-refused : {w : Walked} {z : Refusal} → w .verdict ≡ a → a ≡ Refused z → Walks E L b w₀ M₀ w
+        pub again-refused : {w : Walked} {z : Refusal} → w .verdict ≡ a → a ≡ Refused z → Walks E L rs b w₀ M₀ w
         again-refused q z = stops _ _ end-here (q ∙ again) (q ∙ z)
 
         module _ (held : a ≡ Accepted) {s : Bool} (o : s ≡ sameRows (F .rows .each) (r .rows .each)) where
-          loop-here : blockFaults E L b w₀ ≡ also (rowsAt at (F .rows .each) (r .rows .each))
-              (blockFaults E L (rest T h left (at + 1 + n) end) (assumed (head-state T h E L at left end (stateOf f (F .rows .each)) n) (negatedOf c)))
+          loop-here : blockFaults E L rs b w₀ ≡ also (rowsAt at (F .rows .each) (r .rows .each))
+              (blockFaults E L rs (rest T h left (at + 1 + n) end) (assumed (head-state T h E L rs at left end (stateOf f (F .rows .each)) n) (negatedOf c)))
           loop-here = end-here ∙ pass _ _ (none-refused _ again held)
 
-          pub ends-differ : {w : Walked} → s ≡ false → w .verdict ≡ Refused (RowsDiffer at) → Walks E L b w₀ M₀ w
+          pub ends-differ : {w : Walked} → s ≡ false → w .verdict ≡ Refused (RowsDiffer at) → Walks E L rs b w₀ M₀ w
           ends-differ t v = stops _ _ loop-here (v ∙ rows-refused at (F .rows .each) (r .rows .each) (sym o ∙ t)) v
 
           pub turn-while : {d : Condition} {i : FactSet} → s ≡ true → d ≡ negatedOf c → i ≡ conditionFacts k d
-              → Kept T h E L end allowed b w₀ M₀ (at + 1 + n) (left - 1) i F (r .report .words)
+              → Kept T h E L rs end allowed b w₀ M₀ (at + 1 + n) (left - 1) i F (r .report .words)
           turn-while t j z =
               next u (loop-here ∙ pass _ _ (rows-clear at (F .rows .each) (r .rows .each) (sym o ∙ t))) (whole-after (While c n) u)
               (whole-marks (While c n) u ∙ ap (blockMarks E L (rest T h left (at + 1 + n) end)
-              (assumed (head-state T h E L at left end (stateOf f (F .rows .each)) n) (negatedOf c))) (sym (body-walk .marked body-clear)))
+              (assumed (head-state T h E L rs at left end (stateOf f (F .rows .each)) n) (negatedOf c))) (sym (body-walk .marked body-clear)))
               (ap (λ (g : FactSet). stateOf g (F .rows .each)) (z ∙ ap₂ conditionFacts lost j)) (after-while (u .read) (at-node u)) (u .so-far .forced)
 
-  module _ {n : ℕ} (u : Turn T h E L end allowed b w₀ M₀ at left f F M (Bundle n))
+  module _ {n : ℕ} (u : Turn T h E L rs end allowed b w₀ M₀ at left f F M (Bundle n))
       {r : Walked} (w : WalksBundle E at (simples n T h (at + 1)) (stateOf f (F .rows .each)) (declaredIn E (stateOf f (F .rows .each))) M r) where
-    bundle-here : blockFaults E L b w₀ ≡ also (lineFaults E at (at + 1) (simples n T h (at + 1)) (stateOf f (F .rows .each)) (declaredIn E
-        (stateOf f (F .rows .each)))) (blockFaults E L (rest T h left (at + 1 + n) end) (bundleAfter (simples n T h (at + 1)) (stateOf f (F .rows .each))))
+    bundle-here : blockFaults E L rs b w₀ ≡ also (lineFaults E at (at + 1) (simples n T h (at + 1)) (stateOf f (F .rows .each)) (declaredIn E
+        (stateOf f (F .rows .each)))) (blockFaults E L rs (rest T h left (at + 1 + n) end) (bundleAfter (simples n T h (at + 1)) (stateOf f (F .rows .each))))
     bundle-here = here (Bundle n) u ∙ sym (also-assoc _ _ _)
 
-    pub bundle-refused : {v : Refusal} → r .verdict ≡ Refused v → Walks E L b w₀ M₀ r
+    pub bundle-refused : {v : Refusal} → r .verdict ≡ Refused v → Walks E L rs b w₀ M₀ r
     bundle-refused x = stops _ _ bundle-here (w .said) x
 
-    pub turn-bundle : {G : Force} → r .verdict ≡ Accepted → Forced E (r .rows .each) G → Kept T h E L end allowed b w₀ M₀ (at + 1 + n) (left - 1) (r .facts) G
+    pub turn-bundle : {G : Force} → r .verdict ≡ Accepted → Forced E (r .rows .each) G
+        → Kept T h E L rs end allowed b w₀ M₀ (at + 1 + n) (left - 1) (r .facts) G
         (r .report .words)
     turn-bundle x a =
         let clear = none-refused _ (w .said) x in
@@ -507,3 +525,29 @@ module _ {T : List ℤ} {h : Sections} {E : Environment} {L : List ℤ} {end all
         (whole-marks (Bundle n) u ∙ ap (blockMarks E L (rest T h left (at + 1 + n) end) (bundleAfter (simples n T h (at + 1)) (stateOf f (F .rows .each))))
         (sym (w .marked clear))) (ap (stateOf (r .facts)) (a .rows) ∙ w .kept clear)
         (after-bundle (u .read) (at-node u)) (forced-own a)
+
+  -- Kind 15.
+  module _ {c : CallSite} (u : Turn T h E L rs end allowed b w₀ M₀ at left f F M (Call c))
+      {v : Verdict} (z : v ≡ verdictOf (callChecked rs E (F .seen) at c f)) where
+    abbrev set-here : List Refusal
+    set-here = boundsAt at (unshownIn E (calledState c (stateOf f (F .rows .each))) (boundsAfter (resultEffect c) (declaredIn E (stateOf f (F .rows .each)))))
+
+    call-here : blockFaults E L rs b w₀ ≡ also (also (callFaults rs E at c f (declaredIn E (stateOf f (F .rows .each)))) set-here)
+        (blockFaults E L rs (rest T h left (at + 1) end) (calledState c (stateOf f (F .rows .each))))
+    call-here = here (Call c) u ∙ sym (also-assoc _ _ _)
+
+    call-shown : v ≡ verdictOf (also (callFaults rs E at c f (declaredIn E (stateOf f (F .rows .each)))) set-here)
+    unfolding callChecked
+    call-shown =
+        z ∙ (ap (λ (x : Seen). verdictOf (callChecked rs E x at c f)) (u .so-far .forced .seen)
+        ∙ ap (λ (ps : List ℕ). verdictOf (also (callFaults rs E at c f (declaredIn E (stateOf f (F .rows .each)))) (boundsAt at ps)))
+        (seen-unshown (inForce E (F .rows .each)) (calledState c (stateOf f (F .rows .each)) .facts)
+        (boundsAfter (resultEffect c) (declaredIn E (stateOf f (F .rows .each))))))
+
+    pub call-refused : {w : Walked} {r : Refusal} → w .verdict ≡ v → v ≡ Refused r → Walks E L rs b w₀ M₀ w
+    call-refused q x = stops _ _ call-here (q ∙ call-shown) (q ∙ x)
+
+    pub turn-call : v ≡ Accepted → {g : FactSet} → g ≡ resultFacts store c f → Kept T h E L rs end allowed b w₀ M₀ (at + 1) (left - 1) g F M
+    turn-call x e =
+        next u (call-here ∙ pass _ _ (none-refused _ call-shown x)) (whole-after (Call c) u) (whole-marks (Call c) u)
+        (ap (λ (g : FactSet). stateOf g (F .rows .each)) e) (after-call (at-node u)) (u .so-far .forced)

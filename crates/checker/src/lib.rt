@@ -21,6 +21,7 @@ ghost use Rattle.table.specs.FormLaws.{Formed};
 ghost use Rattle.blocks.specs.Layout.{layout};
 ghost use Rattle.listed.specs.ListForm.{listFaults};
 ghost use Rattle.rules.specs.ByChains.{Judged, Reported};
+ghost use Rattle.declared.specs.Callee.{calleesIn};
 ghost use Rattle.checker.specs.Checks.{Refuses, ChecksSections};
 
 // What a check answers: the verdict, and which accesses of an accepted routine are reported. By value: nothing is lent for it, and 1,024 bits are small.
@@ -40,9 +41,15 @@ fn refuse(refusal: Refusal) -> Checked
 }
 
 // The walk over the statements, begun with what is always known and each pointer's own bound.
-fn check_statements(table: &[i32], sections: Sections, listed: &[i32]) -> Checked
+fn check_statements(
+    table: &[i32],
+    sections: Sections,
+    listed: &[i32],
+    words: &[i32],
+    callees: &[u32],
+) -> Checked
     requires { ⌜ Formed (now table) sections × (layout (now table) sections ≡ []) × (listFaults (now table) sections (now listed) ≡ []) ⌝ }
-    ensures { λ r. ⌜ ChecksSections (now (table .entry)) sections (now (listed .entry)) r ⌝ }
+    ensures { λ r. ⌜ ChecksSections (calleesIn (now (words .entry)) (now (callees .entry))) (now (table .entry)) sections (now (listed .entry)) r ⌝ }
 {
     let statements = sections.statements;
     let walked = walk::walk(
@@ -56,6 +63,8 @@ fn check_statements(table: &[i32], sections: Sections, listed: &[i32]) -> Checke
         statements,
         FactSet::new(),
         no_report(),
+        words,
+        callees,
     );
     let verdict = walked.verdict;
     let Verdict::Refused(refusal) = verdict else {
@@ -69,36 +78,53 @@ fn check_statements(table: &[i32], sections: Sections, listed: &[i32]) -> Checke
 }
 
 // The form of the list of loop facts, then the walk.
-fn check_listed(table: &[i32], sections: Sections, listed: &[i32]) -> Checked
+fn check_listed(
+    table: &[i32],
+    sections: Sections,
+    listed: &[i32],
+    words: &[i32],
+    callees: &[u32],
+) -> Checked
     requires { ⌜ Formed (now table) sections × (layout (now table) sections ≡ []) ⌝ }
-    ensures { λ r. ⌜ ChecksSections (now (table .entry)) sections (now (listed .entry)) r ⌝ }
+    ensures { λ r. ⌜ ChecksSections (calleesIn (now (words .entry)) (now (callees .entry))) (now (table .entry)) sections (now (listed .entry)) r ⌝ }
 {
     let form = check_list(table, sections, listed);
     match form {
         ListForm::Refused(refusal) => refuse(refusal),
-        ListForm::Right => check_statements(table, sections, listed),
+        ListForm::Right => check_statements(table, sections, listed, words, callees),
     }
 }
 
-// Cause 6, then the list and the statements.
-fn check_sections(table: &[i32], sections: Sections, listed: &[i32]) -> Checked
+// Cause 6, then the list and the statements. `callees` are the lengths of the tables that may be called: they stand in `words`, one after
+// the other.
+pub fn check_sections(
+    table: &[i32],
+    sections: Sections,
+    listed: &[i32],
+    words: &[i32],
+    callees: &[u32],
+) -> Checked
     requires { ⌜ Formed (now table) sections ⌝ }
-    ensures { λ r. ⌜ ChecksSections (now (table .entry)) sections (now (listed .entry)) r ⌝ }
+    ensures { λ r. ⌜ ChecksSections (calleesIn (now (words .entry)) (now (callees .entry))) (now (table .entry)) sections (now (listed .entry)) r ⌝ }
 {
     let laid = read_layout(table, sections);
     match laid {
         Layout::Refused(refusal) => refuse(refusal),
-        Layout::LaidOut => check_listed(table, sections, listed),
+        Layout::LaidOut => check_listed(table, sections, listed, words, callees),
     }
 }
 
-// The verdict on a routine table with its list of loop facts, four words an entry (an empty list: none), and the report.
+// The verdict on a routine table with its list of loop facts, four words an entry (an empty list: none), and the report. A routine by itself may call none.
 pub fn check(table: &[i32], listed: &[i32]) -> Checked
-    ensures { λ r. ⌜ Judged (now (table .entry)) (now (listed .entry)) (r .verdict) × Reported (now (table .entry)) (now (listed .entry)) (r .report .words) ⌝ }
+    ensures { λ r. ⌜ Judged [] (now (table .entry)) (now (listed .entry)) (r .verdict) × Reported (now (table .entry)) (now (listed .entry))
+        (r .report .words) ⌝ }
 {
     let form = read_form(table);
     match form {
         Form::Refused(refusal) => refuse(refusal),
-        Form::WellFormed(sections) => check_sections(table, sections, listed),
+        Form::WellFormed(sections) => {
+            let callees = [0u32; 0];
+            check_sections(table, sections, listed, table, &callees)
+        }
     }
 }

@@ -7,6 +7,8 @@ use chains::shown::answer;
 use conditions::negated;
 use declared::Declares;
 use declared::access_safe;
+use declared::calls::check_call;
+use declared::calls::drop_result;
 use declared::check_effect;
 use declared::declares_of;
 use declared::force::Force;
@@ -36,10 +38,12 @@ ghost use Rattle.blocks.specs.Tree.{parse};
 ghost use Rattle.rules.specs.Verdict.{environmentOf};
 ghost use Rattle.rules.specs.Ranges.{Measured};
 ghost use Rattle.declared.specs.Force.{stateOf, Framed, Forced};
+ghost use Rattle.declared.specs.Callee.{calleesIn};
 ghost use Rattle.checker.specs.Walk.{InPlace, Walks};
 
 // The block of `first` to `end` - 1, which cause 6 does not refuse, from the facts `given`, what is in force, `begun`, and the report so far. `listed` is the
-// list of loop facts. `allowed` is at least the number of the block's statements; it falls at each.
+// list of loop facts. `allowed` is at least the number of the block's statements; it falls at each. `callees` are the lengths of the tables that
+// may be called: they stand in `words`, one after the other.
 // The fact set is changed in place by its own methods alone: a function in between would copy it in and out. Its frame stands on the stack once for each depth,
 // and each local has a place of its own there: `now` is the state of this block, `side` what a nested one is walked from and then what it leaves; nothing else
 // is large.
@@ -54,12 +58,14 @@ pub fn walk(
     allowed: usize,
     given: FactSet,
     reported: Report,
+    words: &[i32],
+    callees: &[u32],
 ) -> Walked
     requires { ⌜ Measured (environmentOf (now table) sections) × Framed (environmentOf (now table) sections) frame
         × Forced (environmentOf (now table) sections) (begun .rows .each) begun
         × InPlace (now table) sections first (parse allowed (now table) sections first end) × (length (now listed) ≤ 1024) ⌝ }
-    ensures { λ r. ⌜ Walks (environmentOf (now (table .entry)) sections) (now (listed .entry)) (parse allowed (now (table .entry)) sections first end)
-        (stateOf given (begun .rows .each)) (reported .words) r ⌝ }
+    ensures { λ r. ⌜ Walks (environmentOf (now (table .entry)) sections) (now (listed .entry)) (calleesIn (now (words .entry)) (now (callees .entry)))
+        (parse allowed (now (table .entry)) sections first end) (stateOf given (begun .rows .each)) (reported .words) r ⌝ }
 {
     let sizes = frame.sizes;
     let spans = frame.spans;
@@ -165,6 +171,8 @@ pub fn walk(
                     left,
                     side.facts,
                     now.report,
+                    words,
+                    callees,
                 );
                 let then_verdict = side.verdict;
                 let Verdict::Accepted = then_verdict else {
@@ -182,6 +190,8 @@ pub fn walk(
                     left,
                     now.facts,
                     side.report,
+                    words,
+                    callees,
                 );
                 let other_verdict = now.verdict;
                 let Verdict::Accepted = other_verdict else {
@@ -230,6 +240,8 @@ pub fn walk(
                     left,
                     side.facts,
                     now.report,
+                    words,
+                    callees,
                 );
                 let body_verdict = side.verdict;
                 let Verdict::Accepted = body_verdict else {
@@ -280,6 +292,29 @@ pub fn walk(
                     force = force_of(table, sections, held_rows);
                 }
                 at = rest;
+            }
+            Statement::Call(call) => {
+                let verdict = check_call(
+                    table,
+                    sections,
+                    force.seen,
+                    now.facts,
+                    words,
+                    callees,
+                    call,
+                    at,
+                );
+                let Verdict::Accepted = verdict else {
+                    let facts = now.facts;
+                    return Walked {
+                        verdict,
+                        facts,
+                        rows,
+                        report,
+                    };
+                };
+                now.facts = drop_result(now.facts, call);
+                at = inner;
             }
         }
     }

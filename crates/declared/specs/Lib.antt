@@ -3,3 +3,4 @@ pub mod ShownLaws
 pub mod UntouchedLaws
 pub mod Force
 pub mod ForceLaws
+pub mod Callee

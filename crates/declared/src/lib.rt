@@ -1,4 +1,5 @@
 // Whether declared bounds are shown: after a statement, after a bundle, at an access in one.
+pub mod calls; // calls.rt: whether the arguments of a call fit the callee
 mod ends; // ends.rt: when known bounds show declared ones
 pub mod force; // force.rt: the rows in force and what they put in force: the bounds that each pointer declares, and the variables that these name
 

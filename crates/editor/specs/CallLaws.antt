@@ -85,7 +85,7 @@ same-sections T h g f q = let z : form.WellFormed h ≡ form.WellFormed g = sym 
 
 module _ (T : List ℤ) (K S : List ℕ) {r : Answer} where
   -- It does not pass, whatever refuses it.
-  start-refused : {x : Refusal} → ((h : Sections) → Passing T h → ⊥) → Judged T [] (said.Refused x) → r ≡ unmadeBy (length T) x → Started T K S r S
+  start-refused : {x : Refusal} → ((h : Sections) → Passing T h → ⊥) → Judged [] T [] (said.Refused x) → r ≡ unmadeBy (length T) x → Started T K S r S
   start-refused {x} n j e = rw e (record { words = refl; taken = λ h p. absurd (n h p); refused = λ p. (j, refl, refl, refl) })
 
   pub start-form : {f : Form} {x : Refusal} → f ≡ formOf T → f ≡ form.Refused x → r ≡ unmadeBy (length T) x → Started T K S r S
@@ -98,7 +98,7 @@ module _ (T : List ℤ) (K S : List ℕ) {r : Answer} where
     pub start-layout : {l : Layout} {x : Refusal} → l ≡ verdict (layout T h) → l ≡ layout-variant.Refused x → r ≡ unmadeBy (length T) x → Started T K S r S
     start-layout {l} {x} e p =
         start-refused (λ g q. no-layout (layout T h) e p (let z = same-sections T h g f q in rw z (q .laid)))
-        (form-checked T [] (sym f) {c = refusedAs x} refl (layout-refused T h [] e p (refuses-as x)) .0)
+        (form-checked T [] (sym f) {c = refusedAs x} refl refl (layout-refused [] T h [] e p (refuses-as x)) .0)
 
     pub start-walked : {l : Layout} {S₁ Q : List ℕ} {w : rewalk.Rewalked} → l ≡ verdict (layout T h) → l ≡ layout-variant.LaidOut
         → Restored S (take 0 (places S)) S₁ → Rewalks T h K S₁ w Q → r ≡ walkAnswer (length T) w → Started T K S r Q

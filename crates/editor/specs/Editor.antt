@@ -34,7 +34,7 @@ use Rattle.editor.specs.declared.Head.the-variants.{Read, Unread}
 -- After a walk over T from the statement q on, with the positions P kept:
 pub record Rechecked (T : List ℤ) (h : Sections) (K : List ℕ) (n : ℕ) (P : List ℕ) (q : ℕ) (r : Answer) (Q : List ℕ) : Type 0 where
   -- "the verdict and its place equal a check of the present table from nothing",
-  pub judged : Judged T [] (r .verdict)
+  pub judged : Judged [] T [] (r .verdict)
   -- "and a count tells the statements walked";
   pub walked : r .walked ≡ walkedFrom T h q (r .verdict)
   -- of the positions named, "each that fits is stored when the walk passes it, lowest first";
@@ -54,7 +54,7 @@ pub record Started (T : List ℤ) (K S : List ℕ) (r : Answer) (Q : List ℕ) :
   pub words : r .length ≡ length T
   pub taken : (h : Sections) → Passing T h → (r .taken ≡ true) × Rechecked T h K (capacity S) [] 0 r Q
   -- "(else that refusal)": then the store stays.
-  pub refused : ((h : Sections) → Passing T h → ⊥) → Judged T [] (r .verdict) × (r .taken ≡ false) × (r .walked ≡ 0) × (Q ≡ S)
+  pub refused : ((h : Sections) → Passing T h → ⊥) → Judged [] T [] (r .verdict) × (r .taken ≡ false) × (r .walked ≡ 0) × (Q ≡ S)
 
 -- ---- an edit
 
@@ -119,4 +119,4 @@ pub data Session : List ℤ → ℕ → List ℕ → Verdict → Type 0 where
 
 -- "the verdict and its place equal a check of the present table from nothing" (`session-judged`, SessionLaws).
 abbrev pub SessionJudged : Type 0
-SessionJudged = (B : List ℤ) (L : ℕ) (S : List ℕ) (v : Verdict) → Session B L S v → Judged (take L B) [] v
+SessionJudged = (B : List ℤ) (L : ℕ) (S : List ℕ) (v : Verdict) → Session B L S v → Judged [] (take L B) [] v

@@ -13,7 +13,7 @@ use Rattle.answers.specs.declared.refusals.Refusal.{Refusal}
 use Rattle.words.specs.declared.sections.Sections.{Sections}
 use Rattle.table.specs.Form.{formOf}
 use Rattle.table.specs.declared.Form.the-variants as form
-use Rattle.blocks.specs.Tree.{Block, nil, plain, branch, loop, bundle, unread, tree}
+use Rattle.blocks.specs.Tree.{Block, nil, plain, branch, loop, bundle, call, unread, tree}
 use Rattle.blocks.specs.Layout.{also, layout}
 use Rattle.blocks.specs.Shape.{size, Laid}
 use Rattle.blocks.specs.ShapeLaws.{table-laid}
@@ -63,9 +63,9 @@ module _ (T : List ℤ) (h : Sections) where
   reached-laid {q} p = let e = reached-rest p (h .statements) (omega arith) in rw e (p .cut .back-laid)
 
   pub rest-judged : {q : ℕ} {w : State FactSet} {v : Verdict} → Reached T h q w → formOf T ≡ form.WellFormed h
-      → v ≡ verdictOf (blockFaults (environmentOf T h) [] (restOf T h q) w) → Judged T [] v
+      → v ≡ verdictOf (blockFaults (environmentOf T h) [] [] (restOf T h q) w) → Judged [] T [] v
   rest-judged {q} {w} p f e =
-      reached-judged p f (e ∙ ap (λ (b : Block). verdictOf (blockFaults (environmentOf T h) [] b w)) (reached-rest p (h .statements) (omega arith)))
+      reached-judged p f (e ∙ ap (λ (b : Block). verdictOf (blockFaults (environmentOf T h) [] [] b w)) (reached-rest p (h .statements) (omega arith)))
 
   -- ---- the places that the walk keeps
 
@@ -87,7 +87,7 @@ module _ (T : List ℤ) (h : Sections) where
     all-onward (x ∷ F) P Q f q = q
 
     -- The place behind the first statement of a block.
-    behind-first : {a : ℕ} {w : State FactSet} (t : Block) → Laid T h 0 a (h .statements) t → Reached T h a w → blockFaults E [] (first t) w ≡ []
+    behind-first : {a : ℕ} {w : State FactSet} (t : Block) → Laid T h 0 a (h .statements) t → Reached T h a w → blockFaults E [] [] (first t) w ≡ []
         → Reached T h (a + size (first t)) (blockAfter E [] (first t) w)
     behind-first t l r e =
         let c : Cut T h 0 _ (_ + size (first t)) (h .statements) =
@@ -103,28 +103,35 @@ module _ (T : List ℤ) (h : Sections) where
         let r′ = rw y at r in
         let l′ = rw y at l in
         let q = all-kept P r′ p in
-        all-onward (blockFaults E [] (plain x s nil) w) _ _
+        all-onward (blockFaults E [] [] (plain x s nil) w) _ _
         (λ e. kept-reached o (keptAt K n P x w) (rest-laid (plain x s o) l′) (behind-first (plain x s o) l′ r′ e) q) q
+    kept-reached {a} {w} (call x s o) P l r p =
+        let y = sym (l .numbered .0) in
+        let r′ = rw y at r in
+        let l′ = rw y at l in
+        let q = all-kept P r′ p in
+        all-onward (blockFaults E [] [] (call x s nil) w) _ _
+        (λ e. kept-reached o (keptAt K n P x w) (rest-laid (call x s o) l′) (behind-first (call x s o) l′ r′ e) q) q
     kept-reached {a} {w} (branch x c t u o) P l r p =
         let y = sym (l .numbered .0) in
         let r′ = rw y at r in
         let l′ = rw y at l in
         let q = all-kept P r′ p in
-        all-onward (blockFaults E [] (branch x c t u nil) w) _ _
+        all-onward (blockFaults E [] [] (branch x c t u nil) w) _ _
         (λ e. kept-reached o (keptAt K n P x w) (rest-laid (branch x c t u o) l′) (behind-first (branch x c t u o) l′ r′ e) q) q
     kept-reached {a} {w} (loop x c t o) P l r p =
         let y = sym (l .numbered .0) in
         let r′ = rw y at r in
         let l′ = rw y at l in
         let q = all-kept P r′ p in
-        all-onward (blockFaults E [] (loop x c t nil) w) _ _
+        all-onward (blockFaults E [] [] (loop x c t nil) w) _ _
         (λ e. kept-reached o (keptAt K n P x w) (rest-laid (loop x c t o) l′) (behind-first (loop x c t o) l′ r′ e) q) q
     kept-reached {a} {w} (bundle x ss o) P l r p =
         let y = sym (l .numbered .0) in
         let r′ = rw y at r in
         let l′ = rw y at l in
         let q = all-kept P r′ p in
-        all-onward (blockFaults E [] (bundle x ss nil) w) _ _
+        all-onward (blockFaults E [] [] (bundle x ss nil) w) _ _
         (λ e. kept-reached o (keptAt K n P x w) (rest-laid (bundle x ss o) l′) (behind-first (bundle x ss o) l′ r′ e) q) q
     kept-reached (unread x) P l r p = absurd (l .numbered)
 
@@ -137,7 +144,7 @@ from-laid T h q l = rw (le-ltb (h .statements) q (omega (arith, l .ends))) (laid
 
 -- The verdict from a store that calls have left, and what the walk leaves.
 pub record Rewalked (T : List ℤ) (h : Sections) (K S : List ℕ) (v : Verdict) (n : ℕ) (Q : List ℕ) : Type 0 where
-  pub judged : Judged T [] v
+  pub judged : Judged [] T [] v
   pub walked : n ≡ walkedFrom T h (lastOf (positions S)) v
   pub positions : positions Q ≡ stored K (capacity S) v (positionsOf (tree T h)) (positions S)
   pub kept : Kept T h Q
@@ -149,7 +156,7 @@ rechecked T h K S {r} {Q} k w =
     let p = last-reached T h (places S) (table-laid T h (k .laid)) (k .reached) in
     let o = reached-laid T h p in
     let l = from-laid T h (lastPlace (places S) .position) o in
-    let v : r .verdict ≡ verdictOf (blockFaults (environmentOf T h) [] (restOf T h (lastPlace (places S) .position)) (lastPlace (places S) .state)) = rw l at (w .verdict) in
+    let v : r .verdict ≡ verdictOf (blockFaults (environmentOf T h) [] [] (restOf T h (lastPlace (places S) .position)) (lastPlace (places S) .state)) = rw l at (w .verdict) in
     let n : r .walked ≡ walkedFrom T h (lastPlace (places S) .position) (r .verdict) = rw l at (w .walked) in
     let z : places Q ≡ keptFrom K (capacity S) (environmentOf T h) (restOf T h (lastPlace (places S) .position)) (lastPlace (places S) .state) (places S) =
     rw l at (w .left .holds) in

@@ -34,7 +34,7 @@ record Standing (B : List ℤ) (L : ℕ) (S : List ℕ) (v : Verdict) : Type 0 w
   sections : Sections
   within : L ≤ length B
   kept : Kept (take L B) sections S
-  judged : Judged (take L B) [] v
+  judged : Judged [] (take L B) [] v
 
 differ : {A : Type 0} → true ≡ false → A
 differ e = let z : _≡_ {A = ℕ} 0 1 = cc in absurd (omega arith)

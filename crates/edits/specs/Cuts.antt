@@ -9,11 +9,11 @@ use lib.IntN.{ℤ}
 use lib.ListN.{length}
 use lib.Dec.{eqb, ltb}
 use Rattle.words.specs.declared.sections.Sections.{Sections}
-use Rattle.statements.specs.declared.Statement.the-variants.{Plain, If, While, Bundle}
+use Rattle.statements.specs.declared.Statement.the-variants.{Plain, If, While, Bundle, Call}
 use Rattle.statements.specs.declared.StatementRead.{StatementRead}
 use Rattle.statements.specs.declared.StatementRead.the-variants.{Read, Unread}
 use Rattle.statements.specs.Statements.{statementAt}
-use Rattle.blocks.specs.Tree.{Block, nil, plain, branch, loop, bundle, unread, parse, tree}
+use Rattle.blocks.specs.Tree.{Block, nil, plain, branch, loop, bundle, call, unread, parse, tree}
 use Rattle.blocks.specs.Layout.{layout, blockLayout}
 use Rattle.blocks.specs.Shape.{size, Numbered, Laid}
 use Rattle.blocks.specs.ShapeLaws.{table-laid, laid}
@@ -24,6 +24,7 @@ use Rattle.edits.specs.Followed.{followed, laid-followed, laid-parsed, l
 unfoldable pub first : Block → Block
 first nil = nil
 first (plain a s r) = plain a s nil
+first (call a s r) = call a s nil
 first (branch a c t e r) = branch a c t e nil
 first (loop a c t r) = loop a c t nil
 first (bundle a ss r) = bundle a ss nil
@@ -32,6 +33,7 @@ first (unread a) = unread a
 unfoldable pub rest : Block → Block
 rest nil = nil
 rest (plain a s r) = r
+rest (call a s r) = r
 rest (branch a c t e r) = r
 rest (loop a c t r) = r
 rest (bundle a ss r) = r
@@ -42,6 +44,7 @@ module _ {T : List ℤ} {h : Sections} {d a b : ℕ} where
   unfolding size first
   first-laid nil p = record { ends = refl; numbered = tt; formed = tt; reads = tt }
   first-laid (plain x s r) p = record { ends = refl; numbered = (p .numbered .0, tt); formed = (p .formed .0, tt); reads = (p .reads .0, tt) }
+  first-laid (call x s r) p = record { ends = refl; numbered = (p .numbered .0, tt); formed = (p .formed .0, tt); reads = (p .reads .0, tt) }
   first-laid (branch x c t e r) p = record {
     ends = refl;
     numbered = (p .numbered .0, p .numbered .1, p .numbered .2, tt);
@@ -69,6 +72,10 @@ module _ {T : List ℤ} {h : Sections} {d a b : ℕ} where
       let z = p .numbered .0 in
       let y : a + (1 + 0) ≡ x + 1 = omega arith in
       record { ends = omega (arith, p .ends); numbered = rw y (p .numbered .1); formed = p .formed .1; reads = p .reads .1 }
+  rest-laid (call x s r) p =
+      let z = p .numbered .0 in
+      let y : a + (1 + 0) ≡ x + 1 = omega arith in
+      record { ends = omega (arith, p .ends); numbered = rw y (p .numbered .1); formed = p .formed .1; reads = p .reads .1 }
   rest-laid (branch x c t e r) p =
       let z = p .numbered .0 in
       let y : a + (1 + size t + size e + 0) ≡ x + 1 + size t + size e = omega arith in
@@ -87,6 +94,7 @@ module _ {T : List ℤ} {h : Sections} {d a b : ℕ} where
   unfolding size first
   span-laid nil p q = absurd (omega (arith, p .ends))
   span-laid (plain x s r) p q = let z = p .numbered .0 in let y = rw z at (p .reads .0) in rw y
+  span-laid (call x s r) p q = let z = p .numbered .0 in let y = rw z at (p .reads .0) in rw y
   span-laid (branch x c t e r) p q = let z = p .numbered .0 in let y = rw z at (p .reads .0) in rw y (omega arith)
   span-laid (loop x c t r) p q = let z = p .numbered .0 in let y = rw z at (p .reads .0) in rw y (omega arith)
   span-laid (bundle x ss r) p q = let z = p .numbered .0 in let y = rw z at (p .reads .0) in rw y (omega arith)
@@ -154,6 +162,7 @@ pub size-first : (t : Block) (a : ℕ) → Numbered t a → 0 < size t → 0 < s
 unfolding size first
 size-first nil a n q = q
 size-first (plain x s r) a n q = omega arith
+size-first (call x s r) a n q = omega arith
 size-first (branch x c t e r) a n q = omega arith
 size-first (loop x c t r) a n q = omega arith
 size-first (bundle x ss r) a n q = omega arith
@@ -163,6 +172,7 @@ top-rest : (t : Block) (a p : ℕ) → Numbered t a → (a ≡ p → ⊥) → to
 unfolding topLevel positionsOf isIn rest
 top-rest nil a p n q = refl
 top-rest (plain x s r) a p n q = let z = n .0 in or-false _ _ (ne-eqb x p (λ e. q (sym z ∙ e)))
+top-rest (call x s r) a p n q = let z = n .0 in or-false _ _ (ne-eqb x p (λ e. q (sym z ∙ e)))
 top-rest (branch x c t e r) a p n q = let z = n .0 in or-false _ _ (ne-eqb x p (λ e. q (sym z ∙ e)))
 top-rest (loop x c t r) a p n q = let z = n .0 in or-false _ _ (ne-eqb x p (λ e. q (sym z ∙ e)))
 top-rest (bundle x ss r) a p n q = let z = n .0 in or-false _ _ (ne-eqb x p (λ e. q (sym z ∙ e)))
@@ -172,6 +182,7 @@ pub top-first : (t : Block) (a : ℕ) → Numbered t a → 0 < size t → topLev
 unfolding topLevel positionsOf isIn size
 top-first nil a n q = absurd (omega arith)
 top-first (plain x s r) a n q = or-true _ _ (eq-eqb x a (n .0))
+top-first (call x s r) a n q = or-true _ _ (eq-eqb x a (n .0))
 top-first (branch x c t e r) a n q = or-true _ _ (eq-eqb x a (n .0))
 top-first (loop x c t r) a n q = or-true _ _ (eq-eqb x a (n .0))
 top-first (bundle x ss r) a n q = or-true _ _ (eq-eqb x a (n .0))
@@ -181,6 +192,8 @@ pub top-below : (t : Block) (a p : ℕ) → Numbered t a → p < a → topLevel 
 unfolding topLevel positionsOf isIn
 top-below nil a p n q = refl
 top-below (plain x s r) a p n q =
+    let z = n .0 in or-false _ _ (ne-eqb x p (λ e. omega arith)) ∙ top-below r (x + 1) p (n .1) (omega arith)
+top-below (call x s r) a p n q =
     let z = n .0 in or-false _ _ (ne-eqb x p (λ e. omega arith)) ∙ top-below r (x + 1) p (n .1) (omega arith)
 top-below (branch x c t e r) a p n q =
     let z = n .0 in or-false _ _ (ne-eqb x p (λ e. omega arith)) ∙ top-below r (x + 1 + size t + size e) p (n .3) (omega arith)
@@ -194,6 +207,7 @@ top-none : (t : Block) (a p : ℕ) → Numbered t a → size t ≡ 0 → topLeve
 unfolding topLevel positionsOf isIn size
 top-none nil a p n q = refl
 top-none (plain x s r) a p n q = absurd (omega arith)
+top-none (call x s r) a p n q = absurd (omega arith)
 top-none (branch x c t e r) a p n q = absurd (omega arith)
 top-none (loop x c t r) a p n q = absurd (omega arith)
 top-none (bundle x ss r) a p n q = absurd (omega arith)
@@ -203,6 +217,8 @@ pub top-past : (t : Block) (a b p : ℕ) → Numbered t a → a + size t ≡ b �
 unfolding topLevel positionsOf isIn size
 top-past nil a b p n e q = refl
 top-past (plain x s r) a b p n e q =
+    let z = n .0 in or-false _ _ (ne-eqb x p (λ i. omega arith)) ∙ top-past r (x + 1) b p (n .1) (omega arith) q
+top-past (call x s r) a b p n e q =
     let z = n .0 in or-false _ _ (ne-eqb x p (λ i. omega arith)) ∙ top-past r (x + 1) b p (n .1) (omega arith) q
 top-past (branch x c t u r) a b p n e q =
     let z = n .0 in or-false _ _ (ne-eqb x p (λ i. omega arith)) ∙ top-past r (x + 1 + size t + size u) b p (n .3) (omega arith) q
@@ -216,6 +232,7 @@ pub top-followed : (t u : Block) (a p : ℕ) → Numbered t a → topLevel (foll
 unfolding topLevel positionsOf isIn followed
 top-followed nil u a p n = refl
 top-followed (plain x s r) u a p n = rw (top-followed r u (x + 1) p (n .1)) (or-assoc (eqb x p) _ _)
+top-followed (call x s r) u a p n = rw (top-followed r u (x + 1) p (n .1)) (or-assoc (eqb x p) _ _)
 top-followed (branch x c t e r) u a p n = rw (top-followed r u (x + 1 + size t + size e) p (n .3)) (or-assoc (eqb x p) _ _)
 top-followed (loop x c t r) u a p n = rw (top-followed r u (x + 1 + size t) p (n .2)) (or-assoc (eqb x p) _ _)
 top-followed (bundle x ss r) u a p n = rw (top-followed r u (x + 1 + length ss) p (n .1)) (or-assoc (eqb x p) _ _)
@@ -285,6 +302,7 @@ module _ {T : List ℤ} {h : Sections} {d : ℕ} where
   unfolding topLevel positionsOf isIn rest
   cut-top nil a b p w e = let i : _≡_ {A = ℕ} 0 1 = cc in absurd (omega arith)
   cut-top (plain x s r) a b p w e = cut-node (plain x s r) a b p w (λ q. cut-top r _ b p (rest-laid (plain x s r) w) q) e
+  cut-top (call x s r) a b p w e = cut-node (call x s r) a b p w (λ q. cut-top r _ b p (rest-laid (call x s r) w) q) e
   cut-top (branch x c t o r) a b p w e = cut-node (branch x c t o r) a b p w (λ q. cut-top r _ b p (rest-laid (branch x c t o r) w) q) e
   cut-top (loop x c t r) a b p w e = cut-node (loop x c t r) a b p w (λ q. cut-top r _ b p (rest-laid (loop x c t r) w) q) e
   cut-top (bundle x ss r) a b p w e = cut-node (bundle x ss r) a b p w (λ q. cut-top r _ b p (rest-laid (bundle x ss r) w) q) e

@@ -21,12 +21,13 @@ use Rattle.words.specs.declared.sections.Sections.{Sections}
 use Rattle.statements.specs.Statements.{statementAt}
 use Rattle.statements.specs.StatementLaws.{read-counts-if, read-counts-while, read-counts-bundle}
 use Rattle.conditions.specs.declared.Condition.{Condition}
+use Rattle.statements.specs.declared.CallSite.{CallSite}
 use Rattle.statements.specs.declared.Simple.{Simple}
-use Rattle.statements.specs.declared.Statement.the-variants.{Plain, If, While, Bundle}
+use Rattle.statements.specs.declared.Statement.the-variants.{Plain, If, While, Bundle, Call}
 use Rattle.statements.specs.declared.StatementRead.{StatementRead}
 use Rattle.statements.specs.declared.StatementRead.the-variants.{Read, Unread}
 use Rattle.table.specs.Form.{lowestStatement}
-use Rattle.blocks.specs.Tree.{Block, nil, plain, branch, loop, bundle, unread, parse, tree}
+use Rattle.blocks.specs.Tree.{Block, nil, plain, branch, loop, bundle, call, unread, parse, tree}
 use Rattle.blocks.specs.Layout.{layout}
 use Rattle.blocks.specs.LayoutLaws.{none-refused}
 use Rattle.blocks.specs.Parts.{verdict}
@@ -56,6 +57,7 @@ over-at {A} {d} {old} {new} {at} {i} {v} {a} p q r e =
 
 pub span-least : (s : StatementRead) → 1 ≤ spanOf s
 span-least (Read (Plain s)) = omega arith
+span-least (Read (Call s)) = omega arith
 span-least (Read (If c n m)) = omega arith
 span-least (Read (While c n)) = omega arith
 span-least (Read (Bundle n)) = omega arith
@@ -97,6 +99,7 @@ none-top : (r : Block) (a : ℕ) → Numbered r a → eqb (length (positionsOf r
 unfolding positionsOf size
 none-top nil a n = refl
 none-top (plain x s r) a n = some-top (length (positionsOf r)) (1 + size r) (omega arith)
+none-top (call x s r) a n = some-top (length (positionsOf r)) (1 + size r) (omega arith)
 none-top (branch x c t e r) a n = some-top (length (positionsOf r)) (1 + size t + size e + size r) (omega arith)
 none-top (loop x c t r) a n = some-top (length (positionsOf r)) (1 + size t + size r) (omega arith)
 none-top (bundle x ss r) a n = some-top (length (positionsOf r)) (1 + length ss + size r) (omega arith)
@@ -112,6 +115,7 @@ single-size : (t : Block) (a : ℕ) → Numbered t a → 0 < size t → single t
 unfolding single positionsOf first size
 single-size nil a n q = absurd (omega arith)
 single-size (plain x s r) a n q = one-top r (x + 1) (1 + 0) (1 + size r) (n .1) (omega arith)
+single-size (call x s r) a n q = one-top r (x + 1) (1 + 0) (1 + size r) (n .1) (omega arith)
 single-size (branch x c t e r) a n q =
     one-top r (x + 1 + size t + size e) (1 + size t + size e + 0) (1 + size t + size e + size r) (n .3) (omega arith)
 single-size (loop x c t r) a n q = one-top r (x + 1 + size t) (1 + size t + 0) (1 + size t + size r) (n .2) (omega arith)
@@ -257,6 +261,9 @@ module _ (T : List ℤ) (h : Sections) (a : ℕ) where
 
   pub span-plain : {s : Simple} → statementAt T h a ≡ Read (Plain s) → Spans 1
   span-plain e = (rw e, omega arith, omega arith)
+
+  pub span-call : {c : CallSite} → statementAt T h a ≡ Read (Call c) → Spans 1
+  span-call e = (rw e, omega arith, omega arith)
 
   pub span-if : {c : Condition} {n m : ℕ} → statementAt T h a ≡ Read (If c n m) → Spans (1 + n + m)
   span-if {c} {n} {m} e = let z = read-counts-if T h a c n m e in (rw e, omega arith, omega (arith, z .0, z .1))

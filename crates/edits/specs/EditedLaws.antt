@@ -137,7 +137,7 @@ module _ (T : List ℤ) (h : Sections) (p m k : ℕ) (X : List ℤ) (fits : Fits
       go false e = refl
 
   pub declared-stays : SameDeclared T h U g
-  declared-stays = record { kinds = kind-stays; terminated = terminated-stays; objects = refl; rows = refl }
+  declared-stays = record { kinds = kind-stays; terminated = terminated-stays; objects = refl; variables = refl; rows = refl }
 
   pub object-stays : (o : ℕ) → objectAt U g o ≡ objectAt T h o
   unfolding objectAt

@@ -17,7 +17,7 @@ use Rattle.statements.specs.declared.Statement.the-variants.{Plain, If, While, 
 use Rattle.statements.specs.declared.StatementRead.the-variants.{Read}
 use Rattle.statements.specs.Statements.{statementAt}
 use Rattle.answers.specs.declared.refusals.Refusal.{Refusal}
-use Rattle.blocks.specs.Tree.{Block, nil, plain, branch, loop, bundle, unread, simples, parse}
+use Rattle.blocks.specs.Tree.{Block, nil, plain, branch, loop, bundle, call, unread, simples, parse}
 use Rattle.blocks.specs.TreeLaws.{parse-end, parse-some}
 use Rattle.blocks.specs.Layout.{maxDepth, also, contents, bundleLayout, kindLayout, blockLayout}
 use Rattle.blocks.specs.LayoutLaws.{skip, pass, contents-plain, bundle-held, block-end, block-some}
@@ -27,6 +27,7 @@ use Rattle.blocks.specs.Shape.{size, Numbered, Formed, ReadsLine, Reads, Laid}
 unfoldable pub followed : Block → Block → Block
 followed nil c = c
 followed (plain a s r) c = plain a s (followed r c)
+followed (call a s r) c = call a s (followed r c)
 followed (branch a x t e r) c = branch a x t e (followed r c)
 followed (loop a x t r) c = loop a x t (followed r c)
 followed (bundle a ss r) c = bundle a ss (followed r c)
@@ -36,6 +37,7 @@ followed (unread a) c = unread a
 unfoldable pub moved : ℕ → Block → Block
 moved x nil = nil
 moved x (plain a s r) = plain x s (moved (x + 1) r)
+moved x (call a s r) = call x s (moved (x + 1) r)
 moved x (branch a c t e r) = branch x c (moved (x + 1) t) (moved (x + 1 + size t) e) (moved (x + 1 + size t + size e) r)
 moved x (loop a c t r) = loop x c (moved (x + 1) t) (moved (x + 1 + size t) r)
 moved x (bundle a ss r) = bundle x ss (moved (x + 1 + length ss) r)
@@ -47,6 +49,7 @@ size-followed : (t u : Block) (a : ℕ) → Numbered t a → size (followed t u)
 unfolding size followed
 size-followed nil u a n = omega arith
 size-followed (plain x s r) u a n = omega (arith, size-followed r u (x + 1) (n .1))
+size-followed (call x s r) u a n = omega (arith, size-followed r u (x + 1) (n .1))
 size-followed (branch x c t e r) u a n = omega (arith, size-followed r u (x + 1 + size t + size e) (n .3))
 size-followed (loop x c t r) u a n = omega (arith, size-followed r u (x + 1 + size t) (n .2))
 size-followed (bundle x ss r) u a n = omega (arith, size-followed r u (x + 1 + length ss) (n .1))
@@ -56,6 +59,7 @@ numbered-followed : (t u : Block) (a b : ℕ) → a + size t ≡ b → Numbered 
 unfolding size followed
 numbered-followed nil u a b e n m = let z : b ≡ a = omega arith in rw z at m
 numbered-followed (plain x s r) u a b e n m = let z = n .0 in (z, numbered-followed r u (x + 1) b (omega arith) (n .1) m)
+numbered-followed (call x s r) u a b e n m = let z = n .0 in (z, numbered-followed r u (x + 1) b (omega arith) (n .1) m)
 numbered-followed (branch x c t o r) u a b e n m =
     let z = n .0 in (z, n .1, n .2, numbered-followed r u (x + 1 + size t + size o) b (omega arith) (n .3) m)
 numbered-followed (loop x c t r) u a b e n m = let z = n .0 in (z, n .1, numbered-followed r u (x + 1 + size t) b (omega arith) (n .2) m)
@@ -66,6 +70,7 @@ formed-followed : (d : ℕ) (t u : Block) → Formed d t → Formed d u → Form
 unfolding followed
 formed-followed d nil u f g = g
 formed-followed d (plain x s r) u f g = (f .0, formed-followed d r u (f .1) g)
+formed-followed d (call x s r) u f g = (f .0, formed-followed d r u (f .1) g)
 formed-followed d (branch x c t o r) u f g = (f .0, f .1, f .2, formed-followed d r u (f .3) g)
 formed-followed d (loop x c t r) u f g = (f .0, f .1, formed-followed d r u (f .2) g)
 formed-followed d (bundle x ss r) u f g = (f .0, f .1, f .2, formed-followed d r u (f .3) g)
@@ -75,6 +80,7 @@ reads-followed : (T : List ℤ) (h : Sections) (t u : Block) → Reads T h t →
 unfolding followed
 reads-followed T h nil u f g = g
 reads-followed T h (plain x s r) u f g = (f .0, reads-followed T h r u (f .1) g)
+reads-followed T h (call x s r) u f g = (f .0, reads-followed T h r u (f .1) g)
 reads-followed T h (branch x c t o r) u f g = (f .0, f .1, f .2, reads-followed T h r u (f .3) g)
 reads-followed T h (loop x c t r) u f g = (f .0, f .1, reads-followed T h r u (f .2) g)
 reads-followed T h (bundle x ss r) u f g = (f .0, f .1, reads-followed T h r u (f .2) g)
@@ -99,6 +105,7 @@ pub size-moved : (x : ℕ) (t : Block) → size (moved x t) ≡ size t
 unfolding size moved
 size-moved x nil = refl
 size-moved x (plain a s r) = omega (arith, size-moved (x + 1) r)
+size-moved x (call a s r) = omega (arith, size-moved (x + 1) r)
 size-moved x (branch a c t e r) =
     omega (arith, size-moved (x + 1) t, size-moved (x + 1 + size t) e, size-moved (x + 1 + size t + size e) r)
 size-moved x (loop a c t r) = omega (arith, size-moved (x + 1) t, size-moved (x + 1 + size t) r)
@@ -109,6 +116,7 @@ pub moved-same : (t : Block) (a : ℕ) → Numbered t a → moved a t ≡ t
 unfolding moved
 moved-same nil a n = refl
 moved-same (plain x s r) a n = let z = n .0 in rw (sym z, moved-same r (x + 1) (n .1))
+moved-same (call x s r) a n = let z = n .0 in rw (sym z, moved-same r (x + 1) (n .1))
 moved-same (branch x c t e r) a n =
     let z = n .0 in
     rw (sym z, moved-same t (x + 1) (n .1), moved-same e (x + 1 + size t) (n .2), moved-same r (x + 1 + size t + size e) (n .3))
@@ -120,6 +128,7 @@ numbered-moved : (x : ℕ) (t : Block) (a : ℕ) → Numbered t a → Numbered (
 unfolding moved
 numbered-moved x nil a n = tt
 numbered-moved x (plain y s r) a n = (refl, numbered-moved (x + 1) r (y + 1) (n .1))
+numbered-moved x (call y s r) a n = (refl, numbered-moved (x + 1) r (y + 1) (n .1))
 numbered-moved x (branch y c t e r) a n =
     rw (size-moved (x + 1) t, size-moved (x + 1 + size t) e) (
       refl,
@@ -136,6 +145,7 @@ formed-moved : (d x : ℕ) (t : Block) → Formed d t → Formed d (moved x t)
 unfolding moved
 formed-moved d x nil f = tt
 formed-moved d x (plain a s r) f = (f .0, formed-moved d (x + 1) r (f .1))
+formed-moved d x (call a s r) f = (f .0, formed-moved d (x + 1) r (f .1))
 formed-moved d x (branch a c t e r) f =
     (f .0, formed-moved (d + 1) (x + 1) t (f .1), formed-moved (d + 1) (x + 1 + size t) e (f .2), formed-moved d (x + 1 + size t + size e) r (f .3))
 formed-moved d x (loop a c t r) f = (f .0, formed-moved (d + 1) (x + 1) t (f .1), formed-moved d (x + 1 + size t) r (f .2))
@@ -164,6 +174,11 @@ module _ {T : List ℤ} {h : Sections} {U : List ℤ} {g : Sections} where
   unfolding size moved
   reads-moved nil a x f n r = tt
   reads-moved (plain y s o) a x f n r =
+      let z = n .0 in (
+        agree-here f (omega arith) ∙ (rw z at (r .0)),
+        reads-moved o (y + 1) (x + 1) (agree-from f 1 (size o) (omega arith) (omega arith) refl) (n .1) (r .1),
+      )
+  reads-moved (call y s o) a x f n r =
       let z = n .0 in (
         agree-here f (omega arith) ∙ (rw z at (r .0)),
         reads-moved o (y + 1) (x + 1) (agree-from f 1 (size o) (omega arith) (omega arith) refl) (n .1) (r .1),
@@ -222,6 +237,10 @@ module _ (T : List ℤ) (h : Sections) where
       let z = n .0 in
       parse-some l T h a b _ (omega arith) (omega arith) (rw z at (r .0))
       ∙ rw (sym z, parsed o (l - 1) (x + 1) b (omega arith) (omega arith) (n .1) (r .1))
+  parsed (call x s o) l a b e p n r =
+      let z = n .0 in
+      parse-some l T h a b _ (omega arith) (omega arith) (rw z at (r .0))
+      ∙ rw (sym z, parsed o (l - 1) (x + 1) b (omega arith) (omega arith) (n .1) (r .1))
   parsed (branch x c t u o) l a b e p n r =
       let z = n .0 in
       parse-some l T h a b _ (omega arith) (omega arith) (rw z at (r .0))
@@ -258,6 +277,10 @@ module _ (T : List ℤ) (h : Sections) where
   unfolding size
   clear nil l d a b e p n f r = block-end l T h d a b (omega arith)
   clear (plain x s o) l d a b e p n f r =
+      let z = n .0 in
+      kind-here l d a b _ (omega arith) (omega arith) (f .0) (rw z at (r .0))
+      ∙ rw (sym z) (clear o (l - 1) d (x + 1) b (omega arith) (omega arith) (n .1) (f .1) (r .1))
+  clear (call x s o) l d a b e p n f r =
       let z = n .0 in
       kind-here l d a b _ (omega arith) (omega arith) (f .0) (rw z at (r .0))
       ∙ rw (sym z) (clear o (l - 1) d (x + 1) b (omega arith) (omega arith) (n .1) (f .1) (r .1))

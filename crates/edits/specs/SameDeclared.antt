@@ -1,5 +1,5 @@
--- Two tables that declare the same: the same kinds of variables, the same terminated objects, as many objects and rows. What a record reads as depends on no
--- more than that and its own words.
+-- Two tables that declare the same: the same kinds of variables, the same terminated objects, as many objects, variables and rows. What a record reads as
+-- depends on no more than that and its own words.
 use Prim.Native.Nat.{ℕ, _+_}
 use mathlib.Core.Path.{_≡_, refl, ap, ap₂}
 use mathlib.Core.Bool.{Bool, _&&_, _||_, cond, not, true, false}
@@ -15,13 +15,14 @@ use Rattle.words.specs.declared.Fields.{Fields}
 use Rattle.words.specs.declared.sections.Sections.{Sections}
 use Rattle.conditions.specs.Conditions.{sameKind, besideLiteral, conditionRight}
 use Rattle.statements.specs.Statements.{literalRead, addConstantRead, arithmeticRead, nullRead, addressRead, pointerOffsetRead, pointerIndexRead}
-use Rattle.statements.specs.Statements.{loadRead, storeRead, checkRead, declareRead, ifRead, whileRead, bundleRead, kindRead}
+use Rattle.statements.specs.Statements.{loadRead, storeRead, checkRead, declareRead, ifRead, whileRead, bundleRead, isArgument, callRead, kindRead}
 use Rattle.table.specs.Variables.{endWordsAt, variableWordsAt, rowWordsAt, endRight, pointerRecord, variableOf, rowOf}
 
 pub record SameDeclared (T : List ℤ) (h : Sections) (U : List ℤ) (g : Sections) : Type 0 where
   pub kinds : (v : ℕ) → kindAt U g v ≡ kindAt T h v
   pub terminated : (o : ℕ) → objectTerminated U g o ≡ objectTerminated T h o
   pub objects : g .objects ≡ h .objects
+  pub variables : g .variables ≡ h .variables
   pub rows : g .rows ≡ h .rows
 
 module _ {T : List ℤ} {h : Sections} {U : List ℤ} {g : Sections} (same : SameDeclared T h U g) where
@@ -135,6 +136,15 @@ module _ {T : List ℤ} {h : Sections} {U : List ℤ} {g : Sections} (same : Sam
   unfolding whileRead
   while-read f = rw (condition-right f)
 
+  is-argument : (w : ℕ) → isArgument g w ≡ isArgument h w
+  unfolding isArgument
+  is-argument w = rw (same .variables)
+
+  call-read : (f : Fields) → callRead U g f ≡ callRead T h f
+  unfolding callRead
+  call-read f =
+      rw (names-index (f .second), is-argument (f .third), is-argument (f .fourth), is-argument (f .fifth), is-argument (f .sixth))
+
   pub kind-read : (f : Fields) → kindRead U g f ≡ kindRead T h f
   unfolding kindRead
   kind-read f =
@@ -152,6 +162,7 @@ module _ {T : List ℤ} {h : Sections} {U : List ℤ} {g : Sections} (same : Sam
         if-read f,
         while-read f,
         declare-read f,
+        call-read f,
       )
 
   -- ---- variables and rows

@@ -45,6 +45,7 @@ declared-both p q = record {
   kinds = λ v. q .kinds v ∙ sym (p .kinds v);
   terminated = λ o. q .terminated o ∙ sym (p .terminated o);
   objects = q .objects ∙ sym (p .objects);
+  variables = q .variables ∙ sym (p .variables);
   rows = q .rows ∙ sym (p .rows);
 }
 

@@ -4,10 +4,10 @@ use mathlib.Core.Bool.{Bool, true, false, _||_}
 use mathlib.Core.List.{List, [], _∷_}
 use lib.ListN.{length}
 use lib.Dec.{eqb}
-use Rattle.statements.specs.declared.Statement.the-variants.{Plain, If, While, Bundle}
+use Rattle.statements.specs.declared.Statement.the-variants.{Plain, If, While, Bundle, Call}
 use Rattle.statements.specs.declared.StatementRead.{StatementRead}
 use Rattle.statements.specs.declared.StatementRead.the-variants.{Read, Unread}
-use Rattle.blocks.specs.Tree.{Block, nil, plain, branch, loop, bundle, unread}
+use Rattle.blocks.specs.Tree.{Block, nil, plain, branch, loop, bundle, call, unread}
 
 -- Whether a number is in a list.
 unfoldable pub isIn : List ℕ → ℕ → Bool
@@ -18,6 +18,7 @@ isIn (x ∷ xs) a = eqb x a || isIn xs a
 unfoldable pub positionsOf : Block → List ℕ
 positionsOf nil = []
 positionsOf (plain a s r) = a ∷ positionsOf r
+positionsOf (call a c r) = a ∷ positionsOf r
 positionsOf (branch a c t e r) = a ∷ positionsOf r
 positionsOf (loop a c t r) = a ∷ positionsOf r
 positionsOf (bundle a ss r) = a ∷ positionsOf r
@@ -33,6 +34,7 @@ single t = eqb (length (positionsOf t)) 1
 -- How many statements a statement is, with its blocks, by its record. ("Counts take in nested statements".)
 abbrev pub spanOf : StatementRead → ℕ
 spanOf (Read (Plain s)) = 1
+spanOf (Read (Call c)) = 1
 spanOf (Read (If c n m)) = 1 + n + m
 spanOf (Read (While c n)) = 1 + n
 spanOf (Read (Bundle n)) = 1 + n

@@ -46,6 +46,7 @@ pub fn span(table: &[i32], sections: Sections, at: usize) -> usize
             count,
         } => 1 + count,
         Statement::Bundle { count } => 1 + count,
+        Statement::Call(_) => 1,
     }
 }
 

@@ -9,7 +9,7 @@ use Rattle.words.specs.declared.sections.Sections.{Sections}
 use Rattle.statements.specs.declared.Simple.{Simple}
 use Rattle.statements.specs.declared.StatementRead.{StatementRead}
 use Rattle.statements.specs.Statements.{statementAt}
-use Rattle.blocks.specs.Tree.{Block, nil, plain, branch, loop, bundle, unread, target, targets, assigned}
+use Rattle.blocks.specs.Tree.{Block, nil, plain, branch, loop, bundle, call, unread, target, targets, callTarget, assigned}
 use Rattle.blocks.specs.Shape.{size, Numbered, ReadsLine, Reads}
 use Rattle.effects.specs.Marks.{targetOf, targetsFrom}
 
@@ -58,4 +58,7 @@ assigned-targets T h (bundle k ss u) a n r =
     ∙ (sym (targets-more T h (k + 1) (length ss) (size u) (length ss + size u) (k + 1 + length ss) refl refl)
     ∙ (targets-head T h k (length ss + size u) (1 + length ss + size u) _ (omega arith) (r .0)
     ∙ ap (λ (x : ℕ). targetsFrom T h x (1 + length ss + size u)) (n .0)))
+assigned-targets T h (call k c t) a n r =
+    ap (λ (l : List ℕ). callTarget c ++ l) (assigned-targets T h t (k + 1) (n .1) (r .1))
+    ∙ (targets-head T h k (size t) (1 + size t) _ refl (r .0) ∙ ap (λ (x : ℕ). targetsFrom T h x (1 + size t)) (n .0))
 assigned-targets T h (unread k) a n r = refl

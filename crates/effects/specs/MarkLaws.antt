@@ -5,11 +5,12 @@ use mathlib.Core.Bool.{Bool, true, false, _||_, cond, or-assoc, or-true, or-fals
 use mathlib.Core.List.{List, [], _∷_, _++_}
 use native.Mathlib.Omega.{arith}
 use native.Mathlib.Numerals.{sub-one, add-one}
-use borrow.Author.Tests.{eqb-true, eqb-false}
+use borrow.Author.Tests.{eqb-true, eqb-false, ne-eqb}
 use lib.Dec.{eqb}
 use lib.IntN.{ℤ}
 use lib.ListN.{length, getD, set, length-set, getD-replicate}
 use lib.Seq.{getD-set-same, getD-set-other}
+use Rattle.sums.specs.Numbers.{zeroVar}
 use Rattle.facts.specs.Store.{dropped}
 use Rattle.facts.specs.declared.FactSet.{FactSet}
 use Rattle.words.specs.declared.sections.Sections.{Sections}
@@ -17,14 +18,14 @@ use Rattle.statements.specs.declared.Simple.{Simple}
 use Rattle.statements.specs.declared.Simple.the-variants.{Literal, AddConstant, Arithmetic, Null, Address}
 use Rattle.statements.specs.declared.Simple.the-variants.{PointerOffset, PointerIndex, Load, Store, Check, Declare}
 use Rattle.statements.specs.declared.Statement.{Statement}
-use Rattle.statements.specs.declared.Statement.the-variants.{Plain, If, While, Bundle}
+use Rattle.statements.specs.declared.Statement.the-variants.{Plain, If, While, Bundle, Call}
 use Rattle.statements.specs.declared.StatementRead.{StatementRead}
 use Rattle.statements.specs.declared.StatementRead.the-variants.{Read}
 use Rattle.statements.specs.Statements.{statementAt}
 use Rattle.blocks.specs.Tree.{target}
 use Rattle.rules.specs.FactRules.{among}
 use Rattle.rules.specs.Stored.{droppedEach, loopFacts}
-use Rattle.effects.specs.Marks.{targetOf, targetsFrom, targetNumber, noMarks, marked}
+use Rattle.effects.specs.Marks.{targetOf, targetsFrom, targetNumber, assignedNumber, noMarks, marked}
 use Rattle.rules.specs.FactRules as factRules
 
 pub marked-append : (m : List Bool) (xs ys : List ℕ) → marked m (xs ++ ys) ≡ marked (marked m xs) ys
@@ -89,28 +90,37 @@ mark-past m (Store q i k x) l p = refl
 mark-past m (Check c) l p = refl
 mark-past m (Declare q r) l p = refl
 
--- A statement that assigns nothing itself.
-mark-other : (m : List Bool) (s : Statement) → ((p : Simple) → s ≡ Plain p → ⊥) → m ≡ marked m (targetOf (Read s))
+-- The same of any statement.
+mark-statement : (m : List Bool) (s : Statement) → assignedNumber s < 16 → set m (assignedNumber s) true ≡ marked m (targetOf (Read s))
 unfolding marked
-mark-other m (Plain p) n = absurd (n p refl)
-mark-other m (If c k l) n = refl
-mark-other m (While c k) n = refl
-mark-other m (Bundle k) n = refl
+mark-statement m (Plain s) p = mark-one m s p
+mark-statement m (If c k l) p = absurd (omega arith)
+mark-statement m (While c k) p = absurd (omega arith)
+mark-statement m (Bundle k) p = absurd (omega arith)
+mark-statement m (Call c) p = rw (ne-eqb (c .result) zeroVar (λ e. omega arith))
+
+past-statement : (m : List Bool) (s : Statement) → length m ≡ 16 → 16 ≤ assignedNumber s → m ≡ marked m (targetOf (Read s))
+unfolding marked
+past-statement m (Plain s) l p = mark-past m s l p
+past-statement m (If c k n) l p = refl
+past-statement m (While c k) l p = refl
+past-statement m (Bundle k) l p = refl
+past-statement m (Call c) l p = go (eqb (c .result) zeroVar)
+  where
+    go : (b : Bool) → m ≡ marked m (cond b [] (c .result ∷ []))
+    go true = refl
+    go false = sym (set-past m (c .result) (omega arith))
 
 -- What was read, marked.
-module _ (m : List Bool) {r : StatementRead} {s : Statement} (e : r ≡ Read s) where
-  pub read-other : ((p : Simple) → s ≡ Plain p → ⊥) → m ≡ marked m (targetOf r)
-  read-other n = mark-other m s n ∙ ap (λ (q : StatementRead). marked m (targetOf q)) (sym e)
+module _ (m : List Bool) {r : StatementRead} {s : Statement} (e : r ≡ Read s) {t : ℕ} (g : t ≡ assignedNumber s) where
+  read-same : marked m (targetOf (Read s)) ≡ marked m (targetOf r)
+  read-same = ap (λ (q : StatementRead). marked m (targetOf q)) (sym e)
 
-  module _ {p : Simple} (d : s ≡ Plain p) {t : ℕ} (g : t ≡ targetNumber p) where
-    read-plain : marked m (target p) ≡ marked m (targetOf r)
-    read-plain = sym (ap (λ (q : StatementRead). marked m (targetOf q)) (e ∙ ap Read d))
+  pub read-target : t < 16 → set m t true ≡ marked m (targetOf r)
+  read-target h = ap (λ (n : ℕ). set m n true) g ∙ (mark-statement m s (omega arith) ∙ read-same)
 
-    pub read-target : t < 16 → set m t true ≡ marked m (targetOf r)
-    read-target h = ap (λ (n : ℕ). set m n true) g ∙ (mark-one m p (omega arith) ∙ read-plain)
-
-    pub read-past : length m ≡ 16 → 16 ≤ t → m ≡ marked m (targetOf r)
-    read-past l h = mark-past m p l (omega arith) ∙ read-plain
+  pub read-past : length m ≡ 16 → 16 ≤ t → m ≡ marked m (targetOf r)
+  read-past l h = past-statement m s l (omega arith) ∙ read-same
 
 set-marks : (m : List Bool) (x v : ℕ) → v < length m → getD (set m x true) v false ≡ (getD m v false || eqb v x)
 set-marks m x v p = go (eqb v x) refl

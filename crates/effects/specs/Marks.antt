@@ -9,11 +9,12 @@ use Rattle.words.specs.declared.sections.Sections.{Sections}
 use Rattle.statements.specs.declared.Simple.{Simple}
 use Rattle.statements.specs.declared.Simple.the-variants.{Literal, AddConstant, Arithmetic, Null, Address}
 use Rattle.statements.specs.declared.Simple.the-variants.{PointerOffset, PointerIndex, Load, Store, Check, Declare}
-use Rattle.statements.specs.declared.Statement.the-variants.{Plain, If, While, Bundle}
+use Rattle.statements.specs.declared.Statement.{Statement}
+use Rattle.statements.specs.declared.Statement.the-variants.{Plain, If, While, Bundle, Call}
 use Rattle.statements.specs.declared.StatementRead.{StatementRead}
 use Rattle.statements.specs.declared.StatementRead.the-variants.{Read, Unread}
 use Rattle.statements.specs.Statements.{statementAt}
-use Rattle.blocks.specs.Tree.{target}
+use Rattle.blocks.specs.Tree.{target, callTarget}
 
 -- What a record assigns itself: an if, a while and a bundle assign by the records that follow them.
 abbrev pub targetOf : StatementRead → List ℕ
@@ -22,6 +23,7 @@ targetOf (Read (Plain s)) = target s
 targetOf (Read (If c n m)) = []
 targetOf (Read (While c n)) = []
 targetOf (Read (Bundle n)) = []
+targetOf (Read (Call c)) = callTarget c
 
 -- What the n records from a on assign.
 unfoldable pub targetsFrom : List ℤ → Sections → ℕ → ℕ → List ℕ
@@ -41,6 +43,14 @@ targetNumber (Load x p i k) = x
 targetNumber (Store p i k x) = zeroVar
 targetNumber (Check c) = zeroVar
 targetNumber (Declare p r) = zeroVar
+
+-- The same of any statement.
+abbrev pub assignedNumber : Statement → ℕ
+assignedNumber (Plain s) = targetNumber s
+assignedNumber (If c n m) = zeroVar
+assignedNumber (While c n) = zeroVar
+assignedNumber (Bundle n) = zeroVar
+assignedNumber (Call c) = c .result
 
 abbrev pub noMarks : List Bool
 noMarks = replicate 16 false

@@ -10,7 +10,7 @@ ghost use mathlib.Core.Bool.{false};
 ghost use Prim.Native.Nat.{_+_, _^_, _<_};
 ghost use lib.ListN.{getD};
 ghost use Rattle.rules.specs.Stored.{droppedEach, loopFacts};
-ghost use Rattle.effects.specs.Marks.{targetOf, targetsFrom, targetNumber, noMarks, marked};
+ghost use Rattle.effects.specs.Marks.{targetOf, targetsFrom, targetNumber, assignedNumber, noMarks, marked};
 
 // The variable that a statement assigns, or 16 for none.
 fn target_of(simple: Simple) -> usize
@@ -58,6 +58,26 @@ fn target_of(simple: Simple) -> usize
     }
 }
 
+// The same of any statement: an if, a while and a bundle assign by the statements that follow them.
+fn assigned_by(statement: Statement) -> usize
+    ensures { λ r. ⌜ r ≡ assignedNumber statement ⌝ }
+{
+    match statement {
+        Statement::Plain(simple) => target_of(simple),
+        Statement::If {
+            condition: _,
+            then_count: _,
+            else_count: _,
+        } => 16,
+        Statement::While {
+            condition: _,
+            count: _,
+        } => 16,
+        Statement::Bundle { count: _ } => 16,
+        Statement::Call(call) => call.result,
+    }
+}
+
 // Which variables are assigned.
 struct Marks {
     pub each: [bool; 16],
@@ -70,10 +90,7 @@ fn mark_target(mut marks: Marks, read: StatementRead) -> Marks
     let StatementRead::Read(statement) = read else {
         return marks;
     };
-    let Statement::Plain(simple) = statement else {
-        return marks;
-    };
-    let target = target_of(simple);
+    let target = assigned_by(statement);
     if target < 16 {
         marks.each[target] = true;
     }

@@ -128,14 +128,14 @@ verdict-long (reading.refused n a p) w = three-long w n (wordOf a) (wordOf p)
 both-true : (a b : Bool) → a ≡ true → b ≡ true → (a && b) ≡ true
 both-true a b p q = rw (p, q)
 
-pub report-words : {T L : List ℤ} {w w₁ w′ p p′ ws : List ℕ} {n : ℕ} (v : Verdict) → 4 ≤ length w → 1024 ≤ length p → Judged T L v → Reported T L ws
+pub report-words : {T L : List ℤ} {w w₁ w′ p p′ ws : List ℕ} {n : ℕ} (v : Verdict) → 4 ≤ length w → 1024 ≤ length p → Judged [] T L v → Reported T L ws
     → w₁ ≡ verdictWords (verdictReads v) w → PutAll ws p n p′ → w′ ≡ set w₁ 3 n → CheckReport T L w p true w′ p′
 unfolding Judged Reported
 report-words {T} {L} {w} {w₁} {w′} {p} {p′} {ws} {n} v h k a r e q u =
     let t = both-true (leb 4 (length w)) (leb 1024 (length p)) (le-leb 4 (length w) h) (le-leb 1024 (length p) k) in
     record {
       room = sym t;
-      words = rw t (decided T (λ d. (w′ ≡ set (verdictWords (firstReads (chainFaults d T L)) w) 3 (length (reportNumbers d T L)))
+      words = rw t (decided T (λ d. (w′ ≡ set (verdictWords (firstReads (chainFaults d [] T L)) w) 3 (length (reportNumbers d T L)))
           × (p′ ≡ putNumbers p 0 (reportNumbers d T L))) (λ d c.
           let same : chosen (reported ws) 0 1024 ≡ reportNumbers d T L = chosen-alike (reported ws) (reportedAt (byChains d) T L) 1024 0
           (λ x l y. r .by-each d c x (omega arith)) in (

@@ -2,7 +2,7 @@
 use Prim.Native.Nat.{ℕ, _≤_, _<_}
 use mathlib.Core.Path.{_≡_, refl, sym, ap, _∙_}
 use mathlib.Core.Bool.{true, false}
-use mathlib.Core.List.{List}
+use mathlib.Core.List.{List, []}
 use borrow.Author.Tests.{le-leb, lt-leb}
 use lib.IntN.{ℤ}
 use lib.ListN.{length}
@@ -52,14 +52,15 @@ module _ (w : List ℕ) {w′ : List ℕ} where
 pub no-room : {T L : List ℤ} {w : List ℕ} → length w < 3 → CheckAnswer T L w false w
 no-room {w = w} h = record { room = sym (lt-leb 3 (length w) h); words = rw (lt-leb 3 (length w) h) refl }
 
-pub checked-words : {T L : List ℤ} {w w′ : List ℕ} (v : Verdict) → 3 ≤ length w → Judged T L v → w′ ≡ verdictWords (verdictReads v) w
+pub checked-words : {T L : List ℤ} {w w′ : List ℕ} (v : Verdict) → 3 ≤ length w → Judged [] T L v → w′ ≡ verdictWords (verdictReads v) w
     → CheckAnswer T L w true w′
 unfolding Judged
 checked-words {T} {L} {w} {w′} v h a e =
     record {
       room = sym (le-leb 3 (length w) h);
       words = rw (le-leb 3 (length w) h)
-          (decided T (λ d. w′ ≡ verdictWords (firstReads (chainFaults d T L)) w) (λ d c. e ∙ ap (λ (x : Reading). verdictWords x w) (a .by-each d c .reads)));
+          (decided T (λ d. w′ ≡ verdictWords (firstReads (chainFaults d [] T L)) w)
+          (λ d c. e ∙ ap (λ (x : Reading). verdictWords x w) (a .by-each d c .reads)));
     }
 
 pub no-room-to-run : {l : Lent} {w : List ℕ} {limit : ℕ} → length w < 4 → RunWords l limit w false (l .values) (l .cells) w

@@ -44,7 +44,7 @@ answerWords (refused n a p) w = putFour w 3 n (wordOf a) (wordOf p)
 -- Where there is room for an answer, the words of what the first fault of the table, with the list L of loop facts, reads as, by the paper's chains; else
 -- nothing is written.
 abbrev pub checkedIf : Bool → List ℤ → List ℤ → List ℕ → List ℕ → Type 0
-checkedIf true T L w w′ = Decided T (λ d. w′ ≡ verdictWords (firstReads (chainFaults d T L)) w)
+checkedIf true T L w w′ = Decided T (λ d. w′ ≡ verdictWords (firstReads (chainFaults d [] T L)) w)
 checkedIf false T L w w′ = w′ ≡ w
 
 pub record CheckAnswer (T L : List ℤ) (w : List ℕ) (r : Bool) (w′ : List ℕ) : Type 0 where
@@ -69,7 +69,7 @@ reportNumbers d T L = chosen (reportedAt (byChains d) T L) 0 1024
 
 -- Where there is room, the words of the verdict and the number of statements reported, and these statements; else nothing is written.
 abbrev pub reportedTo : Bool → List ℤ → List ℤ → List ℕ → List ℕ → List ℕ → List ℕ → Type 0
-reportedTo true T L w p w′ p′ = Decided T (λ d. (w′ ≡ set (verdictWords (firstReads (chainFaults d T L)) w) 3 (length (reportNumbers d T L)))
+reportedTo true T L w p w′ p′ = Decided T (λ d. (w′ ≡ set (verdictWords (firstReads (chainFaults d [] T L)) w) 3 (length (reportNumbers d T L)))
     × (p′ ≡ putNumbers p 0 (reportNumbers d T L)))
 reportedTo false T L w p w′ p′ = (w′ ≡ w) × (p′ ≡ p)
 

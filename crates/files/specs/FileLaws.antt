@@ -26,7 +26,7 @@ above-both : (b : Bool) (n : ℕ) → 7704 < n → leb n (cond b 7704 7318) ≡ 
 above-both true n h = lt-leb n 7704 h
 above-both false n h = lt-leb n 7318 (omega arith)
 
-pub faults-long : (S : FactSets) (T : List ℤ) → 7704 < length T → faults S T [] ≡ Length ∷ []
+pub faults-long : (S : FactSets) (T : List ℤ) → 7704 < length T → faults S [] T [] ≡ Length ∷ []
 unfolding faults formOf lengthRight
 faults-long S T h = rw (above-both (fourPairs T) (length T) h, and-false (leb 6 (length T)))
 
@@ -45,11 +45,11 @@ long-refused bytes e h =
 
 pub file-answered : (bytes : List ℕ) {table old L : List ℤ} {count : ℕ} (v : Verdict) → length bytes % 4 ≡ 0 → length bytes / 4 ≤ length old
     → WordsRead bytes old count table
-    → L ≡ [] → Judged (take count table) L v → FileJudged bytes v
+    → L ≡ [] → Judged [] (take count table) L v → FileJudged bytes v
 unfolding FileJudged Judged fileFaults wordsOf
 file-answered bytes {table} {count = count} v e h p n a =
     let q : count ≡ length bytes / 4 = omega (arith, p .many) in
     let t : take count table ≡ tabulate (length bytes / 4) (λ j. wordAt bytes (4 * j)) = p .filled .front
     ∙ ap (λ (n : ℕ). tabulate n (λ j. wordAt bytes (4 * j))) q in
-    let j : Judged (tabulate (length bytes / 4) (λ j. wordAt bytes (4 * j))) [] v = rw (t, n) at a in
+    let j : Judged [] (tabulate (length bytes / 4) (λ j. wordAt bytes (4 * j))) [] v = rw (t, n) at a in
     decided _ _ (λ d r. rw (eq-eqb (length bytes % 4) 0 e) (j .by-each d r))

@@ -29,7 +29,7 @@ wordsOf bytes = tabulate (length bytes / 4) (λ i. wordAt bytes (4 * i))
 
 -- "file: length not a multiple of 4" is cause 1, place 0; else the faults of the table that the words are. A file has no list of loop facts (point 9).
 unfoldable pub fileFaults : FactSets → List ℕ → List Refusal
-fileFaults S bytes = cond (eqb (length bytes % 4) 0) (faults S (wordsOf bytes) []) (Length ∷ [])
+fileFaults S bytes = cond (eqb (length bytes % 4) 0) (faults S [] (wordsOf bytes) []) (Length ∷ [])
 
 -- THE VERDICT ON A FILE, by the paper's chains of the facts of its table: it answers the first fault.
 unfoldable pub FileJudged : List ℕ → Verdict → Type 0

@@ -19,7 +19,7 @@ use Rattle.statements.specs.declared.Simple.{Simple}
 use Rattle.statements.specs.declared.Simple.the-variants.{Literal, AddConstant, Arithmetic, Null, Address, PointerOffset}
 use Rattle.statements.specs.declared.Simple.the-variants.{PointerIndex, Load, Store, Check as Test, Declare}
 use Rattle.statements.specs.declared.Statement.{Statement}
-use Rattle.statements.specs.declared.Statement.the-variants.{Plain, If, While, Bundle}
+use Rattle.statements.specs.declared.Statement.the-variants.{Plain, If, While, Bundle, Call}
 use Rattle.statements.specs.declared.StatementRead.{StatementRead}
 use Rattle.statements.specs.declared.StatementRead.the-variants.{Read}
 use Rattle.statements.specs.Decode.{decodedAt}
@@ -163,6 +163,7 @@ module _ (T : List ℤ) (h : Sections) (E : Environment) (D W S : List ℕ) wher
   stepped P (If c x y) n w k l t o u = rw w (branch-stepped E P 0 (h .objects) o (conditionHolds (P .values) c) n)
   stepped P (While c x) n w k l t o u = rw w (branch-stepped E P 0 (h .objects) o (conditionHolds (P .values) c) n)
   stepped P (Bundle x) n w k l t o u = rw w (record { same = refl; counted = refl; long = refl; origins = o })
+  stepped P (Call x) n w k l t o u = absurd (u refl)
 
   -- ---- an access is inside where the plain machine is not stuck
 
@@ -213,6 +214,7 @@ module _ (T : List ℤ) (h : Sections) (E : Environment) (D W S : List ℕ) wher
     inside (If c x y) n w l t u = tt
     inside (While c x) n w l t u = tt
     inside (Bundle x) n w l t u = tt
+    inside (Call x) n w l t u = tt
 
   -- ---- a point that is going, with a statement due
 

@@ -58,7 +58,7 @@ entryFaults (WellFormed h) l = entryRefusals h (environmentOf (l .table) h) (l .
 
 -- "A run checks the routine first, then 10 to 12", then 16: the faults in that order, of which the first counts. "A run is begun when no cause refuses it."
 unfoldable pub runFaults : FactSets → Lent → List Refusal
-runFaults S l = also (faults S (l .table) (l .listed)) (entryFaults (formOf (l .table)) l)
+runFaults S l = also (faults S [] (l .table) (l .listed)) (entryFaults (formOf (l .table)) l)
 
 -- A refused run: its answer reads as that refusal's number, place and pointer; no cell and no value is changed.
 pub record NotBegun (f : Refusal) (l : Lent) (m : Leaves) : Type 0 where

@@ -12,14 +12,15 @@ use Rattle.sums.specs.Numbers.{maxValue}
 use Rattle.answers.specs.declared.refusals.Refusal.{Refusal}
 use Rattle.words.specs.declared.sections.Sections.{Sections}
 use Rattle.table.specs.Form.{sectionsOf, formOf}
-use Rattle.table.specs.FormLaws.{well-formed}
+use Rattle.table.specs.FormLaws.{well-formed, formed-sections}
 use Rattle.table.specs.declared.Form.{Form}
 use Rattle.table.specs.declared.Form.the-variants.{WellFormed, Refused}
 use Rattle.blocks.specs.Flow.{tableFlow}
 use Rattle.blocks.specs.Written.{written, Written}
 use Rattle.rules.specs.BoundsRules.{ownRows}
 use Rattle.rules.specs.EnvironmentLaws.{environment-declares}
-use Rattle.rules.specs.AcceptedLaws.{clear, faults-clear, formed-sections}
+use Rattle.rules.specs.CallLaws.{none-formed}
+use Rattle.rules.specs.AcceptedLaws.{clear, faults-clear}
 use Rattle.blocks.specs.Layout.{also}
 use Rattle.rules.specs.Verdict.{environmentOf, verdictOf}
 use Rattle.rules.specs.Stored.{faults, store}
@@ -53,7 +54,7 @@ use Rattle.answers.specs.declared.stops.Outcome.{Outcome}
 
 -- ---- the contract of `run`
 
-module _ (T : List ℤ) (h : Sections) (L : List ℤ) (formed : formOf T ≡ WellFormed h) (accepts : faults T L ≡ []) (D cs vs os : List ℕ) (small : Small cs vs)
+module _ (T : List ℤ) (h : Sections) (L : List ℤ) (formed : formOf T ≡ WellFormed h) (accepts : faults [] T L ≡ []) (D cs vs os : List ℕ) (small : Small cs vs)
     (none : entryRefusals h (environmentOf T h) D cs vs os ≡ []) where
   pub begun : Begun h (environmentOf T h) D cs vs os
   begun = entry-begun h (environmentOf T h) D cs vs os (admitted h (environmentOf T h) D cs vs os none) (small .values-small) (small .cells-small)
@@ -61,13 +62,13 @@ module _ (T : List ℤ) (h : Sections) (L : List ℤ) (formed : formOf T ≡ Wel
 
   -- What the loop asks.
   pub run-prepared : (w : List ℕ) → 2 * h .statements ≤ length w → Prepared T h (endsOf (environmentOf T h) ownRows) D (written (tableFlow T h) w) vs
-  run-prepared w room = start-prepared T h D cs vs os w (well-formed T h formed) (clear T h L formed accepts .laid) room
+  run-prepared w room = start-prepared T h D cs vs os w (well-formed T h formed) (clear [] T h L formed accepts .laid) room
       (admitted h (environmentOf T h) D cs vs os none)
 
   pub run-safe : (w : List ℕ) → 2 * h .statements ≤ length w → (limit : ℕ)
       → SafeRun T h (endsOf (environmentOf T h) ownRows) D (written (tableFlow T h) w) limit 0 vs cs
   run-safe w room limit =
-      start-safe T h D cs vs os w (well-formed T h formed) (clear T h L formed accepts .laid) room (admitted h (environmentOf T h) D cs vs os none)
+      start-safe T h D cs vs os w (well-formed T h formed) (clear [] T h L formed accepts .laid) room (admitted h (environmentOf T h) D cs vs os none)
       (unstuck T h L formed accepts D cs vs os begun) (rows-long T h L formed accepts D cs vs os begun) limit
 
   -- What the loop leaves is the claim.
@@ -77,7 +78,7 @@ module _ (T : List ℤ) (h : Sections) (L : List ℤ) (formed : formOf T ≡ Wel
   run-claim w room limit r W′ vs′ cs′ e =
       let agrees : bareRun T h (endsOf (environmentOf T h) ownRows) D (written (tableFlow T h) w) limit 0 0 vs cs ≡ resultShown (environmentOf T h) h
       (point T h L formed accepts D cs vs os begun limit)
-      = start-agrees T h D cs vs os w (well-formed T h formed) (clear T h L formed accepts .laid) room (admitted h (environmentOf T h) D cs vs os none)
+      = start-agrees T h D cs vs os w (well-formed T h formed) (clear [] T h L formed accepts .laid) room (admitted h (environmentOf T h) D cs vs os none)
       (unstuck T h L formed accepts D cs vs os begun) (rows-long T h L formed accepts D cs vs os begun) limit in
       let answered : reads r ≡ shown T h L formed accepts D cs vs os begun limit =
       ap reads (e .outcome ∙ ap (λ (o : Result). o .outcome) agrees) ∙ reads-at T h L formed accepts D cs vs os begun limit in
@@ -93,11 +94,11 @@ module _ (T : List ℤ) (h : Sections) (L : List ℤ) (formed : formOf T ≡ Wel
 -- ---- refusals of a run
 
 -- A table with no fault is well formed.
-pub no-form-refused : (T L : List ℤ) (r : Refusal) → faults T L ≡ [] → formOf T ≡ Refused r → ⊥
-no-form-refused T L r e f = let p = faults-clear T L e in let q = p .1 .form in let z : _≡_ {A = ℕ} 0 1 = cc in omega arith
+pub no-form-refused : (T L : List ℤ) (r : Refusal) → faults [] T L ≡ [] → formOf T ≡ Refused r → ⊥
+no-form-refused T L r e f = let p = faults-clear [] T L e in let q = p .1 .form in let z : _≡_ {A = ℕ} 0 1 = cc in omega arith
 
 -- Of an accepted table the faults of a run are those of the entry.
-pub entry-only : (T : List ℤ) (h : Sections) (L : List ℤ) (D cs vs os : List ℕ) → formOf T ≡ WellFormed h → faults T L ≡ []
+pub entry-only : (T : List ℤ) (h : Sections) (L : List ℤ) (D cs vs os : List ℕ) → formOf T ≡ WellFormed h → faults [] T L ≡ []
     → runFaults store (lends T L D cs vs os) ≡ entryRefusals h (environmentOf T h) D cs vs os
 unfolding runFaults also
 entry-only T h L D cs vs os f e = rw (e, f)
@@ -107,9 +108,9 @@ unfolding entered
 entered-none [] e = refl
 entered-none (r ∷ rs) e = cc
 
-pub begun-ran : (T : List ℤ) (h : Sections) (L : List ℤ) (D cs vs os : List ℕ) (limit : ℕ) (r : Outcome) (vs′ cs′ : List ℕ)
-    → formOf T ≡ WellFormed h → faults T L ≡ [] → entryRefusals h (environmentOf T h) D cs vs os ≡ [] → Ran (lends T L D cs vs os) (sectionsOf T) limit
-    (leaves r vs′ cs′)
+pub begun-ran : (T : List ℤ) (h : Sections) (L : List ℤ) (D cs vs os : List ℕ) (limit : ℕ) (r : Outcome) (vs′ cs′ : List ℕ) → formOf T ≡ WellFormed h
+    → faults [] T L ≡ []
+    → entryRefusals h (environmentOf T h) D cs vs os ≡ [] → Ran (lends T L D cs vs os) (sectionsOf T) limit (leaves r vs′ cs′)
     → RunAnswer (runFaults store (lends T L D cs vs os)) (lends T L D cs vs os) limit (leaves r vs′ cs′)
 unfolding RunAnswer
 begun-ran T h L D cs vs os limit r vs′ cs′ f e n a = rw (entry-only T h L D cs vs os f e, n) a
@@ -117,7 +118,7 @@ begun-ran T h L D cs vs os limit r vs′ cs′ f e n a = rw (entry-only T h L D 
 -- ---- what the code has in hand where the loop begins
 
 pub launched : {T : List ℤ} {h : Sections} {L : List ℤ} {D cs vs os W S : List ℕ} {E′ : Environment} {v : EntryVerdict} {b : Bool} (w : List ℕ)
-    → formOf T ≡ WellFormed h → faults T L ≡ [] → Small cs vs → E′ ≡ environmentOf T h → v ≡ entered (entryRefusals h E′ D cs vs os) → v ≡ entry.Begun
+    → formOf T ≡ WellFormed h → faults [] T L ≡ [] → Small cs vs → E′ ≡ environmentOf T h → v ≡ entered (entryRefusals h E′ D cs vs os) → v ≡ entry.Begun
     → W ≡ endsOf E′ ownRows
     → Written T h w b S → length w ≡ 2048 → Launched T h L D cs vs os W S
 launched {T} {h} {L} {D} {cs} {vs} {os} {W} {S} {E′} {v} w f a l e q g k s n =
@@ -151,10 +152,10 @@ module _ {T : List ℤ} {h : Sections} {L : List ℤ} {D cs vs os W S : List ℕ
 -- ---- refusals of `prepare`
 
 -- The verdict was a refusal.
-pub check-refused : (T L : List ℤ) (D cs vs os : List ℕ) (r : Refusal) → verdict.Refused r ≡ verdictOf (faults T L)
+pub check-refused : (T L : List ℤ) (D cs vs os : List ℕ) (r : Refusal) → verdict.Refused r ≡ verdictOf (faults [] T L)
     → First (runFaults store (lends T L D cs vs os)) r
 unfolding runFaults also verdictOf
-check-refused T L D cs vs os r a = go (faults T L) a
+check-refused T L D cs vs os r a = go (faults [] T L) a
   where
     go : (fs : List Refusal) → verdict.Refused r ≡ verdictOf fs → First (also fs (entryFaults (formOf T) (lends T L D cs vs os))) r
     go [] a = let z : _≡_ {A = ℕ} 0 1 = cc in absurd (omega arith)
@@ -165,7 +166,7 @@ check-refused T L D cs vs os r a = go (faults T L) a
     )
 
 -- The entry refuses.
-pub entry-refused : (T : List ℤ) (h : Sections) (L : List ℤ) (D cs vs os : List ℕ) (r : Refusal) → formOf T ≡ WellFormed h → faults T L ≡ []
+pub entry-refused : (T : List ℤ) (h : Sections) (L : List ℤ) (D cs vs os : List ℕ) (r : Refusal) → formOf T ≡ WellFormed h → faults [] T L ≡ []
     → entered (entryRefusals h (environmentOf T h) D cs vs os) ≡ entry.Refused r → First (runFaults store (lends T L D cs vs os)) r
 unfolding entered
 entry-refused T h L D cs vs os r f e q = rw (entry-only T h L D cs vs os f e) (go (entryRefusals h (environmentOf T h) D cs vs os) q)
@@ -205,7 +206,7 @@ unfolding RunJudged runFaults
 run-judged T L D cs vs os limit r vs′ cs′ a =
     decided _ _ (λ d c.
     same-run (runFaults store (lends T L D cs vs os)) (runFaults (byChains d) (lends T L D cs vs os)) T L D cs vs os limit r vs′ cs′
-    (same-also (faults T L) (verdictRules.faults (byChains d) T L) _ _ (faults-agree T L d c)
+    (same-also (faults [] T L) (verdictRules.faults (byChains d) [] T L) _ _ (faults-agree [] none-formed T L d c)
     (λ z. same-self (entryFaults (formOf T) (lends T L D cs vs os)))) a)
 
 -- ---- of a routine that is begun or refused before it is served
@@ -226,7 +227,8 @@ launched-begins {T} {h} {L} {D} {cs} {vs} {os} b =
     decided T _ (λ d c.
     none-same (runFaults store (lends T L D cs vs os)) (runFaults (byChains d) (lends T L D cs vs os))
     (entry-only T h L D cs vs os (b .formed) (b .accepts) ∙ b .none)
-    (same-also (faults T L) (verdictRules.faults (byChains d) T L) _ _ (faults-agree T L d c) (λ z. same-self (entryFaults (formOf T) (lends T L D cs vs os)))))
+    (same-also (faults [] T L) (verdictRules.faults (byChains d) [] T L) _ _ (faults-agree [] none-formed T L d c)
+    (λ z. same-self (entryFaults (formOf T) (lends T L D cs vs os)))))
 
 -- ---- the whole run
 

@@ -15,3 +15,9 @@ pub mod Starts
 pub mod ClaimLaws
 pub mod TwoRuns
 pub mod TwoRunsLaws
+pub mod Traces
+pub mod SetClaim
+pub mod SetStepLaws
+pub mod SetPointLaws
+pub mod SetAlone
+pub mod SetTwoRuns

@@ -12,7 +12,7 @@ use Rattle.statements.specs.Statements.{statementAt}
 use Rattle.statements.specs.declared.Simple.{Simple}
 use Rattle.statements.specs.declared.Simple.the-variants.{Literal, AddConstant, Arithmetic, Null, Address, PointerOffset, PointerIndex, Load, Store}
 use Rattle.statements.specs.declared.Simple.the-variants as simple
-use Rattle.statements.specs.declared.Statement.the-variants.{Plain, If, While, Bundle}
+use Rattle.statements.specs.declared.Statement.the-variants.{Plain, If, While, Bundle, Call}
 use Rattle.statements.specs.declared.StatementRead.{StatementRead}
 use Rattle.statements.specs.declared.StatementRead.the-variants.{Read, Unread}
 use Rattle.blocks.specs.Flow.{Successors}
@@ -111,6 +111,7 @@ statement-held E D (Read (Plain s)) n P =
 statement-held E D (Read (If c x y)) n P = branched-held (conditionHolds (P .values) c) P n
 statement-held E D (Read (While c x)) n P = branched-held (conditionHolds (P .values) c) P n
 statement-held E D (Read (Bundle x)) n P = tt
+statement-held E D (Read (Call x)) n P = tt
 statement-held E D Unread n P = tt
 
 module _ (T : List ℤ) (h : Sections) (E : Environment) (D : List ℕ) where

@@ -12,17 +12,17 @@ use lib.IntN.{ℤ}
 use lib.ListN.{length, getD}
 use Rattle.words.specs.declared.sections.Sections.{Sections}
 use Rattle.table.specs.Form.{formOf, sectionsOf}
-use Rattle.table.specs.FormLaws.{well-formed}
+use Rattle.table.specs.FormLaws.{well-formed, formed-sections}
 use Rattle.table.specs.declared.Form.the-variants.{WellFormed}
 use Rattle.conditions.specs.declared.Condition.{Condition}
 use Rattle.statements.specs.Statements.{statementAt}
-use Rattle.statements.specs.declared.Statement.the-variants.{Plain, If, While, Bundle}
+use Rattle.statements.specs.declared.Statement.the-variants.{Plain, If, While, Bundle, Call}
 use Rattle.statements.specs.declared.StatementRead.{StatementRead}
 use Rattle.statements.specs.declared.StatementRead.the-variants.{Read, Unread}
 use Rattle.blocks.specs.Tree.{tree}
 use Rattle.listed.specs.Entries.{entriesOf, EntriesHold}
 use Rattle.rules.specs.BoundsRules.{inForce}
-use Rattle.rules.specs.AcceptedLaws.{clear, formed-sections}
+use Rattle.rules.specs.AcceptedLaws.{clear}
 use Rattle.rules.specs.ListedLaws.{entries-right, entries-mean}
 use Rattle.rules.specs.ByChains.{Decider, byChains, DecidesTable}
 use Rattle.rules.specs.StateBefore.{stateBefore}
@@ -51,7 +51,7 @@ use Rattle.answers.specs.declared.stops.Outcome.the-variants as outcome
 use Rattle.answers.specs.declared.stops.Outcome.{Outcome}
 use Rattle.answers.specs.declared.stops.Outcome.the-variants.{Done, Spent}
 
-allowed-inside : (D : List ℕ) (n : ℕ) (a : Access) → AccessAllowed D n a → AccessInside D a
+pub allowed-inside : (D : List ℕ) (n : ℕ) (a : Access) → AccessAllowed D n a → AccessInside D a
 allowed-inside D n no-access h = tt
 allowed-inside D n (access a o) h = h .inside
 
@@ -68,14 +68,14 @@ leaves r vs cs = record { answer = r; values = vs; cells = cs }
 pub never : {A : Type 0} → _≡_ {A = ℕ} 0 1 → A
 never z = absurd (omega arith)
 
-going-done : (h : Sections) (s : Status) (steps due : ℕ) → s ≡ going → h .statements ≤ due → answerOf h s steps due ≡ says.done steps
+pub going-done : (h : Sections) (s : Status) (steps due : ℕ) → s ≡ going → h .statements ≤ due → answerOf h s steps due ≡ says.done steps
 going-done h s steps due e l = rw (e, le-ltb due (h .statements) l)
 
-going-spent : (h : Sections) (s : Status) (steps due : ℕ) → s ≡ going → due < h .statements → answerOf h s steps due ≡ says.spent steps due
+pub going-spent : (h : Sections) (s : Status) (steps due : ℕ) → s ≡ going → due < h .statements → answerOf h s steps due ≡ says.spent steps due
 going-spent h s steps due e l = rw (e, lt-ltb due (h .statements) l)
 
 -- The steps of a point that answers done, where no statement is due.
-done-steps : (h : Sections) (s : Status) (steps due n : ℕ) → s ≢ stuck → answerOf h s steps due ≡ says.done n → (h .statements ≤ due) × (steps ≡ n)
+pub done-steps : (h : Sections) (s : Status) (steps due n : ℕ) → s ≢ stuck → answerOf h s steps due ≡ says.done n → (h .statements ≤ due) × (steps ≡ n)
 done-steps h going steps due n u e = go (ltb due (h .statements)) refl e
   where
     go : (b : Bool) → ltb due (h .statements) ≡ b → cond b (says.spent steps due) (says.done steps) ≡ says.done n → (h .statements ≤ due) × (steps ≡ n)
@@ -85,7 +85,7 @@ done-steps h (stopped k) steps due n u e = let z : _≡_ {A = ℕ} 0 1 = cc in n
 done-steps h stuck steps due n u e = absurd (u refl)
 
 -- The steps, the statement and the check of a point that answers stopped.
-stopped-steps : (h : Sections) (s : Status) (steps due n a k : ℕ) → answerOf h s steps due ≡ says.stopped n a k → (s ≡ stopped k) × (steps ≡ n) × (due ≡ a)
+pub stopped-steps : (h : Sections) (s : Status) (steps due n a k : ℕ) → answerOf h s steps due ≡ says.stopped n a k → (s ≡ stopped k) × (steps ≡ n) × (due ≡ a)
 stopped-steps h going steps due n a k e = go (ltb due (h .statements)) e
   where
     go : (b : Bool) → cond b (says.spent steps due) (says.done steps) ≡ says.stopped n a k → (going ≡ stopped k) × (steps ≡ n) × (due ≡ a)
@@ -95,7 +95,7 @@ stopped-steps h (stopped j) steps due n a k e = let q : j ≡ k = cc in (ap stop
 stopped-steps h stuck steps due n a k e = let z : _≡_ {A = ℕ} 0 1 = cc in never z
 
 -- The steps of a point that answers spent.
-spent-steps : (h : Sections) (s : Status) (steps due n a : ℕ) → answerOf h s steps due ≡ says.spent n a → (s ≡ going) × (due < h .statements) × (steps ≡ n)
+pub spent-steps : (h : Sections) (s : Status) (steps due n a : ℕ) → answerOf h s steps due ≡ says.spent n a → (s ≡ going) × (due < h .statements) × (steps ≡ n)
 spent-steps h going steps due n a e = go (ltb due (h .statements)) refl e
   where
     go : (b : Bool) → ltb due (h .statements) ≡ b → cond b (says.spent steps due) (says.done steps) ≡ says.spent n a
@@ -119,13 +119,13 @@ reads-shown h (stopped n) steps due five =
 reads-shown h stuck steps due five = refl
 
 -- A reported statement of an accepted table is shown safe.
-reported-safe : (T L : List ℤ) (a : ℕ) → faults T L ≡ [] → reportedAt store T L a ≡ true → safeAt store T (sectionsOf T) L a ≡ true
+reported-safe : (T L : List ℤ) (a : ℕ) → faults [] T L ≡ [] → reportedAt store T L a ≡ true → safeAt store T (sectionsOf T) L a ≡ true
 unfolding reportedAt reportedIf
 reported-safe T L a f e = rw f at e
 
 -- ---- every point of a begun run
 
-module _ (T : List ℤ) (h : Sections) (L : List ℤ) (formed : formOf T ≡ WellFormed h) (accepts : faults T L ≡ []) (D cs vs os : List ℕ)
+module _ (T : List ℤ) (h : Sections) (L : List ℤ) (formed : formOf T ≡ WellFormed h) (accepts : faults [] T L ≡ []) (D cs vs os : List ℕ)
     (begun : Begun h (environmentOf T h) D cs vs os) where
   abbrev E : Environment
   E = environmentOf T h
@@ -251,7 +251,7 @@ module _ (T : List ℤ) (h : Sections) (L : List ℤ) (formed : formOf T ≡ Wel
       → EntriesHold (entriesOf L (point t .due)) (value (point t .values))
   listed t c n e =
       let w = well-formed T h formed .limits in
-      entries-mean T h w (entriesOf L (point t .due)) (value (point t .values)) (entries-right T h w L (clear T h L formed accepts .listed) (point t .due))
+      entries-mean T h w (entriesOf L (point t .due)) (value (point t .values)) (entries-right T h w L (clear [] T h L formed accepts .listed) (point t .due))
       (right t .listed c n e)
 
   read-passes : (t : ℕ) (r : StatementRead) → statementAt T h (point t .due) ≡ r
@@ -260,6 +260,7 @@ module _ (T : List ℤ) (h : Sections) (L : List ℤ) (formed : formOf T ≡ Wel
   read-passes t (Read (If c n m)) e q = absurd (false≢true q)
   read-passes t (Read (While c n)) e q = absurd (false≢true q)
   read-passes t (Read (Bundle n)) e q = absurd (false≢true q)
+  read-passes t (Read (Call c)) e q = absurd (false≢true q)
   read-passes t Unread e q = absurd (false≢true q)
 
   safe-passes : (t : ℕ) → safeAt store T h L (point t .due) ≡ true → failingDue lent h t ≡ none

@@ -28,7 +28,7 @@ pub record Small (cs vs : List ℕ) : Type 0 where
 -- Nothing refuses the run; W has the declared ends, S the successors of its statements.
 pub record Launched (T : List ℤ) (h : Sections) (L : List ℤ) (D cs vs os W S : List ℕ) : Type 0 where
   pub formed : formOf T ≡ WellFormed h
-  pub accepts : faults T L ≡ []
+  pub accepts : faults [] T L ≡ []
   pub small : Small cs vs
   pub none : entryRefusals h (environmentOf T h) D cs vs os ≡ []
   pub ends : W ≡ endsOf (environmentOf T h) ownRows

@@ -11,7 +11,7 @@ use lib.Dec.{ltb}
 use lib.IntN.{ℤ}
 use Rattle.words.specs.declared.sections.Sections.{Sections}
 use Rattle.statements.specs.Statements.{statementAt}
-use Rattle.statements.specs.declared.Statement.the-variants.{Plain, If, While, Bundle}
+use Rattle.statements.specs.declared.Statement.the-variants.{Plain, If, While, Bundle, Call}
 use Rattle.statements.specs.declared.StatementRead.{StatementRead}
 use Rattle.statements.specs.declared.StatementRead.the-variants.{Read, Unread}
 use Rattle.blocks.specs.Flow.{Successors}
@@ -57,18 +57,20 @@ branch-facts : (b : Bool) (P : Point) (n : Successors) → StepFacts none P (bra
 branch-facts true P n = moves P (branched true P n) refl refl
 branch-facts false P n = moves P (branched false P n) refl refl
 
-step-facts : (E : Environment) (D : List ℕ) (s : StatementRead) (n : Successors) (P : Point) → statementStep E D s n P .status ≢ stuck
+pub step-facts : (E : Environment) (D : List ℕ) (s : StatementRead) (n : Successors) (P : Point) → statementStep E D s n P .status ≢ stuck
     → StepFacts (failingAt (inForce E (P .rows)) s (P .values)) P (statementStep E D s n P)
 unfolding statementStep
 step-facts E D (Read (Plain s)) n P u = simple-facts (failing (inForce E (P .rows)) (P .values) s) (performed E D s (memoryOf P)) P (n .next) u
 step-facts E D (Read (If c x y)) n P u = branch-facts (conditionHolds (P .values) c) P n
 step-facts E D (Read (While c x)) n P u = branch-facts (conditionHolds (P .values) c) P n
 step-facts E D (Read (Bundle x)) n P u = moves P (moved P (memoryOf P) (n .next)) refl refl
+step-facts E D (Read (Call c)) n P u = absurd (u refl)
 step-facts E D Unread n P u = absurd (u refl)
 
 module _ (T : List ℤ) (h : Sections) (E : Environment) (D : List ℕ) where
   -- The next point of one that goes on.
-  next-going : (P : Point) → P .due < h .statements → nextPoint T h E D going P ≡ statementStep E D (statementAt T h (P .due)) (successorsOf T h E D (P .due)) P
+  pub next-going : (P : Point) → P .due < h .statements → nextPoint T h E D going P ≡ statementStep E D (statementAt T h (P .due)) (successorsOf T h E D
+      (P .due)) P
   unfolding nextPoint
   next-going P l = rw (lt-ltb (P .due) (h .statements) l)
 

@@ -18,7 +18,8 @@ use Rattle.rules.specs.Verdict.{environmentOf, faults}
 use Rattle.rules.specs.Stored.{store}
 use Rattle.rules.specs.ByChains.{byChains}
 use Rattle.rules.specs.Decidable.{decider, decider-decides}
-use Rattle.rules.specs.Agreement.{SameFirst, faults-agree}
+use Rattle.rules.specs.CallLaws.{none-formed}
+use Rattle.rules.specs.Agreement.{none-first, faults-agree}
 use Rattle.blocks.specs.LayoutLaws.{no-first, no-rest}
 use Rattle.machine.specs.Machine.{Point}
 use Rattle.machine.specs.Frame.{Elsewhere, SameCells}
@@ -27,7 +28,8 @@ use Rattle.machine.specs.FrameLaws.{two-alike, others-untouched}
 use Rattle.entry.specs.Entry.{entryRefusals}
 use Rattle.interpreter.specs.StartLaws.{Admitted, admitted, origin-inside}
 use Rattle.interpreter.specs.BegunLaws.{one-object}
-use Rattle.rules.specs.AcceptedLaws.{faults-clear, formed-sections}
+use Rattle.table.specs.FormLaws.{formed-sections}
+use Rattle.rules.specs.AcceptedLaws.{faults-clear}
 use Rattle.interpreter.specs.ClaimLaws.{judged-ran}
 use Rattle.interpreter.specs.PointLaws.{lends}
 use Rattle.interpreter.specs.Claim.{runFaults, answerOf, Begins}
@@ -36,18 +38,13 @@ use Rattle.answers.specs.declared.stops.Outcome.the-variants as outcome
 
 -- ---- a run that begins
 
--- Where the table has no fault by the paper's facts it has none by the store.
-none-first : (xs ys : List Refusal) → SameFirst xs ys → ys ≡ [] → xs ≡ []
-none-first [] ys s e = refl
-none-first (x ∷ xs) [] s e = absurd s
-none-first (x ∷ xs) (y ∷ ys) s e = cc
-
 begins-admitted : (T L : List ℤ) (D cs vs os : List ℕ) → Begins (lends T L D cs vs os) → Admitted (sectionsOf T) (environmentOf T (sectionsOf T)) D cs vs os
 unfolding runFaults
 begins-admitted T L D cs vs os b =
     let e = b .by-each (decider T) (decider-decides T) in
-    let n = none-first (faults store T L) (faults (byChains (decider T)) T L) (faults-agree T L (decider T) (decider-decides T)) (no-first _ _ e) in
-    let c = faults-clear T L n in
+    let n = none-first (faults store [] T L) (faults (byChains (decider T)) [] T L) (faults-agree [] none-formed T L (decider T) (decider-decides T))
+    (no-first _ _ e) in
+    let c = faults-clear [] T L n in
     let h = c .0 in
     let f : formOf T ≡ WellFormed h = c .1 .form in
     let s : entryRefusals h (environmentOf T h) D cs vs os ≡ [] = rw f at (no-rest _ _ e) in

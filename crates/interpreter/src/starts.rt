@@ -48,7 +48,7 @@ fn prepare_sections(
     ends: &mut [u64],
     successors: &mut [u32],
 ) -> Start
-    requires { ⌜ (formOf (now table) ≡ WellFormed sections) × (faults (now table) (now listed) ≡ []) ⌝ }
+    requires { ⌜ (formOf (now table) ≡ WellFormed sections) × (faults [] (now table) (now listed) ≡ []) ⌝ }
     requires { ⌜ (length (now ends) ≡ 512) × (length (now successors) ≡ 2048) ⌝ }
     ensures { λ r. ⌜ Starts r (record {
       table = now (table .entry);
@@ -82,7 +82,7 @@ fn prepare_accepted(
     ends: &mut [u64],
     successors: &mut [u32],
 ) -> Start
-    requires { ⌜ faults (now table) (now listed) ≡ [] ⌝ }
+    requires { ⌜ faults [] (now table) (now listed) ≡ [] ⌝ }
     requires { ⌜ (length (now ends) ≡ 512) × (length (now successors) ≡ 2048) ⌝ }
     ensures { λ r. ⌜ Starts r (record {
       table = now (table .entry);

@@ -14,7 +14,7 @@ use Rattle.words.specs.Sections.{namesInteger, namesPointer}
 use Rattle.words.specs.declared.sections.Sections.{Sections}
 use Rattle.conditions.specs.Conditions.{sameKind}
 use Rattle.statements.specs.Statements.{statementAt}
-use Rattle.statements.specs.declared.Statement.the-variants.{Plain, If, While, Bundle}
+use Rattle.statements.specs.declared.Statement.the-variants.{Plain, If, While, Bundle, Call}
 use Rattle.statements.specs.declared.StatementRead.{StatementRead}
 use Rattle.statements.specs.declared.StatementRead.the-variants.{Read, Unread}
 use Rattle.table.specs.Form.{lowestFrom}
@@ -27,6 +27,7 @@ isWhile (Read (Plain s)) = false
 isWhile (Read (If c n m)) = false
 isWhile (Read (While c n)) = true
 isWhile (Read (Bundle n)) = false
+isWhile (Read (Call c)) = false
 isWhile Unread = false
 
 unfoldable pub namesWhile : List ℤ → Sections → ℕ → Bool

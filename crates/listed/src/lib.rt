@@ -81,6 +81,7 @@ fn names_while(table: &[i32], sections: Sections, w: u64) -> bool
             count: _,
         } => BIAS <= w,
         Statement::Bundle { count: _ } => false,
+        Statement::Call(_) => false,
     }
 }
 

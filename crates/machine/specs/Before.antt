@@ -17,7 +17,7 @@ use Rattle.statements.specs.Statements.{statementAt}
 use Rattle.statements.specs.declared.Simple.{Simple}
 use Rattle.statements.specs.declared.Statement.the-variants.{Plain, While}
 use Rattle.statements.specs.declared.StatementRead.the-variants.{Read}
-use Rattle.blocks.specs.Tree.{Block, nil, plain, branch, loop, bundle, unread}
+use Rattle.blocks.specs.Tree.{Block, nil, plain, branch, loop, bundle, call, unread}
 use Rattle.blocks.specs.Shape.{size, Numbered, Reads}
 use Rattle.rules.specs.Stored.{store}
 use Rattle.rules.specs.FactSets.{State}
@@ -56,6 +56,8 @@ module _ (T : List ℤ) (h : Sections) (E : Environment) (D : List ℕ) (room : 
   at-range (bundle a ss r) lo W d m n (inr (inl i)) = let w = line-range (a + 1) ss _ _ d m i in (omega (arith, n .0, w .0), omega (arith, n .0, w .1))
   at-range (bundle a ss r) lo W d m n (inr (inr i)) = let w = at-range r (a + 1 + length ss) _ d m (n .1) i in
       (omega (arith, n .0, w .0), omega (arith, n .0, w .1))
+  at-range (call a s r) lo W d m n (inl i) = (omega (arith, n .0, i .0), omega (arith, n .0, i .0))
+  at-range (call a s r) lo W d m n (inr i) = let w = at-range r (a + 1) _ d m (n .1) i in (omega (arith, n .0, w .0), omega (arith, n .0, w .1))
   at-range (unread a) lo W d m n i = absurd i
 
   -- ---- the state before it
@@ -120,4 +122,8 @@ module _ (T : List ℤ) (h : Sections) (E : Environment) (D : List ℕ) (room : 
   before-due (bundle a ss r) lo W d m n r₀ (inr (inr i)) =
       let w = at-range r (a + 1 + length ss) _ d m (n .1) i in
       rw (ne-eqb d a (λ (e : d ≡ a). omega (arith, w .0)), le-ltb d (a + 1 + length ss) (w .0)) (before-due r (a + 1 + length ss) _ d m (n .1) (r₀ .2) i)
+  before-due (call a s r) lo W d m n r₀ (inl i) = rw (eq-eqb d a (i .0)) (here _ _ d m (i .1))
+  before-due (call a s r) lo W d m n r₀ (inr i) =
+      let w = at-range r (a + 1) _ d m (n .1) i in
+      rw (ne-eqb d a (λ (e : d ≡ a). omega (arith, w .0))) (before-due r (a + 1) _ d m (n .1) (r₀ .1) i)
   before-due (unread a) lo W d m n r₀ i = absurd i

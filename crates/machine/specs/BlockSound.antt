@@ -17,14 +17,15 @@ use Rattle.statements.specs.Typed.{SimpleTyped}
 use Rattle.statements.specs.declared.Simple.{Simple}
 use Rattle.statements.specs.declared.Simple.the-variants.{Literal, AddConstant, Arithmetic, Null, Address}
 use Rattle.statements.specs.declared.Simple.the-variants.{PointerOffset, PointerIndex, Load, Store, Check, Declare}
-use Rattle.statements.specs.declared.Statement.the-variants.{Plain, If, While}
+use Rattle.statements.specs.declared.Statement.the-variants.{Plain, If, While, Bundle, Call}
 use Rattle.statements.specs.declared.StatementRead.{StatementRead}
-use Rattle.blocks.specs.Tree.{Block, nil, plain, branch, loop, bundle, unread, target, targets, assigned}
+use Rattle.statements.specs.declared.StatementRead.the-variants.{Read, Unread}
+use Rattle.blocks.specs.Tree.{Block, nil, plain, branch, loop, bundle, call, unread, target, targets, callTarget, assigned}
 use Rattle.blocks.specs.Flow.{Successors, successors, entry, lead}
 use Rattle.blocks.specs.Shape.{size}
 use Rattle.rules.specs.FactSets.{State}
 use Rattle.rules.specs.Stored.{loopFacts, entriesUnshown, entryFacts, effect, bundleBounds, bundleFaults, sidesJoined, blockFaults, boundsAfter}
-use Rattle.rules.specs.Stored.{stateAfter, assumed, atHead, accessIn, unshownIn, declaredIn, bundleAfter, blockAfter}
+use Rattle.rules.specs.Stored.{stateAfter, calledState, assumed, atHead, accessIn, unshownIn, declaredIn, bundleAfter, blockAfter}
 use Rattle.rules.specs.FactsTrue.{Agree, among-left, among-right, loop-facts-hold}
 use Rattle.rules.specs.ListedLaws.{EntriesTrue, entries-true, entries-hold}
 use Rattle.listed.specs.Entries.{entriesOf}
@@ -41,7 +42,10 @@ use Rattle.machine.specs.ConditionSound.{condition-holds, negated-holds}
 use Rattle.machine.specs.AccessSound.{Ready}
 use Rattle.machine.specs.SimpleSound.{Done, done-map}
 use Rattle.machine.specs.PerformedSound.{performed-good}
+use Rattle.machine.specs.SetMachine.{Returned, returnedTo}
+use Rattle.machine.specs.CallSound.{GoodReturn, returned-good}
 use Rattle.machine.specs.Places.{LinkedLine, Linked, Stands, AtLine, Framed, headState, At, StandsAt}
+use Rattle.rules.specs.Calls.{Routine, resultEffect}
 use Rattle.rules.specs.BoundsRules as boundsRules
 use Rattle.rules.specs.Rules as walkRules
 
@@ -59,6 +63,15 @@ checked : (G : ℕ → Memory → Type 0) (P : Point) (n : ℕ) (c : Failing) (r
 checked G P n (fails c) r k = stops c
 checked G P n none (done m) k = leads n m (k refl)
 checked G P n none no-step k = absurd (k refl)
+
+-- The step of a routine in which a call is one step too, where `ret` is what its callee leaves.
+unfoldable pub frameStep : Environment → List ℕ → Returned → StatementRead → Successors → Point → Point
+frameStep E D ret (Read (Plain s)) n P = statementStep E D (Read (Plain s)) n P
+frameStep E D ret (Read (If c x y)) n P = statementStep E D (Read (If c x y)) n P
+frameStep E D ret (Read (While c x)) n P = statementStep E D (Read (While c x)) n P
+frameStep E D ret (Read (Bundle x)) n P = statementStep E D (Read (Bundle x)) n P
+frameStep E D ret (Read (Call c)) n P = moved P (returnedTo (memoryOf P) c ret) (n .next)
+frameStep E D ret Unread n P = statementStep E D Unread n P
 
 into : {A B C : Type 0} → B ⊎ C → (A ⊎ B) ⊎ C
 into (inl b) = inl (inr b)
@@ -110,15 +123,16 @@ module _ (T : List ℤ) (h : Sections) (E : Environment) (D : List ℕ) (room : 
   framed-head es A F m w r t =
       entries-hold es (loopFacts A F) (value (m .values)) r (loop-facts-hold A F (w .old) (value (m .values)) (w .range) r (w .held) (w .agree)) t
 
-  module _ (f : ℕ → Successors) (L : List ℤ) where
+  -- L is the list of loop facts; `callees` are the routines that may be called, and `ret` is what a callee leaves.
+  module _ (f : ℕ → Successors) (L : List ℤ) (callees : List Routine) (ret : Returned) (good-return : GoodReturn E D (h .objects) room ret) where
     -- ---- what a walk without faults says of the parts
 
-    module _ (a : ℕ) (c : Condition) (t e r : Block) (F : State FactSet) (q : blockFaults E L (branch a c t e r) F ≡ []) where
-      then-clear : blockFaults E L t (assumed F c) ≡ []
+    module _ (a : ℕ) (c : Condition) (t e r : Block) (F : State FactSet) (q : blockFaults E L callees (branch a c t e r) F ≡ []) where
+      then-clear : blockFaults E L callees t (assumed F c) ≡ []
       unfolding walkRules.blockFaults
       then-clear = no-first _ _ q
 
-      else-clear : blockFaults E L e (assumed F (negatedOf c)) ≡ []
+      else-clear : blockFaults E L callees e (assumed F (negatedOf c)) ≡ []
       unfolding walkRules.blockFaults
       else-clear = no-first _ _ (no-rest _ _ q)
 
@@ -127,17 +141,17 @@ module _ (T : List ℤ) (h : Sections) (E : Environment) (D : List ℕ) (room : 
       unfolding walkRules.blockFaults
       sides-same = rows-passed a _ _ (no-first _ _ (no-rest _ _ (no-rest _ _ q)))
 
-      joined-clear : blockFaults E L r (sidesJoined E (blockAfter E L t (assumed F c)) (blockAfter E L e (assumed F (negatedOf c)))) ≡ []
+      joined-clear : blockFaults E L callees r (sidesJoined E (blockAfter E L t (assumed F c)) (blockAfter E L e (assumed F (negatedOf c)))) ≡ []
       unfolding walkRules.blockFaults
       joined-clear = no-rest _ _ (no-rest _ _ (no-rest _ _ q))
 
-    module _ (a : ℕ) (c : Condition) (t r : Block) (F : State FactSet) (q : blockFaults E L (loop a c t r) F ≡ []) where
+    module _ (a : ℕ) (c : Condition) (t r : Block) (F : State FactSet) (q : blockFaults E L callees (loop a c t r) F ≡ []) where
       -- 17 does not refuse: the entries of the loop are shown before it and at the end of its body.
       entries-before : entriesUnshown (entriesOf L a) (F .facts) ≡ []
       unfolding walkRules.blockFaults
       entries-before = no-first _ _ q
 
-      body-clear : blockFaults E L t (assumed (headState h E D room L a t F) c) ≡ []
+      body-clear : blockFaults E L callees t (assumed (headState h E D room L a t F) c) ≡ []
       unfolding walkRules.blockFaults
       body-clear = no-first _ _ (no-rest _ _ q)
 
@@ -150,12 +164,13 @@ module _ (T : List ℤ) (h : Sections) (E : Environment) (D : List ℕ) (room : 
       unfolding walkRules.blockFaults
       ends-same = rows-passed a _ _ (no-first _ _ (no-rest _ _ (no-rest _ _ (no-rest _ _ q))))
 
-      left-clear : blockFaults E L r (assumed (headState h E D room L a t F) (negatedOf c)) ≡ []
+      left-clear : blockFaults E L callees r (assumed (headState h E D room L a t F) (negatedOf c)) ≡ []
       unfolding walkRules.blockFaults
       left-clear = no-rest _ _ (no-rest _ _ (no-rest _ _ (no-rest _ _ q)))
 
     -- Arriving at a block: at its first statement, or at what follows an empty one.
-    pub enter : (b : Block) (F : State FactSet) (after d : ℕ) (m : Memory) → Linked T h f b after → blockFaults E L b F ≡ [] → d ≡ entry b after → GoodOut F m
+    pub enter : (b : Block) (F : State FactSet) (after d : ℕ) (m : Memory) → Linked T h f b after → blockFaults E L callees b F ≡ [] → d ≡ entry b after
+        → GoodOut F m
         → At h E D room L b F d m ⊎ StandsAt h E D room after (blockAfter E L b F) d m
     unfolding entry walkRules.blockAfter
     enter nil F after d m l q e g = inr (e, g)
@@ -177,6 +192,7 @@ module _ (T : List ℤ) (h : Sections) (E : Environment) (D : List ℕ) (room : 
           ),
         ))
     enter (bundle a ss r) F after d m l q e g = inl (inl (e, g))
+    enter (call a c r) F after d m l q e g = inl (inl (e, g))
     enter (unread a) F after d m l q e g = absurd l
 
     enter-line : (a : ℕ) (ss : List Simple) (F : State FactSet) (K : List Bounds) (after d : ℕ) (m : Memory) → d ≡ lead a (length ss) after → GoodAt F K m
@@ -186,9 +202,9 @@ module _ (T : List ℤ) (h : Sections) (E : Environment) (D : List ℕ) (room : 
     enter-line a (s ∷ ss) F K after d m e g = inl (inl (e, g))
 
     abbrev step : Point → Point
-    step P = statementStep E D (statementAt T h (P .due)) (f (P .due)) P
+    step P = frameStep E D ret (statementAt T h (P .due)) (f (P .due)) P
 
-    step-at : (P : Point) (a : ℕ) (r : StatementRead) (s : Successors) → P .due ≡ a → statementAt T h a ≡ r → f a ≡ s → step P ≡ statementStep E D r s P
+    step-at : (P : Point) (a : ℕ) (r : StatementRead) (s : Successors) → P .due ≡ a → statementAt T h a ≡ r → f a ≡ s → step P ≡ frameStep E D ret r s P
     step-at P a r s d e q = rw (d, e, q)
 
     abbrev Goal : Block → State FactSet → ℕ → Memory → ℕ → Memory → Type 0
@@ -205,7 +221,7 @@ module _ (T : List ℤ) (h : Sections) (E : Environment) (D : List ℕ) (room : 
     line-step : (a : ℕ) (ss : List Simple) (F : State FactSet) (K : List Bounds) (after : ℕ) (P : Point) → LinkedLine T h f a ss after
         → bundleFaults E a ss F K ≡ []
         → AtLine h E D room a ss F K (P .due) (memoryOf P) → Fine (GoalLine a ss F K after (memoryOf P)) P (step P)
-    unfolding walkRules.bundleFaults walkRules.bundleAfter walkRules.bundleBounds targets statementStep
+    unfolding walkRules.bundleFaults walkRules.bundleAfter walkRules.bundleBounds targets statementStep frameStep
     line-step a [] F K after P l q i = absurd i
     line-step a (s ∷ ss) F K after P l q (inl i) =
         let typed = read-typed T h a (Plain s) (l .0) in
@@ -226,7 +242,7 @@ module _ (T : List ℤ) (h : Sections) (E : Environment) (D : List ℕ) (room : 
 
     -- The end of a bundle: all declared bounds are shown.
     bundle-out : (a : ℕ) (ss : List Simple) (r : Block) (F : State FactSet) (after d : ℕ) (m : Memory) → Linked T h f r after
-        → blockFaults E L r (bundleAfter ss F) ≡ [] → unshownIn E (bundleAfter ss F) (bundleBounds E ss F (declaredIn E F)) ≡ []
+        → blockFaults E L callees r (bundleAfter ss F) ≡ [] → unshownIn E (bundleAfter ss F) (bundleBounds E ss F (declaredIn E F)) ≡ []
         → AtLine h E D room (a + 1) ss F (declaredIn E F) d m
         ⊎ Stands h E D room (entry r after) (bundleAfter ss F) (bundleBounds E ss F (declaredIn E F)) d m
         → At h E D room L (bundle a ss r) F d m ⊎ StandsAt h E D room after (blockAfter E L (bundle a ss r) F) d m
@@ -239,7 +255,7 @@ module _ (T : List ℤ) (h : Sections) (E : Environment) (D : List ℕ) (room : 
     -- ---- ifs
 
     module _ (a : ℕ) (c : Condition) (t e r : Block) (F : State FactSet) (after : ℕ) (l : Linked T h f (branch a c t e r) after)
-        (q : blockFaults E L (branch a c t e r) F ≡ []) where
+        (q : blockFaults E L callees (branch a c t e r) F ≡ []) where
       abbrev thenState : State FactSet
       thenState = blockAfter E L t (assumed F c)
 
@@ -297,7 +313,7 @@ module _ (T : List ℤ) (h : Sections) (E : Environment) (D : List ℕ) (room : 
     -- ---- whiles
 
     module _ (a : ℕ) (c : Condition) (t r : Block) (F : State FactSet) (after : ℕ) (l : Linked T h f (loop a c t r) after)
-        (q : blockFaults E L (loop a c t r) F ≡ []) where
+        (q : blockFaults E L callees (loop a c t r) F ≡ []) where
       abbrev dropped : List ℕ
       dropped = assigned t
 
@@ -351,10 +367,10 @@ module _ (T : List ℤ) (h : Sections) (E : Environment) (D : List ℕ) (room : 
 
     -- ---- every block
 
-    pub block-step : (b : Block) (F : State FactSet) (after : ℕ) (P : Point) → Linked T h f b after → blockFaults E L b F ≡ []
+    pub block-step : (b : Block) (F : State FactSet) (after : ℕ) (P : Point) → Linked T h f b after → blockFaults E L callees b F ≡ []
         → At h E D room L b F (P .due) (memoryOf P)
         → Fine (Goal b F after (memoryOf P)) P (step P)
-    unfolding walkRules.blockFaults walkRules.blockAfter assigned statementStep
+    unfolding walkRules.blockFaults walkRules.blockAfter assigned statementStep frameStep
     block-step nil F after P l q i = absurd i
     block-step (plain a s r) F after P l q (inl i) =
         let typed = read-typed T h a (Plain s) (l .0) in
@@ -426,4 +442,17 @@ module _ (T : List ℤ) (h : Sections) (E : Environment) (D : List ℕ) (room : 
     block-step (bundle a ss r) F after P l q (inr (inr i)) =
         fine-map (λ d n w. (into (into (w .0)), λ z u. w .1 z (among-right z (targets ss) (assigned r) u)))
         (block-step r (bundleAfter ss F) after P (l .3) (no-rest _ _ (no-rest _ _ q)) i)
+    block-step (call a c r) F after P l q (inl i) =
+        let typed = read-typed T h a (Call c) (l .0) in
+        let shown = bounds-passed a _ (no-first _ _ (no-rest _ _ q)) in
+        let back = returned-good T h E D room S F (declaredIn E F) (memoryOf P) c typed ret good-return (i .1) in
+        rw (step-at P a _ _ (i .0) (l .0) (l .1))
+        (leads (entry r after) (returnedTo (memoryOf P) c ret) (
+          into (enter r (calledState c F) after (entry r after) (returnedTo (memoryOf P) c ret) (l .2) (no-rest _ _ (no-rest _ _ q)) refl
+              (redeclared T h E D room S (calledState c F) (boundsAfter (resultEffect c) (declaredIn E F)) (returnedTo (memoryOf P) c ret) shown (back .0))),
+          λ z u. back .1 z (among-left z (callTarget c) (assigned r) u),
+        ))
+    block-step (call a c r) F after P l q (inr i) =
+        fine-map (λ d n w. (into (w .0), λ z u. w .1 z (among-right z (callTarget c) (assigned r) u)))
+        (block-step r (calledState c F) after P (l .2) (no-rest _ _ (no-rest _ _ q)) i)
     block-step (unread a) F after P l q i = absurd l

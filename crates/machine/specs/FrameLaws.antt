@@ -18,7 +18,7 @@ use Rattle.statements.specs.StatementLaws.{read-typed}
 use Rattle.statements.specs.declared.Simple.{Simple}
 use Rattle.statements.specs.declared.Simple.the-variants.{Literal, AddConstant, Arithmetic, Null, Address}
 use Rattle.statements.specs.declared.Simple.the-variants.{PointerOffset, PointerIndex, Load, Store, Check, Declare}
-use Rattle.statements.specs.declared.Statement.the-variants.{Plain, If, While, Bundle}
+use Rattle.statements.specs.declared.Statement.the-variants.{Plain, If, While, Bundle, Call}
 use Rattle.statements.specs.declared.StatementRead.{StatementRead}
 use Rattle.statements.specs.declared.StatementRead.the-variants.{Read, Unread}
 use Rattle.blocks.specs.Flow.{Successors}
@@ -152,6 +152,7 @@ module _ (D : List ℕ) (R : ℕ → Type 0) where
     step-framed (Read (If c x y)) n named = branched-framed (conditionHolds (P .values) c) n
     step-framed (Read (While c x)) n named = branched-framed (conditionHolds (P .values) c) n
     step-framed (Read (Bundle x)) n named = framed-none P _ origins refl refl
+    step-framed (Read (Call c)) n named = framed-none P _ origins refl refl
     step-framed Unread n named = framed-none P _ origins refl refl
 
     -- Steps of two points alike are alike.
@@ -212,6 +213,7 @@ module _ (D : List ℕ) (R : ℕ → Type 0) where
       step-alike (Read (If c x y)) n = branched-alike (conditionHolds (P .values) c) n
       step-alike (Read (While c x)) n = branched-alike (conditionHolds (P .values) c) n
       step-alike (Read (Bundle x)) n = alike-with _ ds same
+      step-alike (Read (Call c)) n = alike-with _ ds same
       step-alike Unread n = alike-with _ ds same
 
 -- ---- THE FRAME LAW

@@ -58,6 +58,12 @@ pub record Steady (h : Sections) (room : ℕ) (m : Memory) : Type 0 where
   pub cells-long : length (m .cells) ≡ room
   pub cells-small : (i : ℕ) → getD (m .cells) i 0 ≤ maxValue
 
+-- The cells of a memory of `room` cells.
+pub record GoodCells (E : Environment) (D : List ℕ) (objects room : ℕ) (cs : List ℕ) : Type 0 where
+  pub long : length cs ≡ room
+  pub small : (i : ℕ) → getD cs i 0 ≤ maxValue
+  pub last-zero : LastZero E D objects cs
+
 module _ (h : Sections) (E : Environment) (D : List ℕ) (room : ℕ) where
   -- The facts of the walk are true of the values, its rows are those in force, the known bounds K of each pointer are true, and terminated objects end in 0.
   pub record Good (W : State FactSet) (K : List Bounds) (m : Memory) : Type 0 where
@@ -67,6 +73,26 @@ module _ (h : Sections) (E : Environment) (D : List ℕ) (room : ℕ) where
     pub bounds : (p : ℕ) → isPointer E p ≡ true → TrueOf E D (h .objects) m p (known K p)
     pub steady : Steady h room m
     pub last-zero : LastZero E D (h .objects) (m .cells)
+
+  pub with-cells : (W : State FactSet) (K : List Bounds) (m : Memory) (cs : List ℕ) → Good W K m → GoodCells E D (h .objects) room cs
+      → Good W K (record { cells = cs; values = m .values; origins = m .origins; rows = m .rows })
+  with-cells W K m cs g k =
+      record {
+        facts = g .facts;
+        rows = g .rows;
+        named = g .named;
+        bounds = g .bounds;
+        steady =
+            record {
+              range = g .steady .range;
+              values-long = g .steady .values-long;
+              origins-long = g .steady .origins-long;
+              rows-long = g .steady .rows-long;
+              cells-long = k .long;
+              cells-small = k .small;
+            };
+        last-zero = k .last-zero;
+      }
 
   pub with-facts : (W U : State FactSet) (K : List Bounds) (m : Memory) → Good W K m → U .rows ≡ W .rows → Holds (U .facts) (value (m .values)) → Good U K m
   with-facts W U K m g e f =

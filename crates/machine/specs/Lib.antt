@@ -8,9 +8,16 @@ pub mod ConditionSound
 pub mod AccessSound
 pub mod SimpleSound
 pub mod PerformedSound
+pub mod SetMachine
+pub mod CallSound
 pub mod Places
 pub mod Before
 pub mod BlockSound
 pub mod Standing
 pub mod EntrySound
 pub mod RunSound
+pub mod SetSound
+pub mod SetFrame
+pub mod Alone
+pub mod Beneath
+pub mod SetRun

@@ -13,7 +13,7 @@ use Rattle.statements.specs.Statements.{statementAt}
 use Rattle.statements.specs.declared.Simple.{Simple}
 use Rattle.statements.specs.declared.Simple.the-variants.{Literal, AddConstant, Arithmetic, Null, Address}
 use Rattle.statements.specs.declared.Simple.the-variants.{PointerOffset, PointerIndex, Load, Store, Check, Declare}
-use Rattle.statements.specs.declared.Statement.the-variants.{Plain, If, While, Bundle}
+use Rattle.statements.specs.declared.Statement.the-variants.{Plain, If, While, Bundle, Call}
 use Rattle.statements.specs.declared.StatementRead.{StatementRead}
 use Rattle.statements.specs.declared.StatementRead.the-variants.{Read, Unread}
 use Rattle.table.specs.declared.variables.End.{End}
@@ -250,6 +250,8 @@ statementStep E D (Read (Plain s)) n P = afterChecks (failing (inForce E (P .row
 statementStep E D (Read (If c x y)) n P = branched (conditionHolds (P .values) c) P n
 statementStep E D (Read (While c x)) n P = branched (conditionHolds (P .values) c) P n
 statementStep E D (Read (Bundle x)) n P = moved P (memoryOf P) (n .next)
+-- A call is no step of a routine by itself: it makes another routine run (`SetMachine`).
+statementStep E D (Read (Call c)) n P = lost P
 statementStep E D Unread n P = lost P
 
 module _ (T : List ℤ) (h : Sections) (E : Environment) (D : List ℕ) where

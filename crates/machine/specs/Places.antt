@@ -11,13 +11,13 @@ use Rattle.words.specs.declared.sections.Sections.{Sections}
 use Rattle.conditions.specs.Conditions.{negatedOf}
 use Rattle.statements.specs.Statements.{statementAt}
 use Rattle.statements.specs.declared.Simple.{Simple}
-use Rattle.statements.specs.declared.Statement.the-variants.{Plain, If, While, Bundle}
+use Rattle.statements.specs.declared.Statement.the-variants.{Plain, If, While, Bundle, Call}
 use Rattle.statements.specs.declared.StatementRead.the-variants.{Read}
-use Rattle.blocks.specs.Tree.{Block, nil, plain, branch, loop, bundle, unread, assigned}
+use Rattle.blocks.specs.Tree.{Block, nil, plain, branch, loop, bundle, call, unread, assigned}
 use Rattle.blocks.specs.Flow.{Successors, successors, entry, lead}
 use Rattle.blocks.specs.Shape.{size, ReadsLine, Reads, RightLine, Right}
 use Rattle.rules.specs.FactSets.{State}
-use Rattle.rules.specs.Stored.{effect, sidesJoined, boundsAfter, stateAfter, assumed, atHead, declaredIn, bundleAfter, blockAfter}
+use Rattle.rules.specs.Stored.{effect, sidesJoined, boundsAfter, stateAfter, calledState, assumed, atHead, declaredIn, bundleAfter, blockAfter}
 use Rattle.rules.specs.FactsTrue.{Agree}
 use Rattle.listed.specs.Entries.{entriesOf}
 use Rattle.rules.specs.ListedLaws.{EntriesTrue}
@@ -47,6 +47,7 @@ module _ (T : List ℤ) (h : Sections) (f : ℕ → Successors) where
       (statementAt T h a ≡ Read (Bundle (length ss)))
       × (f a ≡ successors a (lead (a + 1) (length ss) (entry r after)) (lead (a + 1) (length ss) (entry r after)))
       × LinkedLine (a + 1) ss (entry r after) × Linked r after
+  Linked (call a c r) after = (statementAt T h a ≡ Read (Call c)) × (f a ≡ successors a (entry r after) (entry r after)) × Linked r after
   Linked (unread a) after = ⊥
 
   linked-line : (a : ℕ) (ss : List Simple) (after : ℕ) → ReadsLine T h a ss → RightLine f a ss after → LinkedLine a ss after
@@ -60,6 +61,7 @@ module _ (T : List ℤ) (h : Sections) (f : ℕ → Successors) where
       (r .0, l .0, linked t (entry u after) (r .1) (l .1), linked e (entry u after) (r .2) (l .2), linked u after (r .3) (l .3))
   linked (loop a c t u) after r l = (r .0, l .0, linked t a (r .1) (l .1), linked u after (r .2) (l .2))
   linked (bundle a ss u) after r l = (r .0, l .0, linked-line (a + 1) ss (entry u after) (r .1) (l .1), linked u after (r .2) (l .2))
+  linked (call a c u) after r l = (r .0, l .0, linked u after (r .1) (l .1))
   linked (unread a) after r l = absurd r
 
 -- ---- the places
@@ -107,4 +109,5 @@ module _ (h : Sections) (E : Environment) (D : List ℕ) (room : ℕ) (L : List 
       (Framed (assigned t) (F .facts) m × (Tests a t F d m ⊎ At t (assumed (headState a t F) c) d m))
       ⊎ At r (assumed (headState a t F) (negatedOf c)) d m
   At (bundle a ss r) F d m = StandsAt h E D room a F d m ⊎ (AtLine h E D room (a + 1) ss F (declaredIn E F) d m ⊎ At r (bundleAfter ss F) d m)
+  At (call a c r) F d m = StandsAt h E D room a F d m ⊎ At r (calledState c F) d m
   At (unread a) F d m = ⊥

@@ -12,10 +12,10 @@ use Rattle.statements.specs.Statements.{statementAt}
 use Rattle.statements.specs.declared.Simple.{Simple}
 use Rattle.statements.specs.declared.Simple.the-variants.{Literal, AddConstant, Arithmetic, Null, Address}
 use Rattle.statements.specs.declared.Simple.the-variants.{PointerOffset, PointerIndex, Load, Store, Check, Declare}
-use Rattle.statements.specs.declared.Statement.the-variants.{Plain, If, While, Bundle}
+use Rattle.statements.specs.declared.Statement.the-variants.{Plain, If, While, Bundle, Call}
 use Rattle.statements.specs.declared.StatementRead.{StatementRead}
 use Rattle.statements.specs.declared.StatementRead.the-variants.{Read, Unread}
-use Rattle.blocks.specs.Tree.{Block, nil, plain, branch, loop, bundle, unread}
+use Rattle.blocks.specs.Tree.{Block, nil, plain, branch, loop, bundle, call, unread}
 use Rattle.rules.specs.BoundsRules.{isTerminated, inForce}
 use Rattle.rules.specs.declared.Environment.{Environment}
 use Rattle.machine.specs.Machine.{low, high, Failing, none, fails, failing, address, Status, going, stopped, stuck, Point, Memory, memoryOf, inOrigin}
@@ -28,6 +28,7 @@ inBundle (plain a s r) d = inBundle r d
 inBundle (branch a c t e r) d = inBundle t d || (inBundle e d || inBundle r d)
 inBundle (loop a c t r) d = inBundle t d || inBundle r d
 inBundle (bundle a ss r) d = (ltb a d && ltb d (a + 1 + length ss)) || inBundle r d
+inBundle (call a c r) d = inBundle r d
 inBundle (unread a) d = false
 
 -- An access: its address, with the bias, and the origin of its pointer.
@@ -58,6 +59,7 @@ statementAccess E (Read (Plain s)) m = unlessFailing (failing (inForce E (m .row
 statementAccess E (Read (If c x y)) m = no-access
 statementAccess E (Read (While c x)) m = no-access
 statementAccess E (Read (Bundle x)) m = no-access
+statementAccess E (Read (Call c)) m = no-access
 statementAccess E Unread m = no-access
 
 abbrev pub accessIf : Bool → Access → Access
@@ -84,6 +86,7 @@ failingAt E (Read (Plain s)) vs = failing E vs s
 failingAt E (Read (If c x y)) vs = none
 failingAt E (Read (While c x)) vs = none
 failingAt E (Read (Bundle x)) vs = none
+failingAt E (Read (Call c)) vs = none
 failingAt E Unread vs = none
 
 -- "Each cell read or written lay in the object that the pointer was derived from."

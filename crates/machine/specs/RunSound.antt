@@ -25,7 +25,7 @@ use Rattle.statements.specs.StatementLaws.{read-typed, read-within}
 use Rattle.statements.specs.declared.Simple.{Simple}
 use Rattle.statements.specs.declared.Simple.the-variants.{Literal, AddConstant, Arithmetic, Null, Address}
 use Rattle.statements.specs.declared.Simple.the-variants.{PointerOffset, PointerIndex, Load, Store, Check, Declare}
-use Rattle.statements.specs.declared.Statement.the-variants.{Plain, If, While, Bundle}
+use Rattle.statements.specs.declared.Statement.the-variants.{Plain, If, While, Bundle, Call}
 use Rattle.statements.specs.declared.StatementRead.{StatementRead}
 use Rattle.statements.specs.declared.StatementRead.the-variants.{Read, Unread}
 use Rattle.table.specs.Form.{formOf}
@@ -57,7 +57,12 @@ use Rattle.machine.specs.Soundness.{AccessRight, AccessAllowed, Begun, S
 use Rattle.machine.specs.Good.{Setting, Steady, Good, declared-true}
 use Rattle.machine.specs.AccessSound.{Inside, Ready, inside-origin, access-inside, safe-load, safe-store}
 use Rattle.machine.specs.Places.{Linked, linked, At, StandsAt, Stands}
-use Rattle.machine.specs.BlockSound.{Fine, leads, stops, enter, block-step}
+use Rattle.machine.specs.BlockSound.{Fine, leads, stops, enter, frameStep, block-step}
+use Rattle.machine.specs.SetMachine.{Returned}
+use Rattle.machine.specs.CallSound.{GoodReturn}
+use Rattle.rules.specs.Calls.{Routine}
+use Rattle.rules.specs.CallLaws.{call-passed}
+use Rattle.statements.specs.declared.CallSite.{CallSite}
 use Rattle.machine.specs.Standing.{Standing, standing}
 use Rattle.machine.specs.Before.{Before, before-due}
 use Rattle.machine.specs.EntrySound.{true-test, begun-good}
@@ -70,11 +75,35 @@ module _ (T : List ℤ) (h : Sections) (E : Environment) (D : List ℕ) (room : 
     pub place : At h E D room L (tree T h) newState (P .due) (memoryOf P)
         ⊎ StandsAt h E D room (h .statements) (blockAfter E L (tree T h) newState) (P .due) (memoryOf P)
 
-  module _ (S : Setting T h E D room) (walked : blockFaults E L (tree T h) newState ≡ []) where
+  -- `callees` are the routines that it may call.
+  module _ (S : Setting T h E D room) (callees : List Routine) (walked : blockFaults E L callees (tree T h) newState ≡ []) where
     links : Linked T h (successorsOf T h E D) (tree T h) (h .statements)
     links =
         let l = table-laid T h (S .laid) in
         linked T h (successorsOf T h E D) (tree T h) (h .statements) (l .reads) (flow-right T h (S .laid) (successors 0 0 0))
+
+    -- ---- what the invariant says
+
+    abbrev pub Somewhere : Point → Type 0
+    Somewhere P = Standing T h E D room L callees (tree T h) (P .due) (memoryOf P)
+        ⊎ ((P .due ≡ h .statements) × Good h E D room (blockAfter E L (tree T h) newState) (declaredIn E (blockAfter E L (tree T h) newState)) (memoryOf P))
+
+    pub somewhere : (P : Point) → Invariant P → Somewhere P
+    somewhere P i = go (i .place)
+      where
+        go : At h E D room L (tree T h) newState (P .due) (memoryOf P)
+            ⊎ StandsAt h E D room (h .statements) (blockAfter E L (tree T h) newState) (P .due) (memoryOf P)
+            → Somewhere P
+        go (inl x) = inl (standing T h E D room L callees S (successorsOf T h E D) (tree T h) newState (h .statements) (P .due) (memoryOf P) links walked x)
+        go (inr x) = inr x
+
+    pub steady-of : (P : Point) → Somewhere P → Steady h room (memoryOf P)
+    steady-of P (inl w) = w .good .steady
+    steady-of P (inr w) = w .1 .steady
+
+    pub last-of : (P : Point) → Somewhere P → LastZero E D (h .objects) (P .cells)
+    last-of P (inl w) = w .good .last-zero
+    last-of P (inr w) = w .1 .last-zero
 
     -- ---- the invariant is kept
 
@@ -87,27 +116,69 @@ module _ (T : List ℤ) (h : Sections) (E : Environment) (D : List ℕ) (room : 
     fine-kept P Q i (leads n m g) = record { has-step = λ e. let z : _≡_ {A = ℕ} 0 1 = cc in omega arith; place = g .0 }
     fine-kept P Q i (stops c) = record { has-step = λ e. let z : _≡_ {A = ℕ} 0 1 = cc in omega arith; place = i .place }
 
-    due-kept : (P : Point) → Invariant P → (b : Bool) → ltb (P .due) (h .statements) ≡ b → Invariant (stepIfDue T h E D b P)
-    due-kept P i false q = i
-    due-kept P i true q = go (i .place)
+    -- A step of the routine keeps the invariant; a call is one, where its callee leaves good cells and a small result.
+    pub frame-kept : (ret : Returned) → GoodReturn E D (h .objects) room ret → (P : Point) → Invariant P → P .due < h .statements
+        → Invariant (frameStep E D ret (statementAt T h (P .due)) (successorsOf T h E D (P .due)) P)
+    frame-kept ret k P i l = go (i .place)
       where
         go : At h E D room L (tree T h) newState (P .due) (memoryOf P)
             ⊎ StandsAt h E D room (h .statements) (blockAfter E L (tree T h) newState) (P .due) (memoryOf P)
-            → Invariant (statementStep E D (statementAt T h (P .due)) (successorsOf T h E D (P .due)) P)
-        go (inl x) = fine-kept P _ i (block-step T h E D room S (successorsOf T h E D) L (tree T h) newState (h .statements) P links walked x)
-        go (inr x) = absurd (omega (arith, ltb-true (P .due) (h .statements) q, x .0))
+            → Invariant (frameStep E D ret (statementAt T h (P .due)) (successorsOf T h E D (P .due)) P)
+        go (inl x) = fine-kept P _ i (block-step T h E D room S (successorsOf T h E D) L callees ret k (tree T h) newState (h .statements) P links walked x)
+        go (inr x) = absurd (omega (arith, l, x .0))
 
-    pub next-kept : (P : Point) (s : Status) → Invariant P → Invariant (nextPoint T h E D s P)
-    unfolding nextPoint
-    next-kept P going i = due-kept P i (ltb (P .due) (h .statements)) refl
-    next-kept P (stopped n) i = i
-    next-kept P stuck i = i
+    -- The cells at a point are good.
+    pub own-return : (P : Point) → Invariant P → GoodReturn E D (h .objects) room (record { cells = P .cells; result = 0 })
+    own-return P i =
+        let w = somewhere P i in
+        let s = steady-of P w in
+        record { cells = record { long = s .cells-long; small = s .cells-small; last-zero = last-of P w }; small = omega arith }
 
-    -- A run that goes on from any point.
-    pub point-kept : (t : ℕ) (P : Point) → Invariant P → Invariant (pointAfter T h E D t P)
-    unfolding pointAfter
-    point-kept zero P i = i
-    point-kept (suc t) P i = next-kept (pointAfter T h E D t P) (pointAfter T h E D t P .status) (point-kept t P i)
+    -- A statement that is no call.
+    pub step-kept : (P : Point) → Invariant P → P .due < h .statements → ((c : CallSite) → statementAt T h (P .due) ≡ Read (Call c) → ⊥)
+        → Invariant (statementStep E D (statementAt T h (P .due)) (successorsOf T h E D (P .due)) P)
+    unfolding frameStep
+    step-kept P i l n = go (statementAt T h (P .due)) refl (frame-kept _ (own-return P i) P i l)
+      where
+        go : (s : StatementRead) → statementAt T h (P .due) ≡ s
+            → Invariant (frameStep E D (record { cells = P .cells; result = 0 }) s (successorsOf T h E D (P .due)) P)
+            → Invariant (statementStep E D s (successorsOf T h E D (P .due)) P)
+        go (Read (Plain s)) e k = k
+        go (Read (If c x y)) e k = k
+        go (Read (While c x)) e k = k
+        go (Read (Bundle x)) e k = k
+        go (Read (Call c)) e k = absurd (n c e)
+        go Unread e k = k
+
+    -- "a routine by itself is number 0": a call there is refused.
+    pub no-call : callees ≡ [] → (P : Point) → Invariant P → (c : CallSite) → statementAt T h (P .due) ≡ Read (Call c) → ⊥
+    no-call alone P i c e = go (somewhere P i)
+      where
+        go : Somewhere P → ⊥
+        go (inl w) = omega (arith, call-passed callees E _ c _ _ (w .calling c e .0) .0, ap length alone)
+        go (inr w) = omega (arith, w .0, read-within T h (P .due) (Call c) e)
+
+    module _ (alone : callees ≡ []) where
+      due-kept : (P : Point) → Invariant P → (b : Bool) → ltb (P .due) (h .statements) ≡ b → Invariant (stepIfDue T h E D b P)
+      due-kept P i false q = i
+      due-kept P i true q = step-kept P i (ltb-true (P .due) (h .statements) q) (no-call alone P i)
+
+      pub next-kept : (P : Point) (s : Status) → Invariant P → Invariant (nextPoint T h E D s P)
+      unfolding nextPoint
+      next-kept P going i = due-kept P i (ltb (P .due) (h .statements)) refl
+      next-kept P (stopped n) i = i
+      next-kept P stuck i = i
+
+      -- A run that goes on from any point.
+      pub point-kept : (t : ℕ) (P : Point) → Invariant P → Invariant (pointAfter T h E D t P)
+      unfolding pointAfter
+      point-kept zero P i = i
+      point-kept (suc t) P i = next-kept (pointAfter T h E D t P) (pointAfter T h E D t P .status) (point-kept t P i)
+
+    start-return : (cs vs os : List ℕ) → Good h E D room newState (declaredIn E newState) (record { cells = cs; values = vs; origins = os; rows = ownRows })
+        → GoodReturn E D (h .objects) room (record { cells = cs; result = 0 })
+    start-return cs vs os g =
+        record { cells = record { long = g .steady .cells-long; small = g .steady .cells-small; last-zero = g .last-zero }; small = omega arith }
 
     pub start-kept : (cs vs os : List ℕ) → Good h E D room newState (declaredIn E newState) (record { cells = cs; values = vs; origins = os; rows = ownRows })
         → Invariant (start T h E D cs vs os)
@@ -115,38 +186,15 @@ module _ (T : List ℤ) (h : Sections) (E : Environment) (D : List ℕ) (room : 
     start-kept cs vs os g =
         record {
           has-step = λ e. let z : _≡_ {A = ℕ} 0 1 = cc in omega arith;
-          place = enter T h E D room S (successorsOf T h E D) L (tree T h) newState (h .statements) _
-              (record { cells = cs; values = vs; origins = os; rows = ownRows }) links walked refl g;
+          place = enter T h E D room S (successorsOf T h E D) L callees (record { cells = cs; result = 0 }) (start-return cs vs os g) (tree T h) newState
+              (h .statements) _ (record { cells = cs; values = vs; origins = os; rows = ownRows }) links walked refl g;
         }
-
-    -- ---- what the invariant says
-
-    abbrev Somewhere : Point → Type 0
-    Somewhere P = Standing T h E D room L (tree T h) (P .due) (memoryOf P)
-        ⊎ ((P .due ≡ h .statements) × Good h E D room (blockAfter E L (tree T h) newState) (declaredIn E (blockAfter E L (tree T h) newState)) (memoryOf P))
-
-    somewhere : (P : Point) → Invariant P → Somewhere P
-    somewhere P i = go (i .place)
-      where
-        go : At h E D room L (tree T h) newState (P .due) (memoryOf P)
-            ⊎ StandsAt h E D room (h .statements) (blockAfter E L (tree T h) newState) (P .due) (memoryOf P)
-            → Somewhere P
-        go (inl x) = inl (standing T h E D room L S (successorsOf T h E D) (tree T h) newState (h .statements) (P .due) (memoryOf P) links walked x)
-        go (inr x) = inr x
-
-    steady-of : (P : Point) → Somewhere P → Steady h room (memoryOf P)
-    steady-of P (inl w) = w .good .steady
-    steady-of P (inr w) = w .1 .steady
-
-    last-of : (P : Point) → Somewhere P → LastZero E D (h .objects) (P .cells)
-    last-of P (inl w) = w .good .last-zero
-    last-of P (inr w) = w .1 .last-zero
 
     due-of : (P : Point) → Somewhere P → P .due ≤ h .statements
     due-of P (inl w) = omega (arith, w .within)
     due-of P (inr w) = omega (arith, w .0)
 
-    bounds-at : (W : State FactSet) (m : Memory) (p : ℕ) → isPointer E p ≡ true → Good h E D room W (declaredIn E W) m
+    pub bounds-at : (W : State FactSet) (m : Memory) (p : ℕ) → isPointer E p ≡ true → Good h E D room W (declaredIn E W) m
         → boundsTrue (inForce E (m .rows)) D (m .values) (m .origins) p ≡ true
     bounds-at W m p t g = true-test (inForce E (m .rows)) D (h .objects) (S .pairs) m p (S .declares .ends (m .rows) (rw (g .rows) (g .named)) p t)
         (declared-true T h E D room S W m p t g)
@@ -212,6 +260,7 @@ module _ (T : List ℤ) (h : Sections) (E : Environment) (D : List ℕ) (room : 
         reads (Read (If c x y)) r = tt
         reads (Read (While c x)) r = tt
         reads (Read (Bundle x)) r = tt
+        reads (Read (Call x)) r = tt
 
         due : (b : Bool) → AccessAllowed D (length (P .cells)) (accessIf b (statementAccess E (statementAt T h (P .due)) (memoryOf P)))
         due true = reads (statementAt T h (P .due)) refl
@@ -297,19 +346,19 @@ module _ (T : List ℤ) (h : Sections) (E : Environment) (D : List ℕ) (room : 
         }
 
     -- A run that goes on from any point where the invariant holds.
-    pub sound-from : (t : ℕ) (P : Point) → Invariant P → Sound T h E D room L (pointAfter T h E D t P)
-    sound-from t P i = invariant-sound (pointAfter T h E D t P) (point-kept t P i)
+    pub sound-from : callees ≡ [] → (t : ℕ) (P : Point) → Invariant P → Sound T h E D room L (pointAfter T h E D t P)
+    sound-from alone t P i = invariant-sound (pointAfter T h E D t P) (point-kept alone t P i)
 
 -- ---- the theorem
 
-module _ (T : List ℤ) (h : Sections) (L : List ℤ) (formed : formOf T ≡ WellFormed h) (accepts : faults T L ≡ []) (D cs vs os : List ℕ)
+module _ (T : List ℤ) (h : Sections) (L : List ℤ) (formed : formOf T ≡ WellFormed h) (accepts : faults [] T L ≡ []) (D cs vs os : List ℕ)
     (begun : Begun h (environmentOf T h) D cs vs os) where
   declares : Declares T h (environmentOf T h)
   declares = environment-declares T h (well-formed T h formed)
 
   pub begun-setting : Setting T h (environmentOf T h) D (length cs)
   begun-setting =
-      let a = clear T h L formed accepts in
+      let a = clear [] T h L formed accepts in
       record {
         laid = a .laid;
         declares = declares;
@@ -319,17 +368,18 @@ module _ (T : List ℤ) (h : Sections) (L : List ℤ) (formed : formOf T ≡ Wel
         memory = begun .memory;
       }
 
-  pub begun-walked : blockFaults (environmentOf T h) L (tree T h) newState ≡ []
-  begun-walked = clear T h L formed accepts .walked
+  -- A routine by itself calls none.
+  pub begun-walked : blockFaults (environmentOf T h) L [] (tree T h) newState ≡ []
+  begun-walked = clear [] T h L formed accepts .walked
 
   -- The invariant holds at the start.
   pub begun-invariant : Invariant T h (environmentOf T h) D (length cs) L (start T h (environmentOf T h) D cs vs os)
-  begun-invariant = start-kept T h (environmentOf T h) D (length cs) L begun-setting begun-walked cs vs os (begun-good T h
-      (environmentOf T h) D cs vs os declares begun)
+  begun-invariant = start-kept T h (environmentOf T h) D (length cs) L begun-setting [] begun-walked cs vs os
+      (begun-good T h (environmentOf T h) D cs vs os declares begun)
 
   -- Of a table that the checker accepts and a run that is begun, the claim holds at every point: after any number t of steps.
   pub sound : (t : ℕ) → Sound T h (environmentOf T h) D (length cs) L (pointAfter T h (environmentOf T h) D t (start T h (environmentOf T h) D cs vs os))
-  sound t = sound-from T h (environmentOf T h) D (length cs) L begun-setting begun-walked t (start T h (environmentOf T h) D cs vs os) begun-invariant
+  sound t = sound-from T h (environmentOf T h) D (length cs) L begun-setting [] begun-walked refl t (start T h (environmentOf T h) D cs vs os) begun-invariant
 
   abbrev E : Environment
   E = environmentOf T h
@@ -340,8 +390,8 @@ module _ (T : List ℤ) (h : Sections) (L : List ℤ) (formed : formOf T ≡ Wel
   -- The facts before a statement that is due do not contradict, by the store.
   due-consistent : (t : ℕ) → point t .due < h .statements → contradictory (stateBefore store E L (tree T h) newState (point t .due) .facts) ≡ false
   due-consistent t l =
-      before-of T h E D (length cs) L begun-setting begun-walked (point t)
-      (point-kept T h E D (length cs) L begun-setting begun-walked t (start T h E D cs vs os) begun-invariant) l .consistent
+      before-of T h E D (length cs) L begun-setting [] begun-walked (point t)
+      (point-kept T h E D (length cs) L begun-setting [] begun-walked refl t (start T h E D cs vs os) begun-invariant) l .consistent
 
   abbrev vars : Variables
   vars = variables T h (well-formed T h formed .limits)
@@ -351,7 +401,7 @@ module _ (T : List ℤ) (h : Sections) (L : List ℤ) (formed : formOf T ≡ Wel
       → Contradiction (known vars (stateBefore (byChains d) E L (tree T h) (walkRules.newState (byChains d)) (point t .due) .facts)) → ⊥
   never-due d decides t l c =
       let w = well-formed T h formed .limits in
-      let r = before-represented T h w L (entries-right T h w L (clear T h L formed accepts .listed)) d (decides h w formed) (tree T h) (point t .due)
+      let r = before-represented T h w L (entries-right T h w L (clear [] T h L formed accepts .listed)) d (decides h w formed) (tree T h) (point t .due)
       (table-laid T h (begun-setting .laid) .reads)
       (new-represented vars d) in
       let m = contradicts-exactly vars (stateBefore (byChains d) E L (tree T h) (walkRules.newState (byChains d)) (point t .due) .facts)

@@ -15,8 +15,9 @@ use Rattle.machine.specs.Points.{CellOf}
 use Rattle.machine.specs.Frame.{Elsewhere, Own}
 use Rattle.interpreter.specs.PointLaws.{never}
 use Rattle.turns.specs.TurnsLaws.{by-order}
-use Rattle.seats.specs.Parts.{between}
-use Rattle.seats.specs.PartsLaws.{between-part}
+use Rattle.parts.specs.Parts.{between}
+use Rattle.seats.specs.Parts.{kinds}
+use Rattle.parts.specs.PartsLaws.{between-part}
 use Rattle.seats.specs.Lends.{Lends, lentTo, sectionsAt, countOf}
 use Rattle.overlaps.specs.Overlaps.{lowest, some, shareCell, overlap, overlapsEarlier, firstOverlap}
 use Rattle.overlaps.specs.SeatOverlaps.{seatsOverlap, seatOverlaps}
@@ -101,8 +102,8 @@ overlaps-lent l seats count c s p = rw c (lowest-alike (seatOverlaps (l .directo
       s e d,
       p r b,
       p e d,
-      between-part (l .lengths) 2 r (length (l .directories)) (l .directories) refl,
-      between-part (l .lengths) 2 e (length (l .directories)) (l .directories) refl,
+      between-part (l .lengths) kinds 2 r (length (l .directories)) (l .directories) refl,
+      between-part (l .lengths) kinds 2 e (length (l .directories)) (l .directories) refl,
     )
 
 -- ---- objects that do not overlap

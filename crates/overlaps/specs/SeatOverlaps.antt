@@ -3,7 +3,7 @@ use Prim.Native.Nat.{ℕ, _≤_, _<_}
 use mathlib.Core.Bool.{Bool}
 use mathlib.Core.List.{List}
 use lib.ListN.{length}
-use Rattle.seats.specs.Parts.{between}
+use Rattle.parts.specs.Parts.{between}
 use Rattle.overlaps.specs.Overlaps.{some, overlap}
 use Rattle.seats.specs.SeatAt.{seatAt}
 use Rattle.seats.specs.declared.Seat.{Seat}

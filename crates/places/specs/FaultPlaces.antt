@@ -1,4 +1,4 @@
--- The faults of a block, with no loop facts, are at its own statements.
+-- The faults of a block, with no loop facts and of a routine by itself, are at its own statements.
 use Prim.Native.Nat.{ℕ, _+_, _<_, _≤_}
 use mathlib.Core.Path.{_≡_, refl, sym, _∙_, ap}
 use mathlib.Core.Bool.{Bool, true, false, not}
@@ -7,15 +7,17 @@ use native.Mathlib.Omega.{arith}
 use lib.ListN.{length}
 use Rattle.answers.specs.Refusals.{place}
 use Rattle.answers.specs.declared.refusals.Refusal.{Refusal}
-use Rattle.answers.specs.declared.refusals.Refusal.the-variants.{RowsDiffer}
+use Rattle.answers.specs.declared.refusals.Refusal.the-variants.{RowsDiffer, Callee, Arguments}
+use Rattle.statements.specs.declared.CallSite.{CallSite}
 use Rattle.statements.specs.declared.Simple.{Simple}
-use Rattle.blocks.specs.Tree.{Block, nil, plain, branch, loop, bundle, unread}
+use Rattle.blocks.specs.Tree.{Block, nil, plain, branch, loop, bundle, call, unread}
 use Rattle.blocks.specs.Layout.{also, when}
 use Rattle.blocks.specs.Shape.{size, Numbered}
 use Rattle.listed.specs.Entries.{entriesFrom, entriesOf}
 use Rattle.listed.specs.declared.Entry.{Entry}
 use Rattle.rules.specs.FactSets.{FactSets, State}
 use Rattle.rules.specs.declared.Bounds.{Bounds}
+use Rattle.rules.specs.Calls.{callFaults}
 use Rattle.rules.specs.Rules.{accessAt, boundsAt, sameRows, rowsAt, entriesUnshown, bundleFaults, blockFaults}
 use Rattle.rules.specs.declared.Environment.{Environment}
 
@@ -48,13 +50,14 @@ unfolding boundsAt Ranged
 bounds-ranged a [] = tt
 bounds-ranged a (p ∷ ps) = ((omega arith, omega arith), tt)
 
+when-ranged : (b : Bool) (r : Refusal) (a : ℕ) → place r ≡ a → Ranged a (a + 1) (when b r)
+unfolding when Ranged
+when-ranged true r a e = ((omega arith, omega arith), tt)
+when-ranged false r a e = tt
+
 rows-ranged : (a : ℕ) (R Q : List ℕ) → Ranged a (a + 1) (rowsAt a R Q)
-unfolding rowsAt when Ranged
-rows-ranged a R Q = go (not (sameRows R Q))
-  where
-    go : (b : Bool) → Ranged a (a + 1) (when b (RowsDiffer a))
-    go true = ((omega arith, omega arith), tt)
-    go false = tt
+unfolding rowsAt
+rows-ranged a R Q = when-ranged (not (sameRows R Q)) (RowsDiffer a) a refl
 
 none-listed : (a : ℕ) → entriesOf [] a ≡ []
 unfolding entriesOf entriesFrom
@@ -76,13 +79,23 @@ module _ (S : FactSets) where
       (ranged-also a b _ _ (ranged-wide a (a + 1) a b _ (omega arith) (omega arith) (bounds-ranged a _))
       (ranged-wide (a + 1) (a + 1 + length ss) a b _ (omega arith) (omega arith) (bundle-ranged E (a + 1) ss _ _)))
 
-  pub block-ranged : (E : Environment) (t : Block) (a : ℕ) → Numbered t a → (w : State Facts) → Ranged a (a + size t) (blockFaults S E [] t w)
+  call-ranged : (E : Environment) (a : ℕ) (c : CallSite) (f : Facts) (K : List Bounds) → Ranged a (a + 1) (callFaults S [] E a c f K)
+  unfolding callFaults
+  call-ranged E a c f K = ranged-also a (a + 1) _ _ (when-ranged _ (Callee a) a refl) (when-ranged _ (Arguments a) a refl)
+
+  pub block-ranged : (E : Environment) (t : Block) (a : ℕ) → Numbered t a → (w : State Facts) → Ranged a (a + size t) (blockFaults S E [] [] t w)
   unfolding blockFaults size
   block-ranged E nil a n w = ranged-none a (a + 0)
   block-ranged E (plain x s r) a n w =
       let z = n .0 in
       let b : ℕ = a + (1 + size r) in
       ranged-also a b _ _ (ranged-wide x (x + 1) a b _ (omega arith) (omega arith) (bounds-ranged x _))
+      (ranged-also a b _ _ (ranged-wide x (x + 1) a b _ (omega arith) (omega arith) (bounds-ranged x _))
+      (ranged-wide (x + 1) (x + 1 + size r) a b _ (omega arith) (omega arith) (block-ranged E r (x + 1) (n .1) _)))
+  block-ranged E (call x s r) a n w =
+      let z = n .0 in
+      let b : ℕ = a + (1 + size r) in
+      ranged-also a b _ _ (ranged-wide x (x + 1) a b _ (omega arith) (omega arith) (call-ranged E x s _ _))
       (ranged-also a b _ _ (ranged-wide x (x + 1) a b _ (omega arith) (omega arith) (bounds-ranged x _))
       (ranged-wide (x + 1) (x + 1 + size r) a b _ (omega arith) (omega arith) (block-ranged E r (x + 1) (n .1) _)))
   block-ranged E (branch x c t e r) a n w =

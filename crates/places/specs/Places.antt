@@ -11,7 +11,7 @@ use Rattle.facts.specs.Words.{loaded}
 use Rattle.facts.specs.declared.FactSet.{FactSet}
 use Rattle.answers.specs.declared.refusals.Refusal.{Refusal}
 use Rattle.table.specs.Form.{lowestFrom}
-use Rattle.blocks.specs.Tree.{Block, nil, plain, branch, loop, bundle, unread}
+use Rattle.blocks.specs.Tree.{Block, nil, plain, branch, loop, bundle, call, unread}
 use Rattle.rules.specs.FactSets.{State}
 use Rattle.rules.specs.Stored.{newState, blockAfter, blockFaults}
 use Rattle.rules.specs.declared.Environment.{Environment}
@@ -61,13 +61,15 @@ module _ (K : List ℕ) (n : ℕ) (E : Environment) where
   unfoldable pub keptFrom : Block → State FactSet → List Place → List Place
   keptFrom nil w P = P
   keptFrom (plain a s r) w P =
-      onward (blockFaults E [] (plain a s nil) w) (keptFrom r (blockAfter E [] (plain a s nil) w) (keptAt K n P a w)) (keptAt K n P a w)
+      onward (blockFaults E [] [] (plain a s nil) w) (keptFrom r (blockAfter E [] (plain a s nil) w) (keptAt K n P a w)) (keptAt K n P a w)
+  keptFrom (call a s r) w P =
+      onward (blockFaults E [] [] (call a s nil) w) (keptFrom r (blockAfter E [] (call a s nil) w) (keptAt K n P a w)) (keptAt K n P a w)
   keptFrom (branch a c t e r) w P =
-      onward (blockFaults E [] (branch a c t e nil) w) (keptFrom r (blockAfter E [] (branch a c t e nil) w) (keptAt K n P a w)) (keptAt K n P a w)
+      onward (blockFaults E [] [] (branch a c t e nil) w) (keptFrom r (blockAfter E [] (branch a c t e nil) w) (keptAt K n P a w)) (keptAt K n P a w)
   keptFrom (loop a c t r) w P =
-      onward (blockFaults E [] (loop a c t nil) w) (keptFrom r (blockAfter E [] (loop a c t nil) w) (keptAt K n P a w)) (keptAt K n P a w)
+      onward (blockFaults E [] [] (loop a c t nil) w) (keptFrom r (blockAfter E [] (loop a c t nil) w) (keptAt K n P a w)) (keptAt K n P a w)
   keptFrom (bundle a ss r) w P =
-      onward (blockFaults E [] (bundle a ss nil) w) (keptFrom r (blockAfter E [] (bundle a ss nil) w) (keptAt K n P a w)) (keptAt K n P a w)
+      onward (blockFaults E [] [] (bundle a ss nil) w) (keptFrom r (blockAfter E [] (bundle a ss nil) w) (keptAt K n P a w)) (keptAt K n P a w)
   keptFrom (unread a) w P = P
 
 -- ---- the last place at or before a position

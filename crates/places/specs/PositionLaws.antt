@@ -13,7 +13,7 @@ use Rattle.facts.specs.declared.FactSet.{FactSet}
 use Rattle.answers.specs.Refusals.{place}
 use Rattle.answers.specs.declared.refusals.Refusal.{Refusal}
 use Rattle.table.specs.Form.{lowestFrom}
-use Rattle.blocks.specs.Tree.{Block, nil, plain, branch, loop, bundle, unread}
+use Rattle.blocks.specs.Tree.{Block, nil, plain, branch, loop, bundle, call, unread}
 use Rattle.blocks.specs.Layout.{also}
 use Rattle.blocks.specs.Shape.{size, Numbered}
 use Rattle.rules.specs.FactSets.{State}
@@ -131,22 +131,24 @@ module _ (K : List ℕ) (n : ℕ) where
   module _ (E : Environment) where
     -- The first statement t of a block, and the rest r from b on.
     part : {v : Verdict} (t r : Block) (a b : ℕ) (w : State FactSet) (P : List Place) → Numbered t a → b ≡ a + size t → 0 < size t → Numbered r b
-        → v ≡ verdictOf (blockFaults E [] (followed t r) w)
-        → ((u : State FactSet) (Q : List Place) → v ≡ verdictOf (blockFaults E [] r u) → positionsIn (keptFrom K n E r u Q) ≡ stored K n v (positionsOf r) (positionsIn Q))
-        → positionsIn (onward (blockFaults E [] t w) (keptFrom K n E r (blockAfter E [] t w) (keptAt K n P a w)) (keptAt K n P a w))
+        → v ≡ verdictOf (blockFaults E [] [] (followed t r) w)
+        → ((u : State FactSet) (Q : List Place) → v ≡ verdictOf (blockFaults E [] [] r u) → positionsIn (keptFrom K n E r u Q) ≡ stored K n v (positionsOf r) (positionsIn Q))
+        → positionsIn (onward (blockFaults E [] [] t w) (keptFrom K n E r (blockAfter E [] t w) (keptAt K n P a w)) (keptAt K n P a w))
         ≡ stored K n v (a ∷ positionsOf r) (positionsIn P)
     unfolding topLevel
     part t r a b w P m z s o e ih =
-        step (blockFaults E [] t w) (blockFaults E [] r (blockAfter E [] t w)) a b (b + size r) (positionsOf r) P _ w
+        step (blockFaults E [] [] t w) (blockFaults E [] [] r (blockAfter E [] t w)) a b (b + size r) (positionsOf r) P _ w
         (rw z (block-ranged store E t a m w)) (block-ranged store E r b o (blockAfter E [] t w)) (omega arith) (λ x y. top-from r b x o y)
         (e ∙ ap verdictOf (faults-followed store E [] t r a m w)) (λ y. ih (blockAfter E [] t w) (keptAt K n P a w) y)
 
-    pub kept-positions : {v : Verdict} (t : Block) (a : ℕ) → Numbered t a → (w : State FactSet) (P : List Place) → v ≡ verdictOf (blockFaults E [] t w)
+    pub kept-positions : {v : Verdict} (t : Block) (a : ℕ) → Numbered t a → (w : State FactSet) (P : List Place) → v ≡ verdictOf (blockFaults E [] [] t w)
         → positionsIn (keptFrom K n E t w P) ≡ stored K n v (positionsOf t) (positionsIn P)
     unfolding keptFrom positionsOf stored followed size
     kept-positions nil a m w P e = refl
     kept-positions (plain x s r) a m w P e =
         part (plain x s nil) r x (x + 1) w P (refl, tt) (omega arith) (omega arith) (m .1) e (λ u Q y. kept-positions r (x + 1) (m .1) u Q y)
+    kept-positions (call x s r) a m w P e =
+        part (call x s nil) r x (x + 1) w P (refl, tt) (omega arith) (omega arith) (m .1) e (λ u Q y. kept-positions r (x + 1) (m .1) u Q y)
     kept-positions (branch x c t o r) a m w P e =
         part (branch x c t o nil) r x (x + 1 + size t + size o) w P (refl, m .1, m .2, tt) (omega arith) (omega arith) (m .3) e
         (λ u Q y. kept-positions r (x + 1 + size t + size o) (m .3) u Q y)
@@ -223,6 +225,7 @@ positions-followed : (t u : Block) (a : ℕ) → Numbered t a → positionsOf (f
 unfolding positionsOf followed
 positions-followed nil u a n = refl
 positions-followed (plain x s r) u a n = ap (λ l. x ∷ l) (positions-followed r u (x + 1) (n .1))
+positions-followed (call x s r) u a n = ap (λ l. x ∷ l) (positions-followed r u (x + 1) (n .1))
 positions-followed (branch x c t e r) u a n = ap (λ l. x ∷ l) (positions-followed r u (x + 1 + size t + size e) (n .3))
 positions-followed (loop x c t r) u a n = ap (λ l. x ∷ l) (positions-followed r u (x + 1 + size t) (n .2))
 positions-followed (bundle x ss r) u a n = ap (λ l. x ∷ l) (positions-followed r u (x + 1 + length ss) (n .1))
@@ -245,6 +248,7 @@ no-positions : (t : Block) (a : ℕ) → Numbered t a → size t ≡ 0 → posit
 unfolding positionsOf size
 no-positions nil a n e = refl
 no-positions (plain x s r) a n e = absurd (omega arith)
+no-positions (call x s r) a n e = absurd (omega arith)
 no-positions (branch x c t o r) a n e = absurd (omega arith)
 no-positions (loop x c t r) a n e = absurd (omega arith)
 no-positions (bundle x ss r) a n e = absurd (omega arith)

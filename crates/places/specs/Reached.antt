@@ -18,6 +18,7 @@ use Rattle.blocks.specs.Tree.{Block, nil, parse, tree}
 use Rattle.blocks.specs.Layout.{also, layout}
 use Rattle.blocks.specs.Shape.{Laid}
 use Rattle.listed.specs.ListLaws.{none-listed}
+use Rattle.rules.specs.CallLaws.{none-formed}
 use Rattle.rules.specs.FactSets.{State}
 use Rattle.rules.specs.BoundsRules.{upperLimit}
 use Rattle.rules.specs.Rules as walkRules
@@ -39,7 +40,7 @@ use Rattle.places.specs.WalkFollowed.{after-followed, faults-followed}
 -- The walk from the start comes to the number q, a top-level statement or the end, with the state w.
 pub record Reached (T : List ℤ) (h : Sections) (q : ℕ) (w : State FactSet) : Type 0 where
   pub cut : Cut T h 0 0 q (h .statements)
-  pub clear : blockFaults (environmentOf T h) [] (cut .front) newState ≡ []
+  pub clear : blockFaults (environmentOf T h) [] [] (cut .front) newState ≡ []
   pub state : blockAfter (environmentOf T h) [] (cut .front) newState ≡ w
 
 module _ {T : List ℤ} {h : Sections} where
@@ -50,7 +51,7 @@ module _ {T : List ℤ} {h : Sections} where
 
   -- Further on, where the statements between have no fault.
   pub reached-more : {q r : ℕ} {w : State FactSet} → Reached T h q w → (c : Cut T h 0 q r (h .statements))
-      → blockFaults (environmentOf T h) [] (c .front) w ≡ [] → Reached T h r (blockAfter (environmentOf T h) [] (c .front) w)
+      → blockFaults (environmentOf T h) [] [] (c .front) w ≡ [] → Reached T h r (blockAfter (environmentOf T h) [] (c .front) w)
   reached-more {q} {r} {w} p c e =
       let E = environmentOf T h in
       let n = p .cut .front-laid .numbered in
@@ -68,11 +69,11 @@ module _ {T : List ℤ} {h : Sections} where
 
   -- The faults of the table are those from here on.
   pub reached-faults : {q : ℕ} {w : State FactSet} → (p : Reached T h q w)
-      → blockFaults (environmentOf T h) [] (tree T h) newState ≡ blockFaults (environmentOf T h) [] (p .cut .back) w
+      → blockFaults (environmentOf T h) [] [] (tree T h) newState ≡ blockFaults (environmentOf T h) [] [] (p .cut .back) w
   reached-faults {q} {w} p =
       let E = environmentOf T h in
       let s = p .state in
-      ap (λ (b : Block). blockFaults E [] b newState) (laid-tree (laid-followed (p .cut .front-laid) (p .cut .back-laid)))
+      ap (λ (b : Block). blockFaults E [] [] b newState) (laid-tree (laid-followed (p .cut .front-laid) (p .cut .back-laid)))
       ∙ (faults-followed store E [] (p .cut .front) (p .cut .back) 0 (p .cut .front-laid .numbered) newState ∙ (pass _ _ (p .clear) ∙ rw s))
 
   -- What is left of the walk, as the code reads it.
@@ -80,16 +81,16 @@ module _ {T : List ℤ} {h : Sections} where
   reached-rest p l e = laid-parsed (p .cut .back-laid) l e
 
   pub reached-section : {q : ℕ} {w : State FactSet} → (p : Reached T h q w)
-      → sectionFaults T h [] ≡ blockFaults (environmentOf T h) [] (p .cut .back) w
+      → sectionFaults [] T h [] ≡ blockFaults (environmentOf T h) [] [] (p .cut .back) w
   unfolding verdictRules.sectionFaults
   reached-section p =
       pass _ _ (laid-layout (laid-followed (p .cut .front-laid) (p .cut .back-laid))) ∙ (pass _ _ (none-listed T h) ∙ reached-faults p)
 
   -- THE VERDICT FROM A PLACE is the verdict on the table from nothing.
   pub reached-judged : {q : ℕ} {w : State FactSet} {v : Verdict} → (p : Reached T h q w) → formOf T ≡ form.WellFormed h
-      → v ≡ verdictOf (blockFaults (environmentOf T h) [] (p .cut .back) w) → Judged T [] v
+      → v ≡ verdictOf (blockFaults (environmentOf T h) [] [] (p .cut .back) w) → Judged [] T [] v
   unfolding verdictRules.faults
-  reached-judged {v = v} p f e = judged T [] v (e ∙ ap verdictOf (rw f (sym (reached-section p))))
+  reached-judged {v = v} p f e = judged [] none-formed T [] v (e ∙ ap verdictOf (rw f (sym (reached-section p))))
 
 -- ---- after an edit
 

@@ -30,7 +30,7 @@ layoutFrom T h q = cond (ltb (h .statements) q) (BlockLayout q ∷ []) (blockLay
 
 -- The faults of the layout from there, then those of the walk; the statements walked; and the places kept on the way.
 pub record RewalkedFrom (T : List ℤ) (h : Sections) (K S : List ℕ) (p : Place) (r : Rewalked) (Q : List ℕ) : Type 0 where
-  pub verdict : r .verdict ≡ verdictOf (also (layoutFrom T h (p .position)) (blockFaults (environmentOf T h) [] (restOf T h (p .position)) (p .state)))
+  pub verdict : r .verdict ≡ verdictOf (also (layoutFrom T h (p .position)) (blockFaults (environmentOf T h) [] [] (restOf T h (p .position)) (p .state)))
   pub walked : r .walked ≡ cond (isEmpty (layoutFrom T h (p .position))) (walkedFrom T h (p .position) (r .verdict)) 0
   pub left : Restored S (onward (layoutFrom T h (p .position))
       (keptFrom K (capacity S) (environmentOf T h) (restOf T h (p .position)) (p .state) (places S)) (places S)) Q

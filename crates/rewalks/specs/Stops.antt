@@ -10,7 +10,7 @@ use lib.ListN.{length}
 use lib.Dec.{eqb}
 use Rattle.words.specs.declared.sections.Sections.{Sections}
 use Rattle.statements.specs.Statements.{statementAt}
-use Rattle.blocks.specs.Tree.{Block, nil, plain, branch, loop, bundle, unread}
+use Rattle.blocks.specs.Tree.{Block, nil, plain, branch, loop, bundle, call, unread}
 use Rattle.blocks.specs.Shape.{size, Numbered, Laid}
 use Rattle.edits.specs.Followed.{followed, laid-followed}
 use Rattle.edits.specs.Cuts.{Cut, first, rest, first-laid, rest-laid, span-laid, size-first, top-followed}
@@ -40,6 +40,7 @@ top-only : (t : Block) (a p : ℕ) → Numbered t a → topLevel (first t) p ≡
 unfolding topLevel positionsOf isIn first
 top-only nil a p n e = cc
 top-only (plain x s r) a p n e = sym (head-only x p e) ∙ n .0
+top-only (call x s r) a p n e = sym (head-only x p e) ∙ n .0
 top-only (branch x c t o r) a p n e = sym (head-only x p e) ∙ n .0
 top-only (loop x c t r) a p n e = sym (head-only x p e) ∙ n .0
 top-only (bundle x ss r) a p n e = sym (head-only x p e) ∙ n .0

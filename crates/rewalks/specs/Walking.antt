@@ -14,6 +14,7 @@ use Rattle.blocks.specs.Layout.{also}
 use Rattle.blocks.specs.Shape.{size, Numbered, Laid}
 use Rattle.rules.specs.FactSets.{State}
 use Rattle.rules.specs.Rules as walkRules
+use Rattle.rules.specs.Calls.{Routine}
 use Rattle.rules.specs.Stored.{store, blockAfter, blockFaults}
 use Rattle.rules.specs.Verdict.{environmentOf, verdictOf}
 use Rattle.rules.specs.declared.Environment.{Environment}
@@ -40,19 +41,23 @@ use Rattle.rewalks.specs.Stops.{Stands, Stop}
 abbrev pub restOf : List ℤ → Sections → ℕ → Block
 restOf T h a = parse (h .statements) T h a (h .statements)
 
--- The checker's walk over a block from the state w, with no loop facts; M is the report so far, which is of no use here.
+-- The checker's walk over a block from the state w, with no loop facts, of a routine by itself; M is the report so far, which is of no use here.
 abbrev pub WalksPart : Environment → Block → State FactSet → Walked → Type 0
-WalksPart E b w r = (M : List ℕ) × Walks E [] b w M r
+WalksPart E b w r = (M : List ℕ) × Walks E [] [] b w M r
+
+pub alone-walks : (E : Environment) (b : Block) (w : State FactSet) (M : List ℕ) {rs : List Routine} {r : Walked} → rs ≡ [] → Walks E [] rs b w M r
+    → WalksPart E b w r
+alone-walks E b w M e p = (M, rw e at p)
 
 -- The walk from the statement `from` to the end, from the state w: its verdict is that of the faults from there, and the store holds the places kept.
 pub record WalkedOn (T : List ℤ) (h : Sections) (K : List ℕ) (from : ℕ) (w : State FactSet) (S : List ℕ) (r : Verdict) (Q : List ℕ) : Type 0 where
-  pub said : r ≡ verdictOf (blockFaults (environmentOf T h) [] (restOf T h from) w)
+  pub said : r ≡ verdictOf (blockFaults (environmentOf T h) [] [] (restOf T h from) w)
   pub left : Restored S (keptFrom K (capacity S) (environmentOf T h) (restOf T h from) w (places S)) Q
 
 -- The loop's invariant: the walk of what is left, from the state and the places now, is the walk of the whole.
 pub record Going (T : List ℤ) (h : Sections) (K : List ℕ) (from : ℕ) (w₀ : State FactSet) (S₀ : List ℕ) (at : ℕ) (w : State FactSet) (S : List ℕ) : Type 0 where
   pub stands : Stands T h at (h .statements)
-  pub faults : blockFaults (environmentOf T h) [] (restOf T h from) w₀ ≡ blockFaults (environmentOf T h) [] (stands .block) w
+  pub faults : blockFaults (environmentOf T h) [] [] (restOf T h from) w₀ ≡ blockFaults (environmentOf T h) [] [] (stands .block) w
   pub kept : keptFrom K (capacity S₀) (environmentOf T h) (restOf T h from) w₀ (places S₀)
       ≡ keptFrom K (capacity S₀) (environmentOf T h) (stands .block) w (places S)
   pub long : length S ≡ length S₀
@@ -101,7 +106,7 @@ module _ (T : List ℤ) (h : Sections) (K : List ℕ) (from : ℕ) (w₀ : State
     unfolding verdictOf walkRules.blockFaults keptFrom
     going-done p =
         let z = nil-clear (g .stands .block) at (h .statements) (g .stands .laid) p in record {
-          said = ap verdictOf (sym (g .faults ∙ ap (λ (b : Block). blockFaults E [] b w) z));
+          said = ap verdictOf (sym (g .faults ∙ ap (λ (b : Block). blockFaults E [] [] b w) z));
           left = record { long = g .long; holds = sym (g .kept ∙ ap (λ (b : Block). keptFrom K (capacity S₀) E b w (places S)) z) };
         }
 
@@ -112,8 +117,8 @@ module _ (T : List ℤ) (h : Sections) (K : List ℕ) (from : ℕ) (w₀ : State
       whole : g .stands .block ≡ followed (s .cut .front) (s .cut .back)
       whole = cut-whole (g .stands .laid) (s .cut)
 
-      parts : blockFaults E [] (restOf T h from) w₀ ≡ also (blockFaults E [] (s .cut .front) w) (blockFaults E [] (s .cut .back) (blockAfter E [] (s .cut .front) w))
-      parts = g .faults ∙ (ap (λ (b : Block). blockFaults E [] b w) whole ∙ faults-followed store E [] (s .cut .front) (s .cut .back) at (s .cut .front-laid .numbered) w)
+      parts : blockFaults E [] [] (restOf T h from) w₀ ≡ also (blockFaults E [] [] (s .cut .front) w) (blockFaults E [] [] (s .cut .back) (blockAfter E [] (s .cut .front) w))
+      parts = g .faults ∙ (ap (λ (b : Block). blockFaults E [] [] b w) whole ∙ faults-followed store E [] (s .cut .front) (s .cut .back) at (s .cut .front-laid .numbered) w)
 
       first-kept : keptFrom K (capacity S₀) E (s .cut .front) w (places S) ≡ places Q
       first-kept =
@@ -121,30 +126,30 @@ module _ (T : List ℤ) (h : Sections) (K : List ℕ) (from : ℕ) (w₀ : State
           ∙ (ap (λ (n : ℕ). keptAt K n (places S) at w) (sym (capacity-same S₀ S (g .long))) ∙ sym (k .holds))
 
       kept-parts : keptFrom K (capacity S₀) E (restOf T h from) w₀ (places S₀)
-          ≡ onward (blockFaults E [] (s .cut .front) w) (keptFrom K (capacity S₀) E (s .cut .back) (blockAfter E [] (s .cut .front) w) (places Q)) (places Q)
+          ≡ onward (blockFaults E [] [] (s .cut .front) w) (keptFrom K (capacity S₀) E (s .cut .back) (blockAfter E [] (s .cut .front) w) (places Q)) (places Q)
       kept-parts =
           g .kept ∙ (ap (λ (b : Block). keptFrom K (capacity S₀) E b w (places S)) whole
           ∙ (kept-followed K (capacity S₀) E (s .cut .front) (s .cut .back) at (s .cut .front-laid .numbered) w (places S)
-          ∙ ap (λ (P : List Place). onward (blockFaults E [] (s .cut .front) w) (keptFrom K (capacity S₀) E (s .cut .back) (blockAfter E [] (s .cut .front) w) P) P) first-kept))
+          ∙ ap (λ (P : List Place). onward (blockFaults E [] [] (s .cut .front) w) (keptFrom K (capacity S₀) E (s .cut .back) (blockAfter E [] (s .cut .front) w) P) P) first-kept))
 
       module _ {r : Walked} (walks : WalksPart E (parse (stop - at) T h at stop) w r) where
-        front-walks : Walks E [] (s .cut .front) w (walks .0) r
+        front-walks : Walks E [] [] (s .cut .front) w (walks .0) r
         front-walks = let z = front-parsed s in rw z at (walks .1)
 
         pub going-refused : {v : Verdict} {x : Refusal} → v ≡ r .verdict → v ≡ Refused x → WalkedOn T h K from w₀ S₀ v Q
         going-refused e p =
-            let said = refuse-part (blockFaults E [] (s .cut .front) w) (blockFaults E [] (s .cut .back) (blockAfter E [] (s .cut .front) w)) (e ∙ front-walks .said) p in record {
+            let said = refuse-part (blockFaults E [] [] (s .cut .front) w) (blockFaults E [] [] (s .cut .back) (blockAfter E [] (s .cut .front) w)) (e ∙ front-walks .said) p in record {
               said = said .0 ∙ ap verdictOf (sym parts);
-              left = record { long = k .long ∙ g .long; holds = sym (kept-parts ∙ not-onward (blockFaults E [] (s .cut .front) w) (e ∙ front-walks .said) p _ _) };
+              left = record { long = k .long ∙ g .long; holds = sym (kept-parts ∙ not-onward (blockFaults E [] [] (s .cut .front) w) (e ∙ front-walks .said) p _ _) };
             }
 
         pub going-on : {v : Verdict} → v ≡ r .verdict → v ≡ Accepted → Going T h K from w₀ S₀ stop (stateOf (r .facts) (r .rows .each)) Q
         going-on e p =
-            let clear = none-refused (blockFaults E [] (s .cut .front) w) (e ∙ front-walks .said) p in
+            let clear = none-refused (blockFaults E [] [] (s .cut .front) w) (e ∙ front-walks .said) p in
             let now = front-walks .kept clear in record {
               stands = record { block = s .cut .back; laid = s .cut .back-laid };
-              faults = parts ∙ (pass _ _ clear ∙ ap (blockFaults E [] (s .cut .back)) (sym now));
-              kept = kept-parts ∙ (all-onward (blockFaults E [] (s .cut .front) w) clear _ _ ∙ ap (λ (v : State FactSet). keptFrom K (capacity S₀) E (s .cut .back) v (places Q)) (sym now));
+              faults = parts ∙ (pass _ _ clear ∙ ap (blockFaults E [] [] (s .cut .back)) (sym now));
+              kept = kept-parts ∙ (all-onward (blockFaults E [] [] (s .cut .front) w) clear _ _ ∙ ap (λ (v : State FactSet). keptFrom K (capacity S₀) E (s .cut .back) v (places Q)) (sym now));
               long = k .long ∙ g .long;
             }
 

@@ -50,7 +50,7 @@ fn force_after(table: &[i32], sections: Sections, force: Force, rows: Rows) -> F
     force_of(table, sections, rows)
 }
 
-// The checker's walk over a part of the statements, with no loop facts ("has no list of loop facts"). What it would report is of no use here.
+// The checker's walk over a part of the statements, with no loop facts ("has no list of loop facts"), of a routine by itself. What it would report is of no use here.
 fn walk_part(
     table: &[i32],
     sections: Sections,
@@ -69,6 +69,7 @@ fn walk_part(
 {
     let report = no_report();
     let listed = [0i32; 0];
+    let callees = [0u32; 0];
     walk(
         table,
         sections,
@@ -80,6 +81,8 @@ fn walk_part(
         allowed,
         facts,
         report,
+        table,
+        &callees,
     )
 }
 

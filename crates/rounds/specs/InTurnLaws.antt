@@ -3,7 +3,7 @@ use Prim.Native.Nat.{ℕ, zero, suc, _+_, _-_, _<_, _≤_}
 use mathlib.Core.Path.{_≡_, refl, sym, ap, subst, _∙_}
 use mathlib.Core.Logic.{_≢_}
 use mathlib.Core.Bool.{Bool, true, false, cond}
-use mathlib.Core.List.{List}
+use mathlib.Core.List.{List, []}
 use native.Mathlib.Omega.{arith}
 use borrow.Author.Tests.{ltb-true}
 use lib.Dec.{ltb}
@@ -15,8 +15,8 @@ use Rattle.answers.specs.declared.stops.Outcome.{Outcome}
 use Rattle.answers.specs.declared.stops.Outcome.the-variants.{Spent, Done}
 use Rattle.answers.specs.declared.stops.Outcome.the-variants as outcome
 use Rattle.words.specs.declared.sections.Sections.{Sections}
-use Rattle.table.specs.FormLaws.{well-formed}
-use Rattle.rules.specs.AcceptedLaws.{clear, formed-sections}
+use Rattle.table.specs.FormLaws.{well-formed, formed-sections}
+use Rattle.rules.specs.AcceptedLaws.{clear}
 use Rattle.rules.specs.Verdict.{environmentOf}
 use Rattle.rules.specs.Verdict as verdictRules
 use Rattle.rules.specs.BoundsRules.{ownRows}
@@ -193,7 +193,7 @@ module _ {T : List ℤ} {h : Sections} {listed : List ℤ} {D cs vs os W₀ S : 
   first-runnable : Runnable T h E D (endsOf E (first .rows)) S first
   unfolding start
   first-runnable = rw (L .successors)
-      (start-runnable T h D cs vs os (L .slice) (well-formed T h (L .formed)) (clear T h listed (L .formed) (L .accepts) .laid) (L .room) entry free rows)
+      (start-runnable T h D cs vs os (L .slice) (well-formed T h (L .formed)) (clear [] T h listed (L .formed) (L .accepts) .laid) (L .room) entry free rows)
 
   -- What the code's run needs holds also where the run by itself stands later, whatever the cells elsewhere are.
   alike-runnable : (t : ℕ) (Q : Point) → Alike D (Own h) (point t) Q → Runnable T h E D (endsOf E (Q .rows)) S Q
@@ -225,7 +225,7 @@ module _ {T : List ℤ} {h : Sections} {listed : List ℤ} {D cs vs os W₀ S : 
 
     pub turn-prepared : Prepared T h W D S vs′
     turn-prepared =
-        let p = start-prepared T h D cs vs os (L .slice) (well-formed T h (L .formed)) (clear T h listed (L .formed) (L .accepts) .laid) (L .room) entry in
+        let p = start-prepared T h D cs vs os (L .slice) (well-formed T h (L .formed)) (clear [] T h listed (L .formed) (L .accepts) .laid) (L .room) entry in
         let m : length vs′ ≡ h .variables = ap length (i .values) ∙ values-count t in
         rw (i .ends) (record {
           table = p .table;

@@ -16,7 +16,8 @@ use Rattle.interpreter.specs.Claim.{RunJudged, Begins, pointOf, answerAt}
 use Rattle.turns.specs.Turns.{Routines, received, after, granted, ServedAgain, AllServed}
 use Rattle.seats.specs.Lends.{Lends, lentTo, sectionsAt, countOf}
 use Rattle.overlaps.specs.Overlaps.{firstOverlap}
-use Rattle.seats.specs.Parts.{valuesKind, partOf, startAt}
+use Rattle.parts.specs.Parts.{partOf, startAt}
+use Rattle.seats.specs.Parts.{kinds, valuesKind}
 
 -- ---- the turns
 
@@ -90,7 +91,7 @@ pub record AsAlone (l : Lends) (r t : ℕ) (o : Outcome) (vs cs : List ℕ) : Ty
 pub record AllRan (l : Lends) (quantum total : ℕ) (outcomes : ℕ → Outcome) (vs cs : List ℕ) : Type 0 where
   pub begin : (r : ℕ) → r < countOf l → Begins (lentTo l r)
   pub apart : firstOverlap l ≡ countOf l
-  pub as-alone : (r : ℕ) → r < countOf l → AsAlone l r (receivedBy l quantum total r) (outcomes r) (partOf (l .lengths) valuesKind r vs) cs
+  pub as-alone : (r : ℕ) → r < countOf l → AsAlone l r (receivedBy l quantum total r) (outcomes r) (partOf (l .lengths) kinds valuesKind r vs) cs
   pub memory : cs ≡ memoryAfter l quantum total (countOf l * total)
   pub each-point : EachPoint l quantum total
   -- "one that waits is served again after at most (n - 1) times Q steps of the others, unless the total runs out"; in the end nobody waits, or it has run out.
@@ -98,6 +99,6 @@ pub record AllRan (l : Lends) (quantum total : ℕ) (outcomes : ℕ → Outcome)
   pub all-served : AllServed (routinesOf l) quantum total
   -- Cells of nobody's objects, and values behind all parts, are as they were.
   pub nobodys-cells : (i : ℕ) → ((r : ℕ) → r < countOf l → Outside (lentTo l r .directory) (sectionsAt l r .objects) i) → getD cs i 0 ≡ getD (l .cells) i 0
-  pub nobodys-values : drop (startAt (l .lengths) valuesKind (countOf l)) vs ≡ drop (startAt (l .lengths) valuesKind (countOf l)) (l .values)
+  pub nobodys-values : drop (startAt (l .lengths) kinds valuesKind (countOf l)) vs ≡ drop (startAt (l .lengths) kinds valuesKind (countOf l)) (l .values)
   pub cells-long : length cs ≡ length (l .cells)
   pub values-long : length vs ≡ length (l .values)

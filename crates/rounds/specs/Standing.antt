@@ -16,7 +16,8 @@ use Rattle.steps.specs.Bare.{Prepared}
 use Rattle.interpreter.specs.BareRun.{Ends, bareRun, SafeRun}
 use Rattle.interpreter.specs.Starts.{Launched}
 use Rattle.turns.specs.Turns.{after, sum, Idle}
-use Rattle.seats.specs.Parts.{valuesKind, partOf, startAt, between, Replaced}
+use Rattle.parts.specs.Parts.{partOf, startAt, between}
+use Rattle.seats.specs.Parts.{kinds, valuesKind, Replaced}
 use Rattle.seats.specs.Lends.{Lends, lentTo, sectionsAt, countOf}
 use Rattle.rounds.specs.Rounds.{routinesOf, memoryAfter}
 use Rattle.overlaps.specs.Overlaps.{firstOverlap}
@@ -44,10 +45,10 @@ pub record Standing (l : Lends) (quantum total k : ℕ) (seats : List Seat) (end
   pub places : (r : ℕ) → r < countOf l → seatAt seats r .places ≡ placesOf l r
   pub each : (r : ℕ) → r < countOf l
       → InTurn (lentTo l r) (sectionsAt l r) (getD (after (routinesOf l) quantum total k .received) r 0) (seatAt seats r .outcome) (endsAt ends r)
-      (partOf (l .lengths) valuesKind r vs) cs
+      (partOf (l .lengths) kinds valuesKind r vs) cs
   pub memory : cs ≡ memoryAfter l quantum total k
   pub nobodys-cells : (i : ℕ) → ((r : ℕ) → r < countOf l → Outside (lentTo l r .directory) (sectionsAt l r .objects) i) → getD cs i 0 ≡ getD (l .cells) i 0
-  pub nobodys-values : drop (startAt (l .lengths) valuesKind (countOf l)) vs ≡ drop (startAt (l .lengths) valuesKind (countOf l)) (l .values)
+  pub nobodys-values : drop (startAt (l .lengths) kinds valuesKind (countOf l)) vs ≡ drop (startAt (l .lengths) kinds valuesKind (countOf l)) (l .values)
   pub cells-long : length cs ≡ length (l .cells)
   pub values-long : length vs ≡ length (l .values)
   pub ends-long : length ends ≡ 4096

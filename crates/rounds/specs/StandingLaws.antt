@@ -20,8 +20,10 @@ use Rattle.interpreter.specs.Claim.{pointOf, answerAt}
 use Rattle.interpreter.specs.StartLaws.{admitted}
 use Rattle.turns.specs.Turns.{Routines, Runs, Schedule, granted, after, received}
 use Rattle.turns.specs.TurnsLaws.{by-order, after-received, after-within, after-long, sum-least, sum-within, served-waiting, served-ended}
-use Rattle.seats.specs.Parts.{tableKind, directoryKind, valuesKind, partOf, startAt, lengthAt, between, Replaced}
-use Rattle.seats.specs.PartsLaws.{between-part, part-new, part-other, window-before, window-behind, drop-behind, starts-order}
+use Rattle.parts.specs.Parts.{partOf, startAt, lengthAt, between}
+use Rattle.seats.specs.Parts.{kinds, tableKind, directoryKind, valuesKind, Replaced}
+use Rattle.parts.specs.PartsLaws.{between-part}
+use Rattle.seats.specs.PartsLaws.{part-new, part-other, window-before, window-behind, drop-behind, starts-order}
 use Rattle.seats.specs.Lends.{Lends, lentTo, sectionsAt, countOf}
 use Rattle.rounds.specs.Rounds.{routinesOf, isSpent, stepsOf, stepsAfter, nextAfter, goesOn, memoryAfter}
 use Rattle.overlaps.specs.Overlaps.{some}
@@ -112,13 +114,13 @@ module _ (l : Lends) (S : List ℕ) (L : AllLaunched l S) (apart : AllApart l) (
         ∙ s .each j b .made
 
     table-part : (j : ℕ) → between (placesOf l j .table) (l .tables) ≡ lentTo l j .table
-    table-part j = between-part (l .lengths) tableKind j (length (l .tables)) (l .tables) refl
+    table-part j = between-part (l .lengths) kinds tableKind j (length (l .tables)) (l .tables) refl
 
     directory-part : (j : ℕ) → between (placesOf l j .directory) (l .directories) ≡ lentTo l j .directory
-    directory-part j = between-part (l .lengths) directoryKind j (length (l .directories)) (l .directories) refl
+    directory-part j = between-part (l .lengths) kinds directoryKind j (length (l .directories)) (l .directories) refl
 
-    values-part : (j : ℕ) → between (placesOf l j .values) vs ≡ partOf (l .lengths) valuesKind j vs
-    values-part j = between-part (l .lengths) valuesKind j (length (l .values)) vs (sym (s .values-long))
+    values-part : (j : ℕ) → between (placesOf l j .values) vs ≡ partOf (l .lengths) kinds valuesKind j vs
+    values-part j = between-part (l .lengths) kinds valuesKind j (length (l .values)) vs (sym (s .values-long))
 
     -- ---- what a turn asks
 
@@ -144,7 +146,7 @@ module _ (l : Lends) (S : List ℕ) (L : AllLaunched l S) (apart : AllApart l) (
 
     may-go-on : total < 2 ^ 32 → {n a : ℕ} → seatAt seats r .outcome ≡ Spent n a → MayGoOn (l .tables) (l .directories) S (seatAt seats r) r q n a ends vs cs
     may-go-on small {n} {a} e =
-        let i : InTurn (lentTo l r) (sectionsAt l r) (st k r) (Spent n a) (endsAt ends r) (partOf (l .lengths) valuesKind r vs) cs = rw e at
+        let i : InTurn (lentTo l r) (sectionsAt l r) (st k r) (Spent n a) (endsAt ends r) (partOf (l .lengths) kinds valuesKind r vs) cs = rw e at
         (s .each r within) in
         subst (λ (y : Seat). MayGoOn (l .tables) (l .directories) S y r q n a ends vs cs) (sym seat-is) (record {
           prepared = rw (table-part r, directory-part r, values-part r) (turn-prepared (L r within) i);
@@ -189,19 +191,20 @@ module _ (l : Lends) (S : List ℕ) (L : AllLaunched l S) (apart : AllApart l) (
 
     module _ {n a : ℕ} {o : Outcome} {ends′ vs′ cs′ : List ℕ} (w : seatAt seats r .outcome ≡ Spent n a)
         (x : GoneOn (l .tables) (l .directories) S (seatAt seats r) r q n a ends vs cs o ends′ vs′ cs′) where
-      mine : InTurn (lentTo l r) (sectionsAt l r) (st k r) (Spent n a) (endsAt ends r) (partOf (l .lengths) valuesKind r vs) cs
+      mine : InTurn (lentTo l r) (sectionsAt l r) (st k r) (Spent n a) (endsAt ends r) (partOf (l .lengths) kinds valuesKind r vs) cs
       mine = rw w at (s .each r within)
 
       ran : Ends (bareRun (lentTo l r .table) (sectionsAt l r) (endsAt ends r) (lentTo l r .directory) (successorsAt S r) q n a
-          (partOf (l .lengths) valuesKind r vs) cs) o (x .ends-then) (x .values-then) cs′
+          (partOf (l .lengths) kinds valuesKind r vs) cs) o (x .ends-then) (x .values-then) cs′
       ran = rw (s .sections r within, s .places r within, table-part r, directory-part r, values-part r) at (x .run)
 
-      kept : Replaced (min (startAt (l .lengths) valuesKind r) (length vs)) (min (startAt (l .lengths) valuesKind r + lengthAt (l .lengths) valuesKind r)
+      kept : Replaced (min (startAt (l .lengths) kinds valuesKind r) (length vs))
+          (min (startAt (l .lengths) kinds valuesKind r + lengthAt (l .lengths) kinds valuesKind r)
           (length vs)) vs
           (x .values-then) vs′
       kept = rw (s .places r within, ← s .values-long) at (x .values-kept)
 
-      as-many : length (x .values-then) ≡ length (partOf (l .lengths) valuesKind r vs)
+      as-many : length (x .values-then) ≡ length (partOf (l .lengths) kinds valuesKind r vs)
       as-many = rw (s .places r within, values-part r) at (x .values-count)
 
       waiting : R .waits r (st k r) ≡ true
@@ -217,19 +220,20 @@ module _ (l : Lends) (S : List ℕ) (L : AllLaunched l S) (apart : AllApart l) (
       gone-other : (j : ℕ) → j ≢ r → st (k + 1) j ≡ st k j
       gone-other j d = ap (λ (y : List ℕ). getD y j 0) gone-received ∙ getD-set-other (at k .received) r j _ 0 d
 
-      some-values : 0 < length (partOf (l .lengths) valuesKind r vs)
+      some-values : 0 < length (partOf (l .lengths) kinds valuesKind r vs)
       some-values =
           let v = admitted _ _ _ _ _ _ (L r within .none) .values in
-          let z : length (partOf (l .lengths) valuesKind r vs) ≡ sectionsAt l r .variables = ap length (mine .values) ∙ values-count (L r within) (st k r) in
+          let z : length (partOf (l .lengths) kinds valuesKind r vs) ≡ sectionsAt l r .variables = ap length (mine .values)
+          ∙ values-count (L r within) (st k r) in
           omega (arith, well-formed _ _ (L r within .formed) .limits .some)
 
       abbrev seat : Seat
       seat = seated (seatAt seats r) o
 
-      turned-mine : InTurn (lentTo l r) (sectionsAt l r) (st (k + 1) r) o (endsAt ends′ r) (partOf (l .lengths) valuesKind r vs′) cs′
+      turned-mine : InTurn (lentTo l r) (sectionsAt l r) (st (k + 1) r) o (endsAt ends′ r) (partOf (l .lengths) kinds valuesKind r vs′) cs′
       turned-mine =
           let here : endsAt ends′ r ≡ x .ends-then = rw (x .ends-count) at (x .ends-kept .here) in
-          rw (gone-mine, here, part-new (l .lengths) valuesKind r vs (x .values-then) vs′ some-values as-many kept) (turn-taken (L r within) mine q ran)
+          rw (gone-mine, here, part-new (l .lengths) kinds valuesKind r vs (x .values-then) vs′ some-values as-many kept) (turn-taken (L r within) mine q ran)
 
       left : LeftOthers (sectionsAt l r) (lentTo l r .directory) cs cs′
       left = turn-leaves (L r within) mine q ran
@@ -240,9 +244,9 @@ module _ (l : Lends) (S : List ℕ) (L : AllLaunched l S) (apart : AllApart l) (
           (λ u. by-order r j (λ v. window-behind (512 * r + 512) (512 * j) 512 ends ends′ (omega arith) (x .ends-kept .back)) (λ v. absurd (d (omega arith))))
 
       turned-other : (j : ℕ) → j < countOf l → j ≢ r
-          → InTurn (lentTo l j) (sectionsAt l j) (st (k + 1) j) (seatAt seats j .outcome) (endsAt ends′ j) (partOf (l .lengths) valuesKind j vs′) cs′
+          → InTurn (lentTo l j) (sectionsAt l j) (st (k + 1) j) (seatAt seats j .outcome) (endsAt ends′ j) (partOf (l .lengths) kinds valuesKind j vs′) cs′
       turned-other j b d =
-          rw (gone-other j d, ends-other j d, part-other (l .lengths) valuesKind r vs (x .values-then) vs′ some-values as-many kept j d)
+          rw (gone-other j d, ends-other j d, part-other (l .lengths) kinds valuesKind r vs (x .values-then) vs′ some-values as-many kept j d)
           (others-turn (L j b) cs′ (others-same (sectionsAt l r) (sectionsAt l j) (lentTo l r .directory) (lentTo l j .directory) cs cs′
           (apart r j within b (λ e. d (sym e))) left) (s .each j b))
 
@@ -271,15 +275,16 @@ module _ (l : Lends) (S : List ℕ) (L : AllLaunched l S) (apart : AllApart l) (
 
           turned : (j : ℕ) → j < countOf l → Dec (j ≡ r)
               → InTurn (lentTo l j) (sectionsAt l j) (st (k + 1) j) (seatAt (set seats r seat) j .outcome) (endsAt ends′ j) (partOf
-              (l .lengths) valuesKind j vs′) cs′
+              (l .lengths) kinds valuesKind j vs′) cs′
           turned j b (yes d) = rw (d, getD-set-same seats r seat nobody room) turned-mine
           turned j b (no d) = rw (getD-set-other seats r j seat nobody d) (turned-other j b d)
 
-          behind : min (startAt (l .lengths) valuesKind r + lengthAt (l .lengths) valuesKind r) (length vs) ≤ startAt (l .lengths) valuesKind (countOf l)
-          behind = omega (arith, starts-order (l .lengths) valuesKind r (countOf l) within)
+          behind : min (startAt (l .lengths) kinds valuesKind r + lengthAt (l .lengths) kinds valuesKind r) (length vs) ≤ startAt (l .lengths) kinds valuesKind
+              (countOf l)
+          behind = omega (arith, starts-order (l .lengths) kinds valuesKind r (countOf l) within)
 
-          values-behind : drop (startAt (l .lengths) valuesKind (countOf l)) vs′ ≡ drop (startAt (l .lengths) valuesKind (countOf l)) vs
-          values-behind = drop-behind _ (startAt (l .lengths) valuesKind (countOf l)) vs vs′ behind (kept .back)
+          values-behind : drop (startAt (l .lengths) kinds valuesKind (countOf l)) vs′ ≡ drop (startAt (l .lengths) kinds valuesKind (countOf l)) vs
+          values-behind = drop-behind _ (startAt (l .lengths) kinds valuesKind (countOf l)) vs vs′ behind (kept .back)
 
     -- ---- THE LAW OF ONE TURN
 

@@ -5,49 +5,57 @@ use mathlib.Core.Logic.{inl, inr}
 use mathlib.Core.Bool.{Bool, true, false, not, _||_, _&&_, cond}
 use mathlib.Core.List.{List, [], _∷_}
 use native.Mathlib.Omega.{arith}
+use borrow.Author.Tests.{ltb-true, not-false}
 use lib.IntN.{ℤ}
 use lib.ListN.{length}
-use lib.Dec.{eqb}
+use lib.Dec.{eqb, ltb}
 use Rattle.sums.specs.Numbers.{bias, zeroVar}
 use Rattle.arrays.specs.TabulateLaws.{tabulate-alike}
 use Rattle.facts.specs.declared.FactSet.{FactSet}
 use Rattle.chains.specs.Facts.{Variables}
 use Rattle.chains.specs.History.{History}
 use Rattle.answers.specs.declared.refusals.Refusal.{Refusal}
+use Rattle.answers.specs.declared.refusals.Refusal.the-variants.{Callee, Arguments}
 use Rattle.words.specs.Typed.{IsSmall, IsIndex}
+use Rattle.words.specs.SectionsLaws.{both}
 use Rattle.words.specs.declared.sections.Sections.{Sections}
 use Rattle.conditions.specs.Conditions.{negatedOf}
 use Rattle.conditions.specs.Typed.{Sides}
 use Rattle.conditions.specs.declared.Condition.{Condition}
 use Rattle.statements.specs.StatementLaws.{read-typed}
-use Rattle.statements.specs.Typed.{SimpleTyped}
+use Rattle.statements.specs.Typed.{SimpleTyped, CallTyped}
+use Rattle.statements.specs.declared.CallSite.{CallSite}
 use Rattle.statements.specs.declared.Simple.{Simple}
 use Rattle.statements.specs.declared.Simple.the-variants.{Literal, AddConstant, Arithmetic, Null, Address}
 use Rattle.statements.specs.declared.Simple.the-variants.{PointerOffset, PointerIndex, Load, Store, Check, Declare}
-use Rattle.statements.specs.declared.Statement.the-variants.{Plain, If, While}
+use Rattle.statements.specs.declared.Statement.the-variants.{Plain, If, While, Call}
 use Rattle.table.specs.Form.{formOf}
 use Rattle.table.specs.FormLaws.{Formed, well-formed}
 use Rattle.table.specs.declared.Form.{Form}
 use Rattle.table.specs.declared.Form.the-variants as form
-use Rattle.blocks.specs.Layout.{also, layout}
+use Rattle.blocks.specs.Layout.{also, when, layout}
 use Rattle.listed.specs.Entries.{entriesOf}
 use Rattle.listed.specs.ListForm.{listFaults}
-use Rattle.blocks.specs.Tree.{Block, nil, plain, branch, loop, bundle, unread, tree}
+use Rattle.blocks.specs.Tree.{Block, nil, plain, branch, loop, bundle, call, unread, tree}
 use Rattle.blocks.specs.Shape.{size, ReadsLine, Reads, Formed as Shaped}
 use Rattle.blocks.specs.ShapeLaws.{table-laid}
 use Rattle.rules.specs.FactSets.{State}
 use Rattle.rules.specs.BoundsRules.{isPointer, declared, known, names, weight, comparableEnds, consIf, shiftEnd, shiftBounds, effectOn, boundsAfter}
 use Rattle.rules.specs.BoundsRules.{effect, endAtMost, knownAtMost, boundsShown, unshownFrom, unshown, accessShown, rowBound, inForce, rowUnshown}
 use Rattle.rules.specs.BoundsRules.{addressSafe, accessSafe}
-use Rattle.rules.specs.Rules.{accessAt, boundsAt, bundleBounds, bundleFaults, blockFaults, rowsAt, stateAfter}
+use Rattle.rules.specs.Rules.{accessAt, boundsAt, bundleBounds, bundleFaults, blockFaults, rowsAt, stateAfter, calledState}
+use Rattle.rules.specs.Calls.{Routine, routineAt, argument, isParameter, kindFits, endFits, argumentBounds, lastInteger, inOrder, resultEffect}
+use Rattle.rules.specs.Calls.{boundsFit, argumentFits, argumentsFit, callFaults}
+use Rattle.rules.specs.CallLaws.{RoutineFormed, AllFormed, argument-below, put-fair}
 use Rattle.rules.specs.Rules.{assumed, unshownIn, accessIn, safeIn, declaredIn, bundleAfter, blockAfter}
 use Rattle.rules.specs.Verdict.{environmentOf, sectionFaults, formFaults, faults, verdictOf}
-use Rattle.blocks.specs.LayoutLaws.{no-first, no-rest}
+use Rattle.blocks.specs.LayoutLaws.{no-first, no-rest, passed}
 use Rattle.rules.specs.EnvironmentLaws.{environment-declares}
 use Rattle.rules.specs.Stored.{store}
 use Rattle.rules.specs.ByChains.{Decider, Decides, byChains, variables, DecidesTable}
 use Rattle.rules.specs.Representation.{Represents, shown-represented, end-represented, range-represented}
-use Rattle.rules.specs.StateRepresentation.{StateRepresents, new-represented, meets, state-after, state-assumed, state-negated, state-at-head}
+use Rattle.rules.specs.StateRepresentation.{StateRepresents, new-represented, meets, state-after, state-called, state-assumed, state-negated}
+use Rattle.rules.specs.StateRepresentation.{state-at-head}
 use Rattle.rules.specs.ListedLaws.{EntriesRight, entries-right, entries-agree}
 use Rattle.rules.specs.Fair.{weight-small, FairEnd, index-node, FairKnown, FairBounds, FairAll, FairEffect, later}
 use Rattle.rules.specs.Fair.{constant-moved, after-fair, declared-fair, statement-fair, number-fair}
@@ -88,6 +96,12 @@ same-verdict [] (y ∷ ys) s = absurd s
 same-verdict (x ∷ xs) [] s = absurd s
 same-verdict (x ∷ xs) (y ∷ ys) s = ap Refused s
 
+-- Where the second has no fault the first has none.
+pub none-first : (xs ys : List Refusal) → SameFirst xs ys → ys ≡ [] → xs ≡ []
+none-first [] ys s e = refl
+none-first (x ∷ xs) [] s e = absurd s
+none-first (x ∷ xs) (y ∷ ys) s e = let o : _≡_ {A = ℕ} 0 1 = cc in absurd (omega arith)
+
 same-bounds : (s : ℕ) {a b c d : KnownEnd} → a ≡ c → b ≡ d
     → _≡_ {A = Bounds} (record { size = s; lower = a; upper = b }) (record { size = s; lower = c; upper = d })
 same-bounds s p q = rw (p, q)
@@ -97,6 +111,18 @@ all-three p q r = rw (p, q, r)
 
 three : {a b c x y z : Bool} → a ≡ x → b ≡ y → c ≡ z → (a || b && c) ≡ (x || y && z)
 three p q r = rw (p, q, r)
+
+-- Tests that matter only where others hold.
+if-both : (a b c : Bool) → (a ≡ true → b ≡ c) → (a && b) ≡ (a && c)
+if-both true b c k = k refl
+if-both false b c k = refl
+
+unless-first : (a b c : Bool) → (a ≡ true → b ≡ c) → (not a || b) ≡ (not a || c)
+unless-first true b c k = k refl
+unless-first false b c k = refl
+
+four : (o : Bool) {a b c d x y z u : Bool} → a ≡ x → b ≡ y → c ≡ z → d ≡ u → (o && a && b && c && d) ≡ (o && x && y && z && u)
+four o p q r s = rw (p, q, r, s)
 
 -- ---- a well-formed table
 
@@ -127,6 +153,14 @@ module _ (T : List ℤ) (h : Sections) (w : Formed T h) (q : Decider) (right : D
       (shift-agrees n (b .size) v k (b .upper) l (a p .size) g (a p .upper))
   on-agrees n (Copy v r) K l g a p = refl
   on-agrees n (Object v s m) K l g a p = refl
+
+  result-fair : (c : CallSite) → FairEffect vars (resultEffect c)
+  unfolding resultEffect
+  result-fair c = go (eqb (c .result) zeroVar)
+    where
+      go : (b : Bool) → FairEffect vars (cond b Keep (Forget (c .result)))
+      go true = tt
+      go false = tt
 
   moved-agree : (n : ℕ) (e : Effect) (K : List Bounds) → n ≤ 16 → FairEffect vars e → FairAll vars n K → boundsAfter (byChains q) e K ≡ boundsAfter store e K
   unfolding boundsAfter
@@ -313,10 +347,10 @@ module _ (T : List ℤ) (h : Sections) (w : Formed T h) (q : Decider) (right : D
 
   -- ---- a block, beside a list whose entries are right
 
-  module _ (L : List ℤ) (listed : (a : ℕ) → EntriesRight T h (w .limits) (entriesOf L a)) where
+  module _ (L : List ℤ) (listed : (a : ℕ) → EntriesRight T h (w .limits) (entriesOf L a)) (callees : List Routine) (formed : AllFormed callees) where
     record BlockAgrees (b : Block) (U : State History) (W : State FactSet) : Type 0 where
-      faults : SameFirst (blockFaults store E L b W) (blockFaults (byChains q) E L b U)
-      represents : blockFaults store E L b W ≡ [] → StateRepresents vars (blockAfter (byChains q) E L b U) (blockAfter store E L b W)
+      faults : SameFirst (blockFaults store E L callees b W) (blockFaults (byChains q) E L callees b U)
+      represents : blockFaults store E L callees b W ≡ [] → StateRepresents vars (blockAfter (byChains q) E L b U) (blockAfter store E L b W)
 
     bounds-fault : (a : ℕ) {ps qs : List ℕ} → ps ≡ qs → SameFirst (boundsAt a ps) (boundsAt a qs)
     bounds-fault a {ps} {qs} e = same-of _ _ (ap (boundsAt a) e)
@@ -385,6 +419,59 @@ module _ (T : List ℤ) (h : Sections) (w : Formed T h) (q : Decider) (right : D
           represents = λ z. rest _ _ (state-negated T h (w .limits) q right l c s) .represents (no-rest _ _ (no-rest _ _ (no-rest _ _ (no-rest _ _ z))));
         }
 
+    -- The bounds of an argument are shown alike.
+    fit-agrees : (r : Routine) (c : CallSite) (j : ℕ) {U : State History} {W : State FactSet} → RoutineFormed r → CallTyped T h c → StateRepresents vars U W
+        → isParameter c j ≡ true
+        → boundsFit store (W .facts) (declaredIn store E W) r c j ≡ boundsFit (byChains q) (U .facts) (declaredIn store E W) r c j
+    unfolding boundsFit
+    fit-agrees r c j {U} {W} g y t p =
+        let b = declared (r .environment) j in
+        if-both (endFits c (b .lower) && endFits c (b .upper)) _ _
+        (λ e. let k = both (endFits c (b .lower)) (endFits c (b .upper)) e in
+        bounds-agree (t .represents) 0 (argument c j) (known (declaredIn store E W) (argument c j)) (argumentBounds c b) (omega arith)
+        (argument-below T h c y j p) (declared-fair T h w (W .rows) (argument c j)) (put-fair T h c y vars (omega arith) r g j (k .0) (k .1)))
+
+    argument-agrees : (r : Routine) (c : CallSite) (j : ℕ) {U : State History} {W : State FactSet} → RoutineFormed r → CallTyped T h c
+        → StateRepresents vars U W
+        → argumentFits store E (W .facts) (declaredIn store E W) r c j ≡ argumentFits (byChains q) E (U .facts) (declaredIn store E W) r c j
+    unfolding argumentFits
+    argument-agrees r c j {U} {W} g y t =
+        unless-first (isParameter c j) _ _ (λ p. ap (λ (b : Bool). kindFits E (argument c j) r j && (not (isPointer (r .environment) j) || b))
+        (fit-agrees r c j g y t p))
+
+    arguments-agree : (r : Routine) (c : CallSite) {U : State History} {W : State FactSet} → RoutineFormed r → CallTyped T h c → StateRepresents vars U W
+        → argumentsFit store E (W .facts) (declaredIn store E W) r c ≡ argumentsFit (byChains q) E (U .facts) (declaredIn store E W) r c
+    unfolding argumentsFit
+    arguments-agree r c g y t =
+        four (inOrder c && lastInteger r) (argument-agrees r c 0 g y t) (argument-agrees r c 1 g y t) (argument-agrees r c 2 g y t)
+        (argument-agrees r c 3 g y t)
+
+    call-faults-agree : (a : ℕ) (c : CallSite) {U : State History} {W : State FactSet} → CallTyped T h c → StateRepresents vars U W
+        → SameFirst (callFaults store callees E a c (W .facts) (declaredIn store E W)) (callFaults (byChains q) callees E a c (U .facts) (declaredIn store E W))
+    unfolding callFaults
+    call-faults-agree a c y t =
+        same-also _ _ _ _ (same-self (when (not (ltb (c .callee) (length callees))) (Callee a)))
+        (λ z. let l = ltb-true (c .callee) (length callees) (not-false _ (passed _ _ z)) in
+        same-of _ _ (ap (λ (b : Bool). when (not b) (Arguments a)) (arguments-agree (routineAt callees (c .callee)) c (formed (c .callee) l) y t)))
+
+    call-agrees : (a : ℕ) (c : CallSite) (r : Block) {U : State History} {W : State FactSet} → CallTyped T h c → StateRepresents vars U W
+        → BlockAgrees r (calledState (byChains q) c U) (calledState store c W) → BlockAgrees (call a c r) U W
+    unfolding blockFaults blockAfter
+    call-agrees a c r {U} {W} y t rest =
+        let k : declaredIn (byChains q) E U ≡ declaredIn store E W = ap (λ (R : List ℕ). inForce E R .declared) (t .rows) in
+        let e : boundsAfter (byChains q) (resultEffect c) (declaredIn store E W) ≡ boundsAfter store (resultEffect c) (declaredIn store E W) =
+        moved-agree 0 (resultEffect c) (declaredIn store E W) (omega arith) (result-fair c) (declared-fair T h w (W .rows)) in
+        record {
+          faults = same-also _ _ _ _ (rw k (call-faults-agree a c y t))
+              (λ o. same-also _ _ _ _
+              (bounds-fault a (unshown-agrees (state-called T h (w .limits) q right t c y) 1 _ (omega arith)
+              (after-fair vars 0 (resultEffect c) (declaredIn store E W) (omega arith) (result-fair c) (declared-fair T h w (W .rows)))
+              ∙ ap (λ (B : List Bounds). unshownIn (byChains q) E (calledState (byChains q) c U) B)
+              (sym (ap (λ (B : List Bounds). boundsAfter (byChains q) (resultEffect c) B) k ∙ e))))
+              (λ u. rest .faults));
+          represents = λ z. rest .represents (no-rest _ _ (no-rest _ _ z));
+        }
+
     block-agrees : (d : ℕ) (b : Block) {U : State History} {W : State FactSet} → Shaped d b → Reads T h b → StateRepresents vars U W → BlockAgrees b U W
     unfolding blockFaults blockAfter
     block-agrees d nil o r t = record { faults = tt; represents = λ z. t }
@@ -401,27 +488,33 @@ module _ (T : List ℤ) (h : Sections) (w : Formed T h) (q : Decider) (right : D
     block-agrees d (bundle a ss u) {U} {W} o r t =
         bundle-agrees a ss u (o .2) (line-agrees 0 (a + 1) ss (declaredIn store E W) (omega (arith, o .2)) (r .1) (declared-fair T h w (W .rows)) t) t
         (λ t′. block-agrees d u (o .3) (r .2) t′)
+    block-agrees d (call a c u) o r t =
+        let y = read-typed T h a (Call c) (r .0) in
+        call-agrees a c u y t (block-agrees d u (o .1) (r .1) (state-called T h (w .limits) q right t c y))
     block-agrees d (unread a) o r t = absurd o
 
 -- ---- the whole table
 
-section-agrees : (T : List ℤ) (h : Sections) (w : Formed T h) (L : List ℤ) (q : Decider) → Decides (variables T h (w .limits)) q
-    → SameFirst (sectionFaults store T h L) (sectionFaults (byChains q) T h L)
+section-agrees : (callees : List Routine) → AllFormed callees → (T : List ℤ) (h : Sections) (w : Formed T h) (L : List ℤ) (q : Decider)
+    → Decides (variables T h (w .limits)) q
+    → SameFirst (sectionFaults store callees T h L) (sectionFaults (byChains q) callees T h L)
 unfolding sectionFaults
-section-agrees T h w L q right =
+section-agrees callees g T h w L q right =
     same-also _ _ _ _ (same-self (layout T h))
     (λ z. same-also _ _ _ _ (same-self (listFaults T h L)) (λ y.
     let l = table-laid T h z in
-    block-agrees T h w q right L (entries-right T h (w .limits) L y) 0 (tree T h) (l .formed) (l .reads) (new-represented (variables T h
-    (w .limits)) q) .faults))
+    block-agrees T h w q right L (entries-right T h (w .limits) L y) callees g 0 (tree T h) (l .formed) (l .reads)
+    (new-represented (variables T h (w .limits)) q) .faults))
 
-pub faults-agree : (T L : List ℤ) (q : Decider) → DecidesTable T q → SameFirst (faults store T L) (faults (byChains q) T L)
+pub faults-agree : (callees : List Routine) → AllFormed callees → (T L : List ℤ) (q : Decider) → DecidesTable T q
+    → SameFirst (faults store callees T L) (faults (byChains q) callees T L)
 unfolding faults
-faults-agree T L q d = go (formOf T) refl
+faults-agree callees g T L q d = go (formOf T) refl
   where
-    go : (f : Form) → formOf T ≡ f → SameFirst (formFaults store T L f) (formFaults (byChains q) T L f)
+    go : (f : Form) → formOf T ≡ f → SameFirst (formFaults store callees T L f) (formFaults (byChains q) callees T L f)
     go (form.Refused r) e = refl
-    go (form.WellFormed h) e = let w = well-formed T h e in section-agrees T h w L q (d h (w .limits) e)
+    go (form.WellFormed h) e = let w = well-formed T h e in section-agrees callees g T h w L q (d h (w .limits) e)
 
-pub verdict-agrees : (T L : List ℤ) (q : Decider) → DecidesTable T q → verdictOf (faults store T L) ≡ verdictOf (faults (byChains q) T L)
-verdict-agrees T L q d = same-verdict (faults store T L) (faults (byChains q) T L) (faults-agree T L q d)
+pub verdict-agrees : (callees : List Routine) → AllFormed callees → (T L : List ℤ) (q : Decider) → DecidesTable T q
+    → verdictOf (faults store callees T L) ≡ verdictOf (faults (byChains q) callees T L)
+verdict-agrees callees g T L q d = same-verdict (faults store callees T L) (faults (byChains q) callees T L) (faults-agree callees g T L q d)

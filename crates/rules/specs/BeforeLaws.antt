@@ -12,8 +12,8 @@ use Rattle.words.specs.Sections.{Limits}
 use Rattle.words.specs.declared.sections.Sections.{Sections}
 use Rattle.statements.specs.StatementLaws.{read-typed}
 use Rattle.statements.specs.declared.Simple.{Simple}
-use Rattle.statements.specs.declared.Statement.the-variants.{Plain, If, While}
-use Rattle.blocks.specs.Tree.{Block, nil, plain, branch, loop, bundle, unread}
+use Rattle.statements.specs.declared.Statement.the-variants.{Plain, If, While, Call}
+use Rattle.blocks.specs.Tree.{Block, nil, plain, branch, loop, bundle, call, unread}
 use Rattle.blocks.specs.Shape.{size, ReadsLine, Reads}
 use Rattle.rules.specs.FactSets.{State}
 use Rattle.rules.specs.Rules.{bundleAfter, blockAfter}
@@ -22,7 +22,7 @@ use Rattle.rules.specs.Verdict.{environmentOf}
 use Rattle.rules.specs.Stored.{store}
 use Rattle.rules.specs.ByChains.{Decider, Decides, byChains, variables}
 use Rattle.rules.specs.ListedLaws.{EntriesRight}
-use Rattle.rules.specs.StateRepresentation.{StateRepresents, either, meets, state-after, state-assumed, state-negated, state-at-head}
+use Rattle.rules.specs.StateRepresentation.{StateRepresents, either, meets, state-after, state-called, state-assumed, state-negated, state-at-head}
 use Rattle.rules.specs.declared.Environment.{Environment}
 
 module _ (T : List ℤ) (h : Sections) (w : Limits h) (L : List ℤ) (listed : (a : ℕ) → EntriesRight T h w (entriesOf L a)) (q : Decider)
@@ -54,6 +54,7 @@ module _ (T : List ℤ) (h : Sections) (w : Limits h) (L : List ℤ) (listed : (
       let s = read-typed T h a (While c (size x)) (r .0) .condition .sides in
       block-represented u (r .2) (state-negated T h w q right (state-at-head T h w q right t (entriesOf L a) (listed a) x (r .1)) c s)
   block-represented (bundle a ss u) r t = block-represented u (r .2) (line-represented (a + 1) ss (r .1) t)
+  block-represented (call a c u) r t = block-represented u (r .1) (state-called T h w q right t c (read-typed T h a (Call c) (r .0)))
   block-represented (unread a) r t = absurd r
 
   -- ---- before a statement
@@ -87,4 +88,6 @@ module _ (T : List ℤ) (h : Sections) (w : Limits h) (L : List ℤ) (listed : (
   before-represented (bundle a ss u) d r t =
       either (eqb d a) t
       (either (ltb d (a + 1 + length ss)) (line-before (a + 1) ss d (r .1) t) (before-represented u d (r .2) (line-represented (a + 1) ss (r .1) t)))
+  before-represented (call a c u) d r t =
+      either (eqb d a) t (before-represented u d (r .1) (state-called T h w q right t c (read-typed T h a (Call c) (r .0))))
   before-represented (unread a) d r t = absurd r

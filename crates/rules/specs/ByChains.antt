@@ -16,6 +16,7 @@ use Rattle.table.specs.Form.{formOf}
 use Rattle.table.specs.declared.Form.the-variants as form
 use Rattle.rules.specs.FactSets.{FactSets}
 use Rattle.rules.specs.BoundsRules.{isPointer}
+use Rattle.rules.specs.Calls.{Routine}
 use Rattle.rules.specs.Verdict.{environmentOf, faults, Says}
 use Rattle.rules.specs.Report.{reportedAt}
 use Rattle.reports.specs.Reports.{reported}
@@ -63,13 +64,14 @@ pub record Decided (T : List ℤ) (P : Decider → Type 0) : Type 0 where
   pub decides : DecidesTable T decider
   pub by-each : (d : Decider) → DecidesTable T d → P d
 
--- All faults of a table and its list of loop facts by the paper's rules, its facts and its chains.
-abbrev pub chainFaults : Decider → List ℤ → List ℤ → List Refusal
+-- All faults of a table and its list of loop facts by the paper's rules, its facts and its chains; `callees` are the routines that it may call.
+abbrev pub chainFaults : Decider → List Routine → List ℤ → List ℤ → List Refusal
 chainFaults d = faults (byChains d)
 
--- THE VERDICT ON A TABLE T with the list L of loop facts (point 9; an empty list: none): that of the first fault.
-unfoldable pub Judged : List ℤ → List ℤ → Verdict → Type 0
-Judged T L v = Decided T (λ d. Says (chainFaults d T L) v)
+-- THE VERDICT ON A TABLE T with the list L of loop facts (point 9; an empty list: none): that of the first fault. "a routine by itself is number 0"
+-- (point 14): it has no callees.
+unfoldable pub Judged : List Routine → List ℤ → List ℤ → Verdict → Type 0
+Judged callees T L v = Decided T (λ d. Says (chainFaults d callees T L) v)
 
 -- THE REPORT ON A TABLE T with the list L (point 9): "exactly the accesses for which the facts before them show" that they are safe; statement d by its bit.
 unfoldable pub Reported : List ℤ → List ℤ → List ℕ → Type 0

@@ -25,6 +25,8 @@ use Rattle.table.specs.declared.Form.{Form}
 use Rattle.table.specs.declared.Form.the-variants as form
 use Rattle.rules.specs.BoundsRules.{isPointer}
 use Rattle.rules.specs.Verdict.{environmentOf, faults, verdictOf, verdictReads, firstReads, Says}
+use Rattle.rules.specs.Calls.{Routine}
+use Rattle.rules.specs.CallLaws.{AllFormed}
 use Rattle.rules.specs.Stored.{store}
 use Rattle.rules.specs.ByChains.{Decider, Decides, variables, DecidesTable, Decided, chainFaults, Judged}
 use Rattle.rules.specs.Agreement.{verdict-agrees}
@@ -89,10 +91,12 @@ says fs v e = record { verdict = e; reads = ap verdictReads e ∙ go fs }
     go (r ∷ rs) = refl
 
 -- The rules over the store give the verdict that the paper gives.
-pub judged : (T L : List ℤ) (v : Verdict) → v ≡ verdictOf (faults store T L) → Judged T L v
+pub judged : (callees : List Routine) → AllFormed callees → (T L : List ℤ) (v : Verdict) → v ≡ verdictOf (faults store callees T L) → Judged callees T L v
 unfolding Judged
-judged T L v e = decided T (λ d. Says (chainFaults d T L) v) (λ d r. says (chainFaults d T L) v (e ∙ verdict-agrees T L d r))
+judged callees g T L v e =
+    decided T (λ d. Says (chainFaults d callees T L) v) (λ d r. says (chainFaults d callees T L) v (e ∙ verdict-agrees callees g T L d r))
 
-pub stored-verdict : (T L : List ℤ) (v : Verdict) → Judged T L v → v ≡ verdictOf (faults store T L)
+pub stored-verdict : (callees : List Routine) → AllFormed callees → (T L : List ℤ) (v : Verdict) → Judged callees T L v
+    → v ≡ verdictOf (faults store callees T L)
 unfolding Judged
-stored-verdict T L v j = let d = decider-decides T in j .by-each (decider T) d .verdict ∙ sym (verdict-agrees T L (decider T) d)
+stored-verdict callees g T L v j = let d = decider-decides T in j .by-each (decider T) d .verdict ∙ sym (verdict-agrees callees g T L (decider T) d)

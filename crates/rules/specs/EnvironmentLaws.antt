@@ -157,6 +157,36 @@ module _ (T : List ℤ) (h : Sections) where
         high-proper = end-proper high few (t .upper);
       }
 
+  -- A pointer's own bounds name variables of the right kinds.
+  pub record OwnEnds (p : ℕ) : Type 0 where
+    pub low : End
+    pub high : End
+    pub size : ℕ
+    pub bounds : declared (environmentOf T h) p ≡ record { size = size; lower = Known low; upper = Known high }
+    pub low-typed : EndTyped T h low
+    pub high-typed : EndTyped T h high
+
+  own-ends-of : (p : ℕ) → p < 16 → pointerAt T h p ≡ true → (x : Variable) → variableAt T h p ≡ Read x → OwnEnds p
+  unfolding rowBound
+  own-ends-of p l k Integer e = absurd (false≢true (sym (integer-no-pointer T h p (variable-read-typed T h p Integer e)) ∙ k))
+  own-ends-of p l k (Pointer s low high) e =
+      let t : PointerTyped T h p s low high = variable-read-typed T h p (Pointer s low high) e in
+      record {
+        low = low;
+        high = high;
+        size = s;
+        bounds = declared-at p l ∙ ap (λ (r : VariableRead). boundsOf r) e;
+        low-typed = t .lower;
+        high-typed = t .upper;
+      }
+
+  pub own-ends : Formed T h → (p : ℕ) → isPointer (environmentOf T h) p ≡ true → OwnEnds p
+  own-ends f p e =
+      let k = pointer-kind p e in
+      let l : p < h .variables = pointer-limits T h p k .1 in
+      let r = f .variables p l in
+      own-ends-of p (omega (arith, f .limits .variables)) k (r .0) (r .1)
+
   row-ends : h .variables ≤ 16 → (p r : ℕ) → r < 64 → (l u : End) → rowAt T h r ≡ row.Read l u
       → Ends (elementSize (environmentOf T h) p) (rowBound (environmentOf T h) (suc r) p)
   row-ends few p r b l u e =

@@ -8,6 +8,11 @@ pub mod Stored
 pub mod FactRules
 pub mod BoundLaws
 pub mod BoundsRules
+pub mod Calls
+pub mod CallLaws
+pub mod Sets
+pub mod PutLaws
+pub mod SetLaws
 pub mod Rules
 pub mod Verdict
 pub mod StateBefore

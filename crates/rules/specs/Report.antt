@@ -7,7 +7,7 @@ use lib.IntN.{ℤ}
 use Rattle.answers.specs.declared.refusals.Refusal.{Refusal}
 use Rattle.words.specs.declared.sections.Sections.{Sections}
 use Rattle.statements.specs.Statements.{statementAt}
-use Rattle.statements.specs.declared.Statement.the-variants.{Plain, If, While, Bundle}
+use Rattle.statements.specs.declared.Statement.the-variants.{Plain, If, While, Bundle, Call}
 use Rattle.statements.specs.declared.StatementRead.{StatementRead}
 use Rattle.statements.specs.declared.StatementRead.the-variants.{Read, Unread}
 use Rattle.table.specs.Form.{sectionsOf}
@@ -32,12 +32,13 @@ module _ (S : FactSets) where
   readSafe E (Read (If c n m)) w = false
   readSafe E (Read (While c n)) w = false
   readSafe E (Read (Bundle n)) w = false
+  readSafe E (Read (Call c)) w = false
   readSafe E Unread w = false
 
   -- Statement d of a table, with the list L of loop facts, is such an access.
   unfoldable pub safeAt : List ℤ → Sections → List ℤ → ℕ → Bool
   safeAt T h L d = readSafe (environmentOf T h) (statementAt T h d) (stateBefore S (environmentOf T h) L (tree T h) (newState S) d)
 
-  -- Whether statement d is reported.
+  -- Whether statement d of a routine by itself is reported.
   unfoldable pub reportedAt : List ℤ → List ℤ → ℕ → Bool
-  reportedAt T L d = reportedIf (faults S T L) (safeAt T (sectionsOf T) L d)
+  reportedAt T L d = reportedIf (faults S [] T L) (safeAt T (sectionsOf T) L d)

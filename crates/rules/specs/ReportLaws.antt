@@ -8,11 +8,11 @@ use Rattle.answers.specs.declared.refusals.Refusal.{Refusal}
 use Rattle.words.specs.declared.sections.Sections.{Sections}
 use Rattle.statements.specs.Statements.{statementAt}
 use Rattle.statements.specs.StatementLaws.{read-typed}
-use Rattle.statements.specs.declared.Statement.the-variants.{Plain, If, While, Bundle}
+use Rattle.statements.specs.declared.Statement.the-variants.{Plain, If, While, Bundle, Call}
 use Rattle.statements.specs.declared.StatementRead.{StatementRead}
 use Rattle.statements.specs.declared.StatementRead.the-variants.{Read, Unread}
 use Rattle.table.specs.Form.{formOf, sectionsOf}
-use Rattle.table.specs.FormLaws.{well-formed}
+use Rattle.table.specs.FormLaws.{well-formed, formed-sections}
 use Rattle.table.specs.declared.Form.the-variants as form
 use Rattle.blocks.specs.Tree.{tree}
 use Rattle.blocks.specs.Layout.{layout}
@@ -27,7 +27,8 @@ use Rattle.rules.specs.Verdict.{environmentOf, faults}
 use Rattle.rules.specs.Stored.{store}
 use Rattle.rules.specs.ByChains.{Decider, byChains, variables, DecidesTable, Reported}
 use Rattle.rules.specs.Decidable.{decided}
-use Rattle.rules.specs.AcceptedLaws.{faults-clear, formed-sections}
+use Rattle.rules.specs.CallLaws.{none-formed}
+use Rattle.rules.specs.AcceptedLaws.{faults-clear}
 use Rattle.rules.specs.ListedLaws.{entries-right}
 use Rattle.rules.specs.StateRepresentation.{new-represented}
 use Rattle.rules.specs.BeforeLaws.{before-represented}
@@ -51,16 +52,17 @@ module _ (T : List ℤ) (h : Sections) (L : List ℤ) (formed : formOf T ≡ for
       go (Read (If c n m)) e = refl
       go (Read (While c n)) e = refl
       go (Read (Bundle n)) e = refl
+      go (Read (Call c)) e = refl
       go Unread e = refl
 
 -- ---- the whole report
 
 module _ (T L : List ℤ) (q : Decider) (decides : DecidesTable T q) (a : ℕ) where
-  same-if : (xs ys : List Refusal) → faults store T L ≡ xs → SameFirst xs ys
+  same-if : (xs ys : List Refusal) → faults store [] T L ≡ xs → SameFirst xs ys
       → reportedIf xs (safeAt store T (sectionsOf T) L a) ≡ reportedIf ys (safeAt (byChains q) T (sectionsOf T) L a)
   unfolding reportedIf
   same-if [] [] e s =
-      let c = faults-clear T L e in
+      let c = faults-clear [] T L e in
       let k : c .0 ≡ sectionsOf T = formed-sections T (c .0) (c .1 .form) in
       rw k at (safe-represented T (c .0) L (c .1 .form) (c .1 .laid) (c .1 .listed) q decides a)
   same-if [] (y ∷ ys) e s = absurd s
@@ -69,7 +71,7 @@ module _ (T L : List ℤ) (q : Decider) (decides : DecidesTable T q) (a : ℕ) w
 
   pub report-agrees : reportedAt store T L a ≡ reportedAt (byChains q) T L a
   unfolding reportedAt
-  report-agrees = same-if (faults store T L) (faults (byChains q) T L) refl (faults-agree T L q decides)
+  report-agrees = same-if (faults store [] T L) (faults (byChains q) [] T L) refl (faults-agree [] none-formed T L q decides)
 
 pub reported-stored : (T L : List ℤ) (ws : List ℕ) → ((a : ℕ) → a < 1024 → reported ws a ≡ reportedAt store T L a) → Reported T L ws
 unfolding Reported

@@ -6,7 +6,7 @@ use mathlib.Core.Logic.{inl, inr, _↔_}
 use mathlib.Core.Bool.{Bool, true, false, _||_, _&&_, false≢true, cond}
 use mathlib.Core.List.{List, [], _∷_, _++_}
 use native.Mathlib.Omega.{arith}
-use borrow.Author.Tests.{eqb-true}
+use borrow.Author.Tests.{eqb-true, eqb-false}
 use lib.Dec.{eqb}
 use lib.IntN.{ℤ}
 use Rattle.sums.specs.Numbers.{bias, maxValue, zeroVar}
@@ -22,21 +22,23 @@ use Rattle.facts.specs.declared.FactSet.{FactSet}
 use Rattle.words.specs.Sections.{pointerAt, Limits}
 use Rattle.words.specs.NameLaws.{integer-no-pointer}
 use Rattle.words.specs.SectionsLaws.{both}
-use Rattle.words.specs.Typed.{IsInteger, IsPointer, IsSmall}
+use Rattle.words.specs.Typed.{IsInteger, IsPointer, IsSmall, IsIndex, missing, given}
 use Rattle.words.specs.declared.sections.Sections.{Sections}
 use Rattle.conditions.specs.Conditions.{negatedOf}
 use Rattle.conditions.specs.Typed.{Sides, integers, pointers, literal, null}
 use Rattle.conditions.specs.declared.Condition.{Condition}
 use Rattle.statements.specs.StatementLaws.{read-typed}
-use Rattle.statements.specs.Typed.{SimpleTyped}
+use Rattle.statements.specs.Typed.{SimpleTyped, CallTyped}
+use Rattle.statements.specs.declared.CallSite.{CallSite}
 use Rattle.statements.specs.declared.Simple.{Simple}
 use Rattle.statements.specs.declared.Simple.the-variants.{Literal, AddConstant, Arithmetic, Null, Address}
 use Rattle.statements.specs.declared.Simple.the-variants.{PointerOffset, PointerIndex, Load, Store, Check, Declare}
-use Rattle.statements.specs.declared.Statement.the-variants.{Plain}
-use Rattle.blocks.specs.Tree.{Block, nil, plain, branch, loop, bundle, unread, target, targets, assigned}
+use Rattle.statements.specs.declared.Statement.the-variants.{Plain, Call}
+use Rattle.blocks.specs.Tree.{Block, nil, plain, branch, loop, bundle, call, unread, target, targets, callTarget, assigned}
 use Rattle.blocks.specs.Shape.{ReadsLine, Reads}
 use Rattle.rules.specs.FactRules.{among, inRange, equated, positive, differs, relationFacts, conditionFacts}
 use Rattle.rules.specs.FactRules.{sumFacts, offsetFacts, factsAfter, droppedEach, loopFacts}
+use Rattle.rules.specs.Calls.{resultFacts}
 use Rattle.rules.specs.Stored.{store}
 use Rattle.rules.specs.ByChains.{Decider, Decides, byChains, variables}
 use Rattle.rules.specs.Verdict.{environmentOf}
@@ -250,6 +252,14 @@ module _ (T : List ℤ) (h : Sections) (w : Limits h) where
   target-below v (Check c) s e = none e
   target-below v (Declare p r) s e = none e
 
+  result-below : (v : ℕ) (c : CallSite) → CallTyped T h c → among v (callTarget c) ≡ true → v < h .variables
+  result-below v c t e = go (eqb (c .result) zeroVar) refl e (t .result)
+    where
+      go : (b : Bool) → eqb (c .result) zeroVar ≡ b → among v (cond b [] (c .result ∷ [])) ≡ true → IsIndex T h (c .result) → v < h .variables
+      go true q e i = none e
+      go false q e (missing m) = absurd (eqb-false _ _ q m)
+      go false q e (given i) = one (i .below) e
+
   line-below : (v a : ℕ) (ss : List Simple) → ReadsLine T h a ss → among v (targets ss) ≡ true → v < h .variables
   unfolding targets
   line-below v a [] r e = none e
@@ -266,6 +276,8 @@ module _ (T : List ℤ) (h : Sections) (w : Limits h) where
       (both-below (assigned y) (assigned u) (assigned-below v y (r .2)) (assigned-below v u (r .3))) e
   assigned-below v (loop a c x u) r e = both-below (assigned x) (assigned u) (assigned-below v x (r .1)) (assigned-below v u (r .2)) e
   assigned-below v (bundle a ss u) r e = both-below (targets ss) (assigned u) (line-below v (a + 1) ss (r .1)) (assigned-below v u (r .2)) e
+  assigned-below v (call a c u) r e =
+      both-below (callTarget c) (assigned u) (result-below v c (read-typed T h a (Call c) (r .0))) (assigned-below v u (r .1)) e
   assigned-below v (unread a) r e = absurd r
 
   -- ---- conditions and statements
@@ -305,6 +317,17 @@ module _ (T : List ℤ) (h : Sections) (w : Limits h) where
     after-represented t (Store p i k x) s = t
     after-represented t (Check d) s = condition-represented t d (s .sides)
     after-represented t (Declare p r) s = t
+
+    pub result-represented : {H : History} {f : FactSet} → Represents vars H f → (c : CallSite) → CallTyped T h c
+        → Represents vars (resultFacts (byChains q) c H) (resultFacts store c f)
+    unfolding resultFacts
+    result-represented {H} {f} t c y = go (eqb (c .result) zeroVar) refl (y .result)
+      where
+        go : (b : Bool) → eqb (c .result) zeroVar ≡ b → IsIndex T h (c .result)
+            → Represents vars (cond b H (drop H (c .result))) (cond b f (dropped f (c .result)))
+        go true e i = t
+        go false e (missing m) = absurd (eqb-false _ _ e m)
+        go false e (given i) = represents-drop vars t (c .result) (i .below)
 
     pub body-represented : {H : History} {f : FactSet} → Represents vars H f → (b : Block) → Reads T h b
         → Represents vars (loopFacts (byChains q) (assigned b) H) (loopFacts store (assigned b) f)

@@ -24,6 +24,7 @@ use Rattle.listed.specs.Entries.{entryAt, belongs, entriesFrom, entriesOf}
 use Rattle.listed.specs.ListForm.{lowestEntry, listFaults}
 use Rattle.blocks.specs.Tree.{simples, parse, tree, targets, assigned}
 use Rattle.rules.specs.BoundsRules.{forgetEnd, forgetBounds, objectBounds, rowBound, rowsAfter, weight, upperLimit}
+use Rattle.rules.specs.CallLaws.{none-formed}
 use Rattle.rules.specs.Stored.{effect, endAtMost, knownAtMost, boundsShown, unshownFrom, unshown, accessShown, equated, positive, differs}
 use Rattle.rules.specs.Stored.{relationFacts, conditionFacts, sumFacts, offsetFacts, factsAfter, droppedEach, loopFacts, bundleBounds, bundleFaults}
 use Rattle.rules.specs.Stored.{blockFaults, sectionFaults, faults, shiftConstant, shiftEnd, shiftBounds, effectOn, boundsAfter, bundleAfter, blockAfter}
@@ -148,7 +149,7 @@ routines =
     (Accepted) ∷
     []
 
-computed : map (λ (r : Routine). verdictOf (faults (r .table) [])) routines ≡ map (λ (r : Routine). r .verdict) routines
+computed : map (λ (r : Routine). verdictOf (faults [] (r .table) [])) routines ≡ map (λ (r : Routine). r .verdict) routines
 unfolding routines concatenated leastSum shown withinEnd endShown newRow newSet loweredRow lowered marked added ownRow reroutedRow reassigned ranged dropped
     shifted joinedSum joinedRow joined tabulate lengthRight isNumber fourPairs sectionsOf fourthRight directoryRight objectRight variableReads rowReads
     statementReads lowestFrom lowestObject lowestVariable lowestRow lowestStatement itemsForm formOf negation negatedOf startRight inLimits isVariable kindOf
@@ -168,14 +169,14 @@ computed = refl
 -- By the paper's chains, the rules give each routine its verdict.
 abbrev pub Given : List Routine → Type 0
 Given [] = Unit {0}
-Given (r ∷ rs) = Decided (r .table) (λ d. verdictOf (chainFaults d (r .table) []) ≡ r .verdict) × Given rs
+Given (r ∷ rs) = Decided (r .table) (λ d. verdictOf (chainFaults d [] (r .table) []) ≡ r .verdict) × Given rs
 
-given : (rs : List Routine) → map (λ (r : Routine). verdictOf (faults (r .table) [])) rs ≡ map (λ (r : Routine). r .verdict) rs → Given rs
+given : (rs : List Routine) → map (λ (r : Routine). verdictOf (faults [] (r .table) [])) rs ≡ map (λ (r : Routine). r .verdict) rs → Given rs
 given [] e = tt
 given (r ∷ rs) e =
-    let e₁ : verdictOf (faults (r .table) []) ≡ r .verdict = cc in
-    let e₂ : map (λ (r : Routine). verdictOf (faults (r .table) [])) rs ≡ map (λ (r : Routine). r .verdict) rs = cc in
-    (decided _ _ (λ d c. sym (verdict-agrees (r .table) [] d c) ∙ e₁), given rs e₂)
+    let e₁ : verdictOf (faults [] (r .table) []) ≡ r .verdict = cc in
+    let e₂ : map (λ (r : Routine). verdictOf (faults [] (r .table) [])) rs ≡ map (λ (r : Routine). r .verdict) rs = cc in
+    (decided _ _ (λ d c. sym (verdict-agrees [] none-formed (r .table) [] d c) ∙ e₁), given rs e₂)
 
 pub right : Given routines
 right = given routines computed

@@ -8,14 +8,16 @@ use Rattle.answers.specs.declared.refusals.Refusal.{Refusal}
 use Rattle.answers.specs.declared.refusals.Refusal.the-variants.{StatementRecord, BoundsNotShown, BundleAccess, RowsDiffer, LoopFact}
 use Rattle.conditions.specs.Conditions.{negatedOf}
 use Rattle.conditions.specs.declared.Condition.{Condition}
+use Rattle.statements.specs.declared.CallSite.{CallSite}
 use Rattle.statements.specs.declared.Simple.{Simple}
-use Rattle.blocks.specs.Tree.{Block, nil, plain, branch, loop, bundle, unread, assigned}
+use Rattle.blocks.specs.Tree.{Block, nil, plain, branch, loop, bundle, call, unread, assigned}
 use Rattle.blocks.specs.Layout.{also, when}
 use Rattle.listed.specs.Entries.{entriesOf}
 use Rattle.listed.specs.declared.Entry.{Entry}
 use Rattle.rules.specs.FactSets.{FactSets, State}
 use Rattle.rules.specs.FactRules.{factsAfter, conditionFacts, loopFacts, entryFacts}
 use Rattle.rules.specs.BoundsRules.{isPointer, effect, boundsAfter, unshown, accessShown, accessSafe, ownRows, inForce, rowsAfter, rowUnshown}
+use Rattle.rules.specs.Calls.{Routine, resultFacts, resultEffect, callFaults}
 use Rattle.rules.specs.declared.Bounds.{Bounds}
 use Rattle.rules.specs.declared.Environment.{Environment}
 
@@ -59,6 +61,10 @@ module _ (S : FactSets) where
   -- What a statement of kinds 1 to 10 and 14 leaves.
   abbrev pub stateAfter : Simple → State Facts → State Facts
   stateAfter s w = record { facts = factsAfter S s (w .facts); rows = rowsAfter s (w .rows) }
+
+  -- Point 14: what a call leaves: its result is set.
+  abbrev pub calledState : CallSite → State Facts → State Facts
+  calledState c w = record { facts = resultFacts S c (w .facts); rows = w .rows }
 
   -- Where a condition holds.
   abbrev pub assumed : State Facts → Condition → State Facts
@@ -117,30 +123,37 @@ module _ (S : FactSets) where
     blockAfter (branch a c t e r) w = blockAfter r (sidesJoined E (blockAfter t (assumed w c)) (blockAfter e (assumed w (negatedOf c))))
     blockAfter (loop a c t r) w = blockAfter r (assumed (atHead (entriesOf L a) (assigned t) w) (negatedOf c))
     blockAfter (bundle a ss r) w = blockAfter r (bundleAfter ss w)
+    blockAfter (call a c r) w = blockAfter r (calledState c w)
     blockAfter (unread a) w = w
 
     -- The faults of a block, "statements in table order": 9, then the statement, then 8. Point 11: "A statement whose facts contradict is now walked like any
     -- other, with every fact shown." Point 2: "13 comes after all inside the blocks". Point 9: an entry "not shown before the loop (found before the body) or
     -- at the body's end (before 13)".
-    unfoldable pub blockFaults : Block → State Facts → List Refusal
-    blockFaults nil w = []
-    blockFaults (plain a s r) w =
-        also (boundsAt a (rowUnshown S E (w .facts) (declaredIn E w) s))
-        (also (boundsAt a (unshownIn E (stateAfter s w) (boundsAfter S (effect S E (w .facts) s) (declaredIn E w))))
-        (blockFaults r (stateAfter s w)))
-    blockFaults (branch a c t e r) w =
-        also (blockFaults t (assumed w c))
-        (also (blockFaults e (assumed w (negatedOf c)))
-        (also (rowsAt a (blockAfter t (assumed w c) .rows) (blockAfter e (assumed w (negatedOf c)) .rows))
-        (blockFaults r (sidesJoined E (blockAfter t (assumed w c)) (blockAfter e (assumed w (negatedOf c)))))))
-    blockFaults (loop a c t r) w =
-        also (entriesUnshown (entriesOf L a) (w .facts))
-        (also (blockFaults t (assumed (atHead (entriesOf L a) (assigned t) w) c))
-        (also (entriesUnshown (entriesOf L a) (blockAfter t (assumed (atHead (entriesOf L a) (assigned t) w) c) .facts))
-        (also (rowsAt a (w .rows) (blockAfter t (assumed (atHead (entriesOf L a) (assigned t) w) c) .rows))
-        (blockFaults r (assumed (atHead (entriesOf L a) (assigned t) w) (negatedOf c))))))
-    blockFaults (bundle a ss r) w =
-        also (bundleFaults E (a + 1) ss w (declaredIn E w))
-        (also (boundsAt a (unshownIn E (bundleAfter ss w) (bundleBounds E ss w (declaredIn E w))))
-        (blockFaults r (bundleAfter ss w)))
-    blockFaults (unread a) w = StatementRecord a ∷ []
+    -- `callees` are the routines that it may call, those with a number below its own. Point 14: 19 and 20 "come just before the call's own 8, 19 first".
+    module _ (callees : List Routine) where
+      unfoldable pub blockFaults : Block → State Facts → List Refusal
+      blockFaults nil w = []
+      blockFaults (plain a s r) w =
+          also (boundsAt a (rowUnshown S E (w .facts) (declaredIn E w) s))
+          (also (boundsAt a (unshownIn E (stateAfter s w) (boundsAfter S (effect S E (w .facts) s) (declaredIn E w))))
+          (blockFaults r (stateAfter s w)))
+      blockFaults (branch a c t e r) w =
+          also (blockFaults t (assumed w c))
+          (also (blockFaults e (assumed w (negatedOf c)))
+          (also (rowsAt a (blockAfter t (assumed w c) .rows) (blockAfter e (assumed w (negatedOf c)) .rows))
+          (blockFaults r (sidesJoined E (blockAfter t (assumed w c)) (blockAfter e (assumed w (negatedOf c)))))))
+      blockFaults (loop a c t r) w =
+          also (entriesUnshown (entriesOf L a) (w .facts))
+          (also (blockFaults t (assumed (atHead (entriesOf L a) (assigned t) w) c))
+          (also (entriesUnshown (entriesOf L a) (blockAfter t (assumed (atHead (entriesOf L a) (assigned t) w) c) .facts))
+          (also (rowsAt a (w .rows) (blockAfter t (assumed (atHead (entriesOf L a) (assigned t) w) c) .rows))
+          (blockFaults r (assumed (atHead (entriesOf L a) (assigned t) w) (negatedOf c))))))
+      blockFaults (bundle a ss r) w =
+          also (bundleFaults E (a + 1) ss w (declaredIn E w))
+          (also (boundsAt a (unshownIn E (bundleAfter ss w) (bundleBounds E ss w (declaredIn E w))))
+          (blockFaults r (bundleAfter ss w)))
+      blockFaults (call a c r) w =
+          also (callFaults S callees E a c (w .facts) (declaredIn E w))
+          (also (boundsAt a (unshownIn E (calledState c w) (boundsAfter S (resultEffect c) (declaredIn E w))))
+          (blockFaults r (calledState c w)))
+      blockFaults (unread a) w = StatementRecord a ∷ []

@@ -7,11 +7,11 @@ use lib.IntN.{ℤ}
 use lib.ListN.{length}
 use Rattle.conditions.specs.Conditions.{negatedOf}
 use Rattle.statements.specs.declared.Simple.{Simple}
-use Rattle.blocks.specs.Tree.{Block, nil, plain, branch, loop, bundle, unread, assigned}
+use Rattle.blocks.specs.Tree.{Block, nil, plain, branch, loop, bundle, call, unread, assigned}
 use Rattle.blocks.specs.Shape.{size}
 use Rattle.listed.specs.Entries.{entriesOf}
 use Rattle.rules.specs.FactSets.{FactSets, State}
-use Rattle.rules.specs.Rules.{stateAfter, assumed, atHead, bundleAfter, sidesJoined, blockAfter}
+use Rattle.rules.specs.Rules.{stateAfter, calledState, assumed, atHead, bundleAfter, sidesJoined, blockAfter}
 use Rattle.rules.specs.declared.Environment.{Environment}
 
 module _ (S : FactSets) where
@@ -38,4 +38,5 @@ module _ (S : FactSets) where
         (stateBefore r (assumed S (atHead S (entriesOf L a) (assigned t) w) (negatedOf c)) d))
     stateBefore (bundle a ss r) w d =
         cond (eqb d a) w (cond (ltb d (a + 1 + length ss)) (lineBefore (a + 1) ss w d) (stateBefore r (bundleAfter S ss w) d))
+    stateBefore (call a c r) w d = cond (eqb d a) w (stateBefore r (calledState S c w) d)
     stateBefore (unread a) w d = w

@@ -11,19 +11,20 @@ use Rattle.words.specs.declared.sections.Sections.{Sections}
 use Rattle.conditions.specs.Conditions.{negatedOf}
 use Rattle.conditions.specs.Typed.{Sides}
 use Rattle.conditions.specs.declared.Condition.{Condition}
-use Rattle.statements.specs.Typed.{SimpleTyped}
+use Rattle.statements.specs.Typed.{SimpleTyped, CallTyped}
+use Rattle.statements.specs.declared.CallSite.{CallSite}
 use Rattle.statements.specs.declared.Simple.{Simple}
 use Rattle.blocks.specs.Tree.{Block, assigned}
 use Rattle.blocks.specs.Shape.{Reads}
 use Rattle.listed.specs.declared.Entry.{Entry}
 use Rattle.rules.specs.FactSets.{State}
 use Rattle.rules.specs.BoundsRules.{rowsAfter}
-use Rattle.rules.specs.Rules.{newState, stateAfter, assumed, atHead, sidesJoined}
+use Rattle.rules.specs.Rules.{newState, stateAfter, calledState, assumed, atHead, sidesJoined}
 use Rattle.rules.specs.Verdict.{environmentOf}
 use Rattle.rules.specs.Stored.{store}
 use Rattle.rules.specs.ByChains.{Decider, Decides, byChains, variables}
 use Rattle.rules.specs.Representation.{Represents, represents-new, represents-join, condition-represented}
-use Rattle.rules.specs.Representation.{negated-represented, after-represented, body-represented}
+use Rattle.rules.specs.Representation.{negated-represented, after-represented, result-represented, body-represented}
 use Rattle.rules.specs.ListedLaws.{EntriesRight, entries-represented}
 
 pub record StateRepresents (vars : Variables) (U : State History) (W : State FactSet) : Type 0 where
@@ -49,6 +50,9 @@ module _ (T : List ℤ) (h : Sections) (w : Limits h) (q : Decider) (right : Dec
   module _ {U : State History} {W : State FactSet} (t : StateRepresents vars U W) where
     pub state-after : (s : Simple) → SimpleTyped T h s → StateRepresents vars (stateAfter (byChains q) s U) (stateAfter store s W)
     state-after s y = record { represents = after-represented T h w q right (t .represents) s y; rows = ap (rowsAfter s) (t .rows) }
+
+    pub state-called : (c : CallSite) → CallTyped T h c → StateRepresents vars (calledState (byChains q) c U) (calledState store c W)
+    state-called c y = record { represents = result-represented T h w q right (t .represents) c y; rows = t .rows }
 
     pub state-assumed : (c : Condition) → Sides T h (c .left) (c .right) (c .offset) → StateRepresents vars (assumed (byChains q) U c) (assumed store W c)
     state-assumed c s = record { represents = condition-represented T h w q right (t .represents) c s; rows = t .rows }

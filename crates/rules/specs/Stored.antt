@@ -10,6 +10,7 @@ use Rattle.facts.specs.declared.FactSet.{FactSet}
 use Rattle.answers.specs.declared.refusals.Refusal.{Refusal}
 use Rattle.words.specs.declared.sections.Sections.{Sections}
 use Rattle.conditions.specs.declared.Condition.{Condition}
+use Rattle.statements.specs.declared.CallSite.{CallSite}
 use Rattle.statements.specs.declared.Simple.{Simple}
 use Rattle.table.specs.declared.variables.End.{End}
 use Rattle.table.specs.declared.Form.{Form}
@@ -19,6 +20,8 @@ use Rattle.rules.specs.FactSets.{FactSets, State}
 use Rattle.rules.specs.FactRules as facts
 use Rattle.rules.specs.BoundsRules as bounds
 use Rattle.rules.specs.Rules as walk
+use Rattle.rules.specs.Calls as calls
+use Rattle.rules.specs.Calls.{Routine}
 use Rattle.rules.specs.Verdict as verdict
 use Rattle.rules.specs.declared.KnownEnd.{KnownEnd}
 use Rattle.rules.specs.declared.KnownEnd.the-variants.{Known, Unknown}
@@ -140,6 +143,12 @@ newState = walk.newState store
 abbrev pub stateAfter : Simple → State FactSet → State FactSet
 stateAfter = walk.stateAfter store
 
+abbrev pub calledState : CallSite → State FactSet → State FactSet
+calledState = walk.calledState store
+
+abbrev pub callFaults : List Routine → Environment → ℕ → CallSite → FactSet → List Bounds → List Refusal
+callFaults = calls.callFaults store
+
 abbrev pub assumed : State FactSet → Condition → State FactSet
 assumed = walk.assumed store
 
@@ -173,16 +182,16 @@ sidesJoined = walk.sidesJoined store
 abbrev pub blockAfter : Environment → List ℤ → Block → State FactSet → State FactSet
 blockAfter = walk.blockAfter store
 
-abbrev pub blockFaults : Environment → List ℤ → Block → State FactSet → List Refusal
+abbrev pub blockFaults : Environment → List ℤ → List Routine → Block → State FactSet → List Refusal
 blockFaults = walk.blockFaults store
 
 -- ---- the verdict
 
-abbrev pub sectionFaults : List ℤ → Sections → List ℤ → List Refusal
+abbrev pub sectionFaults : List Routine → List ℤ → Sections → List ℤ → List Refusal
 sectionFaults = verdict.sectionFaults store
 
-abbrev pub formFaults : List ℤ → List ℤ → Form → List Refusal
+abbrev pub formFaults : List Routine → List ℤ → List ℤ → Form → List Refusal
 formFaults = verdict.formFaults store
 
-abbrev pub faults : List ℤ → List ℤ → List Refusal
+abbrev pub faults : List Routine → List ℤ → List ℤ → List Refusal
 faults = verdict.faults store

@@ -22,6 +22,7 @@ use Rattle.listed.specs.ListForm.{listFaults}
 use Rattle.rules.specs.FactSets.{FactSets}
 use Rattle.rules.specs.BoundsRules.{nothingKnown, upperLimit}
 use Rattle.rules.specs.Rules.{newState, blockFaults}
+use Rattle.rules.specs.Calls.{Routine}
 use Rattle.rules.specs.declared.KnownEnd.the-variants.{Known}
 use Rattle.rules.specs.declared.Bounds.{Bounds}
 use Rattle.rules.specs.declared.Environment.{Environment}
@@ -63,10 +64,10 @@ environmentOf T h =
 
 -- ---- the verdict
 
-module _ (S : FactSets) where
+module _ (S : FactSets) (callees : List Routine) where
   -- Cause 6, then the form of the list L of loop facts (point 9: "found after 6, before the walk"), then the walk.
   unfoldable pub sectionFaults : List ℤ → Sections → List ℤ → List Refusal
-  sectionFaults T h L = also (layout T h) (also (listFaults T h L) (blockFaults S (environmentOf T h) L (tree T h) (newState S)))
+  sectionFaults T h L = also (layout T h) (also (listFaults T h L) (blockFaults S (environmentOf T h) L callees (tree T h) (newState S)))
 
   -- The first of the causes 1 to 5, else what follows them.
   abbrev pub formFaults : List ℤ → List ℤ → Form → List Refusal

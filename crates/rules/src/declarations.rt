@@ -91,7 +91,7 @@ pub fn read_pointers(table: &[i32], sections: Sections) -> [bool; 17]
     pointers
 }
 
-fn read_strings(table: &[i32], sections: Sections) -> [bool; 17]
+pub fn read_strings(table: &[i32], sections: Sections) -> [bool; 17]
     ensures { λ r. ⌜ r ≡ tabulate 17 (stringAt (now (table .entry)) sections) ⌝ }
 {
     let mut strings = [false; 17];
@@ -101,7 +101,7 @@ fn read_strings(table: &[i32], sections: Sections) -> [bool; 17]
     strings
 }
 
-fn read_declared(table: &[i32], sections: Sections) -> [Bounds; 16]
+pub fn read_declared(table: &[i32], sections: Sections) -> [Bounds; 16]
     ensures { λ r. ⌜ r ≡ tabulate 16 (λ v. boundsOf (variableAt (now (table .entry)) sections v)) ⌝ }
 {
     let unknown = Bounds {

@@ -4,10 +4,12 @@ mod declarations; // declarations.rt: what a table declares
 pub mod lookups; // lookups.rt: what is declared of a variable or an object by its number; of a number that has none, what the definitions say
 
 pub use bound::read_bound;
+pub use declarations::read_declared;
 pub use declarations::read_environment;
 pub use declarations::read_pointers;
 pub use declarations::read_sizes;
 pub use declarations::read_spans;
+pub use declarations::read_strings;
 pub use declarations::upper_limit;
 use table::variables::End;
 
@@ -62,4 +64,13 @@ pub enum Effect {
 pub enum Verdict {
     Accepted,
     Refused(answers::refusals::Refusal),
+}
+
+// The verdict on a set: which routine is refused, and why.
+pub enum SetVerdict {
+    Accepted,
+    Refused {
+        routine: usize,
+        refusal: answers::refusals::Refusal,
+    },
 }

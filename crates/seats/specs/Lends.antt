@@ -6,7 +6,8 @@ use lib.ListN.{length}
 use Rattle.words.specs.declared.sections.Sections.{Sections}
 use Rattle.table.specs.Form.{sectionsOf}
 use Rattle.interpreter.specs.Claim.{Lent}
-use Rattle.seats.specs.Parts.{tableKind, listedKind, directoryKind, valuesKind, originsKind, partOf}
+use Rattle.parts.specs.Parts.{partOf}
+use Rattle.seats.specs.Parts.{kinds, tableKind, listedKind, directoryKind, valuesKind, originsKind}
 
 -- "1 to 8 accepted routines with separate values and one lent memory": the parts of all routines one after the other, and five lengths a routine.
 pub record Lends : Type 0 where
@@ -22,12 +23,12 @@ pub record Lends : Type 0 where
 -- What routine r is lent: its parts, and the one memory.
 abbrev pub lentTo : Lends → ℕ → Lent
 lentTo l r = record {
-  table = partOf (l .lengths) tableKind r (l .tables);
-  listed = partOf (l .lengths) listedKind r (l .listed);
-  directory = partOf (l .lengths) directoryKind r (l .directories);
+  table = partOf (l .lengths) kinds tableKind r (l .tables);
+  listed = partOf (l .lengths) kinds listedKind r (l .listed);
+  directory = partOf (l .lengths) kinds directoryKind r (l .directories);
   cells = l .cells;
-  values = partOf (l .lengths) valuesKind r (l .values);
-  origins = partOf (l .lengths) originsKind r (l .origins);
+  values = partOf (l .lengths) kinds valuesKind r (l .values);
+  origins = partOf (l .lengths) kinds originsKind r (l .origins);
 }
 
 abbrev pub sectionsAt : Lends → ℕ → Sections

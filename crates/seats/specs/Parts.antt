@@ -1,9 +1,9 @@
--- Where each routine's part lies in the slices that are lent: the routines' parts one after the other, with a slice of lengths, five a routine.
-use Prim.Native.Nat.{ℕ, zero, suc, _+_, _-_, _*_, min}
+-- The parts of a routine that is served: five lengths a routine say where they lie (parts/Parts).
+use Prim.Native.Nat.{ℕ}
 use mathlib.Core.List.{List}
 use mathlib.Core.Path.{_≡_}
-use lib.ListN.{length, take, drop, getD}
-use Rattle.seats.specs.declared.Span.{Span}
+use lib.ListN.{length, take, drop}
+use Rattle.parts.specs.Parts.{window}
 
 -- The kinds of parts, in the order of their lengths: table, list of loop facts (point 9), directory, values, origins.
 abbrev pub kinds : ℕ
@@ -23,30 +23,6 @@ valuesKind = 3
 
 abbrev pub originsKind : ℕ
 originsKind = 4
-
-module _ (lengths : List ℕ) (kind : ℕ) where
-  unfoldable pub lengthAt : ℕ → ℕ
-  lengthAt r = getD lengths (5 * r + kind) 0
-
-  -- Where routine r's part begins: behind those of the routines before it.
-  unfoldable pub startAt : ℕ → ℕ
-  startAt zero = 0
-  startAt (suc r) = startAt r + lengthAt r
-
--- The elements from `start` on, `count` of them; "a part that reaches past its slice is cut there".
-abbrev pub window : {A : Type 0} → ℕ → ℕ → List A → List A
-window start count xs = take count (drop start xs)
-
--- The part of routine r.
-abbrev pub partOf : {A : Type 0} → List ℕ → ℕ → ℕ → List A → List A
-partOf lengths kind r xs = window (startAt lengths kind r) (lengthAt lengths kind r) xs
-
--- The same as a span of a slice of n elements.
-abbrev pub spanOf : List ℕ → ℕ → ℕ → ℕ → Span
-spanOf lengths kind r n = record { start = min (startAt lengths kind r) n; end = min (startAt lengths kind r + lengthAt lengths kind r) n }
-
-abbrev pub between : {A : Type 0} → Span → List A → List A
-between s xs = window (s .start) (s .end - s .start) xs
 
 -- A list whose elements a to e - 1 were replaced by others, as many.
 pub record Replaced {A : Type 0} (a e : ℕ) (xs new zs : List A) : Type 0 where

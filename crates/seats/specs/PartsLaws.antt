@@ -1,4 +1,4 @@
--- Laws of parts: what is cut, and what a turn that replaces one part leaves of the others.
+-- Laws of parts: what a turn that replaces one part leaves of the others.
 use Prim.Native.Nat.{ℕ, zero, suc, _+_, _-_, _*_, _^_, _≤_, _<_, min}
 use mathlib.Core.Path.{_≡_, refl, sym, ap, ap₂, _∙_}
 use mathlib.Core.List.{List, [], _∷_, _++_}
@@ -9,36 +9,10 @@ use lib.ListN.{length, take, drop, getD, length-take, length-drop, drop-of-lengt
 use lib.Seq.{take-all, take-nil, take-take, drop-drop, take-at, drop-at, length-take-le}
 use borrow.Rule.Slice.PartMut.{putMid, take-put, drop-put, same-len-mid, mid-len}
 use Rattle.turns.specs.TurnsLaws.{by-order}
-use Rattle.seats.specs.Parts.{lengthAt, startAt, window, partOf, spanOf, between, Replaced}
-use Rattle.seats.specs.declared.Span.{Span}
+use Rattle.parts.specs.Parts.{lengthAt, startAt, window, partOf}
+use Rattle.seats.specs.Parts.{Replaced}
 
 module _ {A : Type 0} where
-  -- A window is cut at the end of its list.
-  pub cut-window : (s l : ℕ) (xs : List A) → window (min s (length xs)) (min (s + l) (length xs) - min s (length xs)) xs ≡ window s l xs
-  cut-window s l xs = by-order (length xs) s past within
-    where
-      past : length xs < s → window (min s (length xs)) (min (s + l) (length xs) - min s (length xs)) xs ≡ window s l xs
-      past u =
-          let a : min s (length xs) ≡ length xs = omega arith in
-          let e : drop s xs ≡ [] = drop-of-length-le xs {i = s} (omega arith) in
-          let f : drop (length xs) xs ≡ [] = drop-of-length-le xs {i = length xs} (omega arith) in
-          rw (a, e, f) (take-nil (min (s + l) (length xs) - length xs) ∙ sym (take-nil l))
-
-      within : s ≤ length xs → window (min s (length xs)) (min (s + l) (length xs) - min s (length xs)) xs ≡ window s l xs
-      within u = by-order (length xs) (s + l) long short
-        where
-          a : min s (length xs) ≡ s
-          a = omega arith
-
-          long : length xs < s + l → window (min s (length xs)) (min (s + l) (length xs) - min s (length xs)) xs ≡ window s l xs
-          long v =
-              let n : min (s + l) (length xs) - s ≡ length xs - s = omega arith in
-              rw (a, n) (take-all (length xs - s) (drop s xs) (omega (arith, length-drop s xs))
-              ∙ sym (take-all l (drop s xs) (omega (arith, length-drop s xs))))
-
-          short : s + l ≤ length xs → window (min s (length xs)) (min (s + l) (length xs) - min s (length xs)) xs ≡ window s l xs
-          short v = let n : min (s + l) (length xs) - s ≡ l = omega arith in rw (a, n)
-
   window-front : (b m : ℕ) (xs : List A) → window b m xs ≡ drop b (take (b + m) xs)
   window-front zero m xs = let q : 0 + m ≡ m = omega arith in rw q
   window-front (suc b) m [] = take-nil m ∙ sym (ap (drop (suc b)) (take-nil (suc b + m)))
@@ -69,54 +43,29 @@ module _ {A : Type 0} where
 
 -- ---- the parts of routines
 
-abbrev span : ℕ → ℕ → Span
-span a b = record { start = a; end = b }
-
-module _ (L : List ℕ) (kind : ℕ) where
-  pub length-at : (r n : ℕ) → n ≡ getD L (5 * r + kind) 0 → n ≡ lengthAt L kind r
-  unfolding lengthAt
-  length-at r n e = e
-
-  pub start-none : 0 ≡ startAt L kind 0
+module _ (L : List ℕ) (kinds kind : ℕ) where
+  pub starts-apart : (r d : ℕ) → startAt L kinds kind r + lengthAt L kinds kind r ≤ startAt L kinds kind (r + suc d)
   unfolding startAt
-  start-none = refl
+  starts-apart r zero = let q : r + 1 ≡ suc r = omega arith in omega (arith, ap (startAt L kinds kind) q)
+  starts-apart r (suc d) = let q : r + suc (suc d) ≡ suc (r + suc d) = omega arith in omega (arith, ap (startAt L kinds kind) q, starts-apart r d)
 
-  pub start-more : (r s n : ℕ) → s ≡ startAt L kind r → n ≡ lengthAt L kind r → s + n ≡ startAt L kind (r + 1)
-  unfolding startAt
-  start-more r s n e f = rw (add-one r, e, f)
-
-  pub start-end : (i r s : ℕ) → s ≡ startAt L kind i → i ≤ r → r ≤ i → s ≡ startAt L kind r
-  start-end i r s e a b = let q : i ≡ r = omega arith in e ∙ ap (startAt L kind) q
-
-  pub span-made : (r n s e a b : ℕ) → s ≡ startAt L kind r → e ≡ lengthAt L kind r → a ≡ min s n → b ≡ min (s + e) n
-      → _≡_ {A = Span} (record { start = a; end = b }) (spanOf L kind r n)
-  span-made r n s e a b f g x y = ap₂ span (x ∙ ap (λ (m : ℕ). min m n) f) (y ∙ rw (f, g))
-
-  pub span-within : (r n s e a b : ℕ) → s ≤ 2 ^ 36 → a ≡ min s n → b ≡ min (s + e) n → (a ≤ b) × (b ≤ n) × (a ≤ 2 ^ 36)
-  span-within r n s e a b z x y = (omega arith, omega arith, omega arith)
-
-  pub starts-apart : (r d : ℕ) → startAt L kind r + lengthAt L kind r ≤ startAt L kind (r + suc d)
-  unfolding startAt
-  starts-apart r zero = let q : r + 1 ≡ suc r = omega arith in omega (arith, ap (startAt L kind) q)
-  starts-apart r (suc d) = let q : r + suc (suc d) ≡ suc (r + suc d) = omega arith in omega (arith, ap (startAt L kind) q, starts-apart r d)
-
-  pub starts-order : (r k : ℕ) → r < k → startAt L kind r + lengthAt L kind r ≤ startAt L kind k
+  pub starts-order : (r k : ℕ) → r < k → startAt L kinds kind r + lengthAt L kinds kind r ≤ startAt L kinds kind k
   starts-order r k l = let q : r + suc (k - suc r) ≡ k = omega arith in rw q at (starts-apart r (k - suc r))
 
-  module _ {A : Type 0} (r : ℕ) (xs new zs : List A) (some : 0 < length (partOf L kind r xs))
-      (same : length new ≡ length (partOf L kind r xs))
-      (p : Replaced (min (startAt L kind r) (length xs)) (min (startAt L kind r + lengthAt L kind r) (length xs)) xs new zs) where
+  module _ {A : Type 0} (r : ℕ) (xs new zs : List A) (some : 0 < length (partOf L kinds kind r xs))
+      (same : length new ≡ length (partOf L kinds kind r xs))
+      (p : Replaced (min (startAt L kinds kind r) (length xs)) (min (startAt L kinds kind r + lengthAt L kinds kind r) (length xs)) xs new zs) where
     abbrev s : ℕ
-    s = startAt L kind r
+    s = startAt L kinds kind r
 
     abbrev l : ℕ
-    l = lengthAt L kind r
+    l = lengthAt L kinds kind r
 
     begins : s < length xs
     begins = omega (arith, length-take l (drop s xs), length-drop s xs)
 
     -- The replaced part is the new one,
-    pub part-new : partOf L kind r zs ≡ new
+    pub part-new : partOf L kinds kind r zs ≡ new
     part-new =
         let a : min s (length xs) ≡ s = omega (arith, begins) in
         let n : length new ≡ min l (length xs - s) = same ∙ length-take l (drop s xs) ∙ ap (min l) (length-drop s xs) in
@@ -128,15 +77,12 @@ module _ (L : List ℕ) (kind : ℕ) where
         (λ u. let c : length new ≡ l = omega (arith, begins) in rw c at w)
 
     -- and the parts of other routines are as they were.
-    pub part-other : (k : ℕ) → (k ≡ r → ⊥) → partOf L kind k zs ≡ partOf L kind k xs
+    pub part-other : (k : ℕ) → (k ≡ r → ⊥) → partOf L kinds kind k zs ≡ partOf L kinds kind k xs
     part-other k d = by-order k r
         (λ u. let a : min s (length xs) ≡ s = omega (arith, begins) in
-        window-before (min s (length xs)) (startAt L kind k) (lengthAt L kind k) xs zs (omega (arith, starts-order k r u)) (p .front))
+        window-before (min s (length xs)) (startAt L kinds kind k) (lengthAt L kinds kind k) xs zs (omega (arith, starts-order k r u)) (p .front))
         (λ u. let v : r < k = lt-of k r u d in
-        window-behind (min (s + l) (length xs)) (startAt L kind k) (lengthAt L kind k) xs zs (omega (arith, starts-order r k v)) (p .back))
+        window-behind (min (s + l) (length xs)) (startAt L kinds kind k) (lengthAt L kinds kind k) xs zs (omega (arith, starts-order r k v)) (p .back))
       where
         lt-of : (k r : ℕ) → r ≤ k → (k ≡ r → ⊥) → r < k
         lt-of k r u d = by-order r k (λ (x : r < k). x) (λ x. absurd (d (omega arith)))
-
-pub between-part : {A : Type 0} (L : List ℕ) (kind r n : ℕ) (xs : List A) → n ≡ length xs → between (spanOf L kind r n) xs ≡ partOf L kind r xs
-between-part L kind r n xs e = rw e (cut-window (startAt L kind r) (lengthAt L kind r) xs)

@@ -11,7 +11,8 @@ use Rattle.interpreter.specs.Claim.{runFaults, Begins}
 use Rattle.interpreter.specs.Starts.{Launched, First}
 use Rattle.interpreter.specs.Outcomes.{outcomeShown}
 use Rattle.seats.specs.Lends.{Lends, lentTo, sectionsAt, countOf}
-use Rattle.seats.specs.Parts.{tableKind, directoryKind, valuesKind, window, spanOf}
+use Rattle.parts.specs.Parts.{window, spanOf}
+use Rattle.seats.specs.Parts.{kinds, tableKind, directoryKind, valuesKind}
 use Rattle.seats.specs.SeatAt.{seatAt}
 use Rattle.seats.specs.declared.Places.{Places}
 use Rattle.seats.specs.declared.Seat.{Seat}
@@ -23,9 +24,9 @@ use Rattle.seats.specs.declared.AllSeated.the-variants as all
 -- Where the parts of routine r lie.
 abbrev pub placesOf : Lends → ℕ → Places
 placesOf l r = record {
-  table = spanOf (l .lengths) tableKind r (length (l .tables));
-  directory = spanOf (l .lengths) directoryKind r (length (l .directories));
-  values = spanOf (l .lengths) valuesKind r (length (l .values));
+  table = spanOf (l .lengths) kinds tableKind r (length (l .tables));
+  directory = spanOf (l .lengths) kinds directoryKind r (length (l .directories));
+  values = spanOf (l .lengths) kinds valuesKind r (length (l .values));
 }
 
 -- The scratch of routine r: 512 numbers for the ends in force, 2,048 for the successors of its statements.

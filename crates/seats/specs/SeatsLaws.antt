@@ -12,7 +12,7 @@ use Rattle.answers.specs.declared.refusals.Refusal.{Refusal}
 use Rattle.answers.specs.declared.stops.Outcome.{Outcome}
 use Rattle.answers.specs.declared.stops.Outcome.the-variants.{Spent, Done}
 use Rattle.words.specs.declared.sections.Sections.{Sections}
-use Rattle.rules.specs.AcceptedLaws.{formed-sections}
+use Rattle.table.specs.FormLaws.{formed-sections}
 use Rattle.machine.specs.Machine.{going}
 use Rattle.interpreter.specs.Claim.{Lent}
 use Rattle.interpreter.specs.Starts.{Launched, Starts}
@@ -20,14 +20,16 @@ use Rattle.interpreter.specs.Outcomes.{outcomeShown}
 use Rattle.interpreter.specs.declared.starts.Start.{Start}
 use Rattle.interpreter.specs.declared.starts.Start.the-variants as begin
 use Rattle.turns.specs.TurnsLaws.{by-order}
-use Rattle.seats.specs.Parts.{window, between, spanOf}
-use Rattle.seats.specs.PartsLaws.{between-part, window-before, put-replaced}
+use Rattle.parts.specs.Parts.{window, between, spanOf}
+use Rattle.seats.specs.Parts.{kinds}
+use Rattle.parts.specs.PartsLaws.{between-part}
+use Rattle.seats.specs.PartsLaws.{window-before, put-replaced}
 use Rattle.seats.specs.Lends.{Lends, lentTo, sectionsAt, countOf}
 use Rattle.interpreter.specs.ClaimLaws.{launched-begins}
 use Rattle.seats.specs.SeatAt.{nobody}
 use Rattle.seats.specs.Seats.{endsAt, successorsAt, startSeat, LaidOut, SeatedAs, SeatResult, Ready, ReadyTo, RefusedAt}
 use Rattle.seats.specs.declared.Seat.{Seat}
-use Rattle.seats.specs.declared.Span.{Span}
+use Rattle.parts.specs.declared.Span.{Span}
 use Rattle.seats.specs.declared.Seated.{Seated}
 use Rattle.seats.specs.declared.Seated.the-variants as one
 
@@ -63,10 +65,10 @@ lentParts l t i d v o = record {
   origins = between o (l .origins);
 }
 
-module _ (l : Lends) (r : ℕ) (few : r < 8) {t i d v o : Span} (table : t ≡ spanOf (l .lengths) 0 r (length (l .tables)))
-    (listed : i ≡ spanOf (l .lengths) 1 r (length (l .listed)))
-    (directory : d ≡ spanOf (l .lengths) 2 r (length (l .directories))) (values : v ≡ spanOf (l .lengths) 3 r (length (l .values)))
-    (origins : o ≡ spanOf (l .lengths) 4 r (length (l .origins))) where
+module _ (l : Lends) (r : ℕ) (few : r < 8) {t i d v o : Span} (table : t ≡ spanOf (l .lengths) kinds 0 r (length (l .tables)))
+    (listed : i ≡ spanOf (l .lengths) kinds 1 r (length (l .listed)))
+    (directory : d ≡ spanOf (l .lengths) kinds 2 r (length (l .directories))) (values : v ≡ spanOf (l .lengths) kinds 3 r (length (l .values)))
+    (origins : o ≡ spanOf (l .lengths) kinds 4 r (length (l .origins))) where
   parts-lent : lentParts l t i d v o ≡ lentTo l r
   parts-lent = rw (
     table,
@@ -74,11 +76,11 @@ module _ (l : Lends) (r : ℕ) (few : r < 8) {t i d v o : Span} (table : t ≡ s
     directory,
     values,
     origins,
-    between-part (l .lengths) 0 r (length (l .tables)) (l .tables) refl,
-    between-part (l .lengths) 1 r (length (l .listed)) (l .listed) refl,
-    between-part (l .lengths) 2 r (length (l .directories)) (l .directories) refl,
-    between-part (l .lengths) 3 r (length (l .values)) (l .values) refl,
-    between-part (l .lengths) 4 r (length (l .origins)) (l .origins) refl,
+    between-part (l .lengths) kinds 0 r (length (l .tables)) (l .tables) refl,
+    between-part (l .lengths) kinds 1 r (length (l .listed)) (l .listed) refl,
+    between-part (l .lengths) kinds 2 r (length (l .directories)) (l .directories) refl,
+    between-part (l .lengths) kinds 3 r (length (l .values)) (l .values) refl,
+    between-part (l .lengths) kinds 4 r (length (l .origins)) (l .origins) refl,
   )
 
   module _ (ends S W X : List ℕ) (ends-long : length ends ≡ 4096) (flow-long : length S ≡ 16384)

@@ -1,10 +1,9 @@
 // Before the turns: each routine is checked as its run alone checks it, and what its run needs is laid out.
-mod parts; // parts.rt: where each routine's part lies
-
 use answers::refusals::Refusal;
 use answers::stops::Outcome;
 use interpreter::starts::Start;
 use interpreter::starts::prepare;
+use parts::Span;
 use parts::span_of;
 use words::sections::Sections;
 ghost use mathlib.Core.Path.{_≡_};
@@ -14,12 +13,6 @@ ghost use Rattle.machine.specs.Machine.{going};
 ghost use Rattle.interpreter.specs.Outcomes.{outcomeShown};
 ghost use Rattle.seats.specs.SeatAt.{nobody};
 ghost use Rattle.seats.specs.Seats.{SeatResult, AllSeatedAs, CountIs};
-
-// A part of a lent slice: the elements start to end - 1.
-pub struct Span {
-    pub start: usize,
-    pub end: usize,
-}
 
 // Where a routine's parts lie.
 pub struct Places {
@@ -115,19 +108,19 @@ fn seat_routine(
       lengths = now (lengths .entry);
     }) r s (now (ends .entry)) (now (successors .entry)) (now (ends .exit)) (now (successors .exit)) ⌝ }
 {
-    let table = span_of(lengths, 0, r, tables.len());
+    let table = span_of(lengths, 5, 0, r, tables.len());
     let table_start = table.start;
     let table_end = table.end;
-    let list = span_of(lengths, 1, r, listed.len());
+    let list = span_of(lengths, 5, 1, r, listed.len());
     let list_start = list.start;
     let list_end = list.end;
-    let directory = span_of(lengths, 2, r, directories.len());
+    let directory = span_of(lengths, 5, 2, r, directories.len());
     let directory_start = directory.start;
     let directory_end = directory.end;
-    let own = span_of(lengths, 3, r, values.len());
+    let own = span_of(lengths, 5, 3, r, values.len());
     let values_start = own.start;
     let values_end = own.end;
-    let origin = span_of(lengths, 4, r, origins.len());
+    let origin = span_of(lengths, 5, 4, r, origins.len());
     let origins_start = origin.start;
     let origins_end = origin.end;
     let ends_start = 512 * r;

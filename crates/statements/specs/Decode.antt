@@ -12,8 +12,9 @@ use Rattle.words.specs.declared.sections.Sections.{Sections}
 use Rattle.conditions.specs.declared.Condition.{Condition}
 use Rattle.statements.specs.declared.Simple.the-variants.{Literal, AddConstant, Arithmetic, Null, Address}
 use Rattle.statements.specs.declared.Simple.the-variants.{PointerOffset, PointerIndex, Load, Store, Check, Declare}
+use Rattle.statements.specs.declared.CallSite.{CallSite}
 use Rattle.statements.specs.declared.Statement.{Statement}
-use Rattle.statements.specs.declared.Statement.the-variants.{Plain, If, While, Bundle}
+use Rattle.statements.specs.declared.Statement.the-variants.{Plain, If, While, Bundle, Call}
 
 -- The 32 bits of a word as an unsigned number: a word that is 0 or more as it is.
 abbrev pub unsigned : ℕ → ℕ
@@ -39,7 +40,18 @@ decodedCondition f =
       offset = decodedOffset (f .third) (f .fourth);
     }
 
--- The kinds by their number, fields in the order that the paper names. A kind that is none of 1 to 13 is taken for 14. Counts, which
+unfoldable pub decodedCall : Fields → CallSite
+decodedCall f =
+    record {
+      callee = literalValue (f .first);
+      result = decodedIndex (f .second);
+      first = decodedIndex (f .third);
+      second = decodedIndex (f .fourth);
+      third = decodedIndex (f .fifth);
+      fourth = decodedIndex (f .sixth);
+    }
+
+-- The kinds by their number, fields in the order that the paper names. A kind that is none of 1 to 14 is taken for 15. Counts, which
 -- a run does not look at, are as they are read.
 unfoldable pub decodedAs : ℕ → Fields → Statement
 decodedAs kind f =
@@ -56,7 +68,8 @@ decodedAs kind f =
     (cond (eqb kind 11) (If (decodedCondition f) (plain (f .fifth)) (plain (f .sixth)))
     (cond (eqb kind 12) (While (decodedCondition f) (plain (f .fifth)))
     (cond (eqb kind 13) (Bundle (plain (f .first)))
-    (Plain (Declare (unsigned (f .first)) (unsigned (f .second))))))))))))))))
+    (cond (eqb kind 14) (Plain (Declare (unsigned (f .first)) (unsigned (f .second))))
+    (Call (decodedCall f)))))))))))))))
 
 abbrev pub decoded : Fields → Statement
 decoded f = decodedAs (unsigned (f .kind)) f

@@ -21,12 +21,14 @@ use Rattle.conditions.specs.Conditions.{sameKind, besideLiteral, conditionRight
 use Rattle.conditions.specs.declared.Condition.{Condition}
 use Rattle.statements.specs.Statements.{readIf, unusedFrom, literalRead, addConstantRead, arithmeticRead, nullRead, addressRead, pointerOffsetRead}
 use Rattle.statements.specs.Statements.{pointerIndexRead, loadRead, storeRead, checkRead, ifRead}
-use Rattle.statements.specs.Statements.{whileRead, bundleRead, kindRead, statementAt, declareRead}
+use Rattle.statements.specs.Statements.{whileRead, bundleRead, kindRead, statementAt, declareRead, isArgument, callSite, callRead}
 use Rattle.statements.specs.StatementLaws.{read-limits}
+use Rattle.statements.specs.declared.CallSite.{CallSite}
 use Rattle.statements.specs.declared.Statement.{Statement}
 use Rattle.statements.specs.declared.StatementRead.{StatementRead}
 use Rattle.statements.specs.declared.StatementRead.the-variants.{Read, Unread}
-use Rattle.statements.specs.Decode.{unsigned, decodedIndex, decodedRight, decodedOffset, decodedCondition, decodedAs, decoded, decodeStart, decodedAt}
+use Rattle.statements.specs.Decode.{unsigned, decodedIndex, decodedRight, decodedOffset, decodedCondition, decodedCall, decodedAs, decoded, decodeStart}
+use Rattle.statements.specs.Decode.{decodedAt}
 
 -- ---- a field that the readers let pass is its 32 bits
 
@@ -128,6 +130,19 @@ module _ (table : List ℤ) (h : Sections) where
       let s = sides-unsigned (f .third) (f .first) (f .fourth) (p .1) in
       condition-same _ _ _ _ _ _ _ _ (s .0) (below-unsigned 6 (f .second) (omega arith) (p .0)) (s .1) (s .2)
 
+  argument-unsigned : Limits h → (w : ℕ) → isArgument h w ≡ true → decodedIndex w ≡ indexOf w
+  unfolding isArgument indexOf decodedIndex
+  argument-unsigned l w e = go (eqb w (bias - 1)) e
+    where
+      go : (b : Bool) → (b || isBelow (h .variables) w) ≡ true → cond b zeroVar (unsigned w) ≡ cond b zeroVar (plain w)
+      go true g = refl
+      go false g = below-unsigned (h .variables) w (omega (arith, l .variables)) g
+
+call-same : (k a b c d e v w x y z : ℕ) → a ≡ v → b ≡ w → c ≡ x → d ≡ y → e ≡ z →
+    _≡_ {A = CallSite} (record { callee = k; result = a; first = b; second = c; third = d; fourth = e })
+    (record { callee = k; result = v; first = w; second = x; third = y; fourth = z })
+call-same k a b c d e v w x y z p q r s t = rw (p, q, r, s, t)
+
 -- ---- records
 
 read-if : (b : Bool) (s t : Statement) → readIf b s ≡ Read t → s ≡ t
@@ -171,7 +186,18 @@ known : (b : Bool) (r q : StatementRead) (t : Statement) (A : Type 0) → (b ≡
 known true r q t A f g e = f refl
 known false r q t A f g e = g e
 
-module _ (table : List ℤ) (h : Sections) (f : Fields) (t : Statement) where
+call-unsigned : (table : List ℤ) (h : Sections) → Limits h → (f : Fields)
+    → (namesIndex table h (f .second) && isArgument h (f .third) && isArgument h (f .fourth) && isArgument h (f .fifth) && isArgument h (f .sixth)) ≡ true
+    → decodedCall f ≡ callSite f
+unfolding decodedCall callSite
+call-unsigned table h l f e =
+    let p = both₅ (namesIndex table h (f .second)) (isArgument h (f .third)) (isArgument h (f .fourth)) (isArgument h (f .fifth)) (isArgument h (f .sixth)) e in
+    let q = both (namesIndex table h (f .second) && isArgument h (f .third) && isArgument h (f .fourth) && isArgument h (f .fifth))
+    (isArgument h (f .sixth)) e in
+    call-same _ _ _ _ _ _ _ _ _ _ _ (index-unsigned table h (f .second) (p .0)) (argument-unsigned table h l (f .third) (p .1))
+    (argument-unsigned table h l (f .fourth) (p .2)) (argument-unsigned table h l (f .fifth) (p .3)) (argument-unsigned table h l (f .sixth) (q .1))
+
+module _ (table : List ℤ) (h : Sections) (limits : Limits h) (f : Fields) (t : Statement) where
   abbrev kind : ℕ
   kind = plain (f .kind)
 
@@ -181,7 +207,7 @@ module _ (table : List ℤ) (h : Sections) (f : Fields) (t : Statement) where
   abbrev pointer : ℕ → Bool
   pointer w = namesPointer table h w
 
-  kind-is : (n : ℕ) → 1 ≤ n → n ≤ 14 → eqb kind n ≡ true → unsigned (f .kind) ≡ kind
+  kind-is : (n : ℕ) → 1 ≤ n → n ≤ 15 → eqb kind n ≡ true → unsigned (f .kind) ≡ kind
   kind-is n l u e = let a : kind ≡ n = eqb-true kind n e in omega arith
 
   kind-unsigned : kindRead table h f ≡ Read t → unsigned (f .kind) ≡ kind
@@ -201,11 +227,12 @@ module _ (table : List ℤ) (h : Sections) (f : Fields) (t : Statement) where
       (known (eqb kind 12) _ _ t _ (kind-is 12 (omega arith) (omega arith))
       (known (eqb kind 13) _ _ t _ (kind-is 13 (omega arith) (omega arith))
       (known (eqb kind 14) _ _ t _ (kind-is 14 (omega arith) (omega arith))
-      (λ e. let z : _≡_ {A = ℕ} 0 1 = cc in absurd (omega arith)))))))))))))))
+      (known (eqb kind 15) _ _ t _ (kind-is 15 (omega arith) (omega arith))
+      (λ e. let z : _≡_ {A = ℕ} 0 1 = cc in absurd (omega arith))))))))))))))))
 
   kind-decoded : kindRead table h f ≡ Read t → decodedAs kind f ≡ t
   unfolding kindRead decodedAs literalRead addConstantRead arithmeticRead nullRead addressRead pointerOffsetRead pointerIndexRead loadRead storeRead checkRead
-      ifRead whileRead bundleRead declareRead
+      ifRead whileRead bundleRead declareRead callRead
   kind-decoded =
       either-record (eqb kind 1) _ _ _ _ t (read-as (integer (f .first) && unusedFrom 3 f) _ _ t
       (λ e. let p = both (integer (f .first)) (unusedFrom 3 f) e in rw (integer-unsigned table h (f .first) (p .0))))
@@ -246,9 +273,11 @@ module _ (table : List ℤ) (h : Sections) (f : Fields) (t : Statement) where
       (either-record (eqb kind 12) _ _ _ _ t (read-as (conditionRight table h f && isCount (f .fifth) && unusedFrom 6 f) _ _ t
       (λ e. let p = both₃ (conditionRight table h f) (isCount (f .fifth)) (unusedFrom 6 f) e in rw (condition-unsigned table h f (p .0))))
       (either-record (eqb kind 13) _ _ _ _ t (read-if (ltb (plain (f .first)) (2 ^ 31) && unusedFrom 2 f) _ t)
-      (last (eqb kind 14) _ _ t (read-as (pointer (f .first) && isBelow (h .rows) (f .second) && unusedFrom 3 f) _ _ t
+      (either-record (eqb kind 14) _ _ _ _ t (read-as (pointer (f .first) && isBelow (h .rows) (f .second) && unusedFrom 3 f) _ _ t
       (λ e. let p = both₃ (pointer (f .first)) (isBelow (h .rows) (f .second)) (unusedFrom 3 f) e in
-      rw (pointer-unsigned table h (f .first) (p .0), row-unsigned table h (f .first) (f .second) (p .0) (p .1)))))))))))))))))
+      rw (pointer-unsigned table h (f .first) (p .0), row-unsigned table h (f .first) (f .second) (p .0) (p .1))))
+      (last (eqb kind 15) _ _ t (read-as (namesIndex table h (f .second) && isArgument h (f .third) && isArgument h (f .fourth) && isArgument h (f .fifth)
+      && isArgument h (f .sixth)) _ _ t (λ e. rw (call-unsigned table h limits f e)))))))))))))))))
 
 pub read-decoded : (table : List ℤ) (h : Sections) (a : ℕ) (s : Statement) → statementAt table h a ≡ Read s → decodedAt table h a ≡ s
 unfolding statementAt decodedAt
@@ -257,4 +286,4 @@ read-decoded table h a s e =
     let g : decodeStart h a ≡ statementStart h a = omega (arith, l .0 .start, l .0 .objects, l .0 .variables, l .0 .statements, l .1) in
     let f = fieldsAt table (statementStart h a) in
     let r = within (inLimits h && ltb a (h .statements)) _ s e in
-    ap (λ (i : ℕ). decoded (fieldsAt table i)) g ∙ ap (λ (k : ℕ). decodedAs k f) (kind-unsigned table h f s r) ∙ kind-decoded table h f s r
+    ap (λ (i : ℕ). decoded (fieldsAt table i)) g ∙ ap (λ (k : ℕ). decodedAs k f) (kind-unsigned table h (l .0) f s r) ∙ kind-decoded table h (l .0) f s r

@@ -1,7 +1,7 @@
 -- Laws of the reading of statements.
-use Prim.Native.Nat.{ℕ, _^_, _<_}
+use Prim.Native.Nat.{ℕ, _-_, _^_, _<_}
 use mathlib.Core.Path.{_≡_, refl}
-use mathlib.Core.Bool.{Bool, true, false, _&&_, cond}
+use mathlib.Core.Bool.{Bool, true, false, _&&_, _||_, cond}
 use mathlib.Core.List.{List}
 use lib.IntN.{ℤ}
 use lib.Dec.{ltb, eqb}
@@ -9,7 +9,8 @@ use borrow.Author.Tests.{ltb-true}
 use native.Mathlib.Omega.{arith}
 use Rattle.words.specs.Words.{fieldsAt}
 use Rattle.words.specs.declared.Fields.{Fields}
-use Rattle.words.specs.Fields.{plain, isCount, isBelow, isConstant}
+use Rattle.sums.specs.Numbers.{bias, zeroVar}
+use Rattle.words.specs.Fields.{plain, indexOf, isCount, isBelow, isConstant}
 use Rattle.words.specs.Sections.{inLimits, statementStart, namesInteger, namesPointer, namesIndex, Limits, takesPointer, takesObject}
 use Rattle.words.specs.SectionsLaws.{both, statement-limits}
 use Rattle.words.specs.NameLaws.{below-holds, literal-small, constant-small, integer-named, pointer-named, index-named, takes-pointer, takes-object}
@@ -19,12 +20,20 @@ use Rattle.conditions.specs.ConditionLaws.{condition-typed}
 use Rattle.conditions.specs.declared.Condition.{Condition}
 use Rattle.statements.specs.Statements.{readIf, unusedFrom, literalRead, addConstantRead, arithmeticRead, nullRead}
 use Rattle.statements.specs.Statements.{addressRead, pointerOffsetRead, pointerIndexRead, loadRead, storeRead}
-use Rattle.statements.specs.Statements.{checkRead, ifRead, whileRead, bundleRead, kindRead, statementAt, declareRead}
-use Rattle.statements.specs.Typed.{WellTyped}
+use Rattle.statements.specs.Statements.{checkRead, ifRead, whileRead, bundleRead, kindRead, statementAt, declareRead, isArgument, callSite, callRead}
+use Rattle.statements.specs.Typed.{WellTyped, IsArgument, missing, given}
 use Rattle.statements.specs.declared.Statement.{Statement}
 use Rattle.statements.specs.declared.Statement.the-variants.{If, While, Bundle}
 use Rattle.statements.specs.declared.StatementRead.{StatementRead}
 use Rattle.statements.specs.declared.StatementRead.the-variants.{Read, Unread}
+
+argument-named : (h : Sections) (w : ℕ) → isArgument h w ≡ true → IsArgument h (indexOf w)
+unfolding isArgument indexOf
+argument-named h w e = go (eqb w (bias - 1)) e
+  where
+    go : (b : Bool) → (b || isBelow (h .variables) w) ≡ true → IsArgument h (cond b zeroVar (plain w))
+    go true g = missing refl
+    go false g = given (below-holds (h .variables) w g)
 
 module _ (table : List ℤ) (h : Sections) where
   abbrev TypedRead : StatementRead → Type 0
@@ -180,6 +189,19 @@ module _ (table : List ℤ) (h : Sections) where
     unfolding bundleRead
     bundle-typed = typed₂ (ltb (plain (f .first)) (2 ^ 31)) (unusedFrom 2 f) _ (λ a b. ltb-true (plain (f .first)) (2 ^ 31) a)
 
+    call-typed : TypedRead (callRead table h f)
+    unfolding callRead callSite
+    call-typed =
+        typed₅ (namesIndex table h (f .second)) (isArgument h (f .third)) (isArgument h (f .fourth)) (isArgument h (f .fifth)) (isArgument h (f .sixth)) _
+        (λ a b c d e.
+        record {
+          result = index-named table h (f .second) a;
+          first = argument-named h (f .third) b;
+          second = argument-named h (f .fourth) c;
+          third = argument-named h (f .fifth) d;
+          fourth = argument-named h (f .sixth) e;
+        })
+
     abbrev is : ℕ → Bool
     is n = eqb (plain (f .kind)) n
 
@@ -199,7 +221,8 @@ module _ (table : List ℤ) (h : Sections) where
         (typed-pick (is 11) (ifRead table h f) _ if-typed
         (typed-pick (is 12) (whileRead table h f) _ while-typed
         (typed-pick (is 13) (bundleRead f) _ bundle-typed
-        (typed-pick (is 14) (declareRead table h f) Unread declare-typed tt)))))))))))))
+        (typed-pick (is 14) (declareRead table h f) _ declare-typed
+        (typed-pick (is 15) (callRead table h f) Unread call-typed tt))))))))))))))
 
   statement-typed : (a : ℕ) → TypedRead (statementAt table h a)
   unfolding statementAt

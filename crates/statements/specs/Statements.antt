@@ -1,19 +1,21 @@
 -- What a statement record reads as: "7 words each: kind and six fields, unused fields 0".
-use Prim.Native.Nat.{ℕ, _^_}
+use Prim.Native.Nat.{ℕ, _-_, _^_}
 use mathlib.Core.Bool.{Bool, _&&_, _||_, cond}
 use mathlib.Core.List.{List}
 use lib.IntN.{ℤ}
 use lib.Dec.{ltb, eqb}
 use Rattle.words.specs.Words.{fieldsAt}
 use Rattle.words.specs.declared.Fields.{Fields}
+use Rattle.sums.specs.Numbers.{bias}
 use Rattle.words.specs.Fields.{plain, indexOf, literalValue, isZero, isBelow, isCount, isConstant}
 use Rattle.words.specs.Sections.{inLimits, statementStart, namesInteger, namesPointer, namesIndex, takesPointer, takesObject}
 use Rattle.words.specs.declared.sections.Sections.{Sections}
 use Rattle.conditions.specs.Conditions.{conditionRight, conditionOf}
 use Rattle.statements.specs.declared.Simple.the-variants.{Literal, AddConstant, Arithmetic, Null, Address}
 use Rattle.statements.specs.declared.Simple.the-variants.{PointerOffset, PointerIndex, Load, Store, Check, Declare}
+use Rattle.statements.specs.declared.CallSite.{CallSite}
 use Rattle.statements.specs.declared.Statement.{Statement}
-use Rattle.statements.specs.declared.Statement.the-variants.{Plain, If, While, Bundle}
+use Rattle.statements.specs.declared.Statement.the-variants.{Plain, If, While, Bundle, Call}
 use Rattle.statements.specs.declared.StatementRead.{StatementRead}
 use Rattle.statements.specs.declared.StatementRead.the-variants.{Read, Unread}
 
@@ -103,7 +105,29 @@ module _ (table : List ℤ) (h : Sections) where
 unfoldable pub bundleRead : Fields → StatementRead
 bundleRead f = readIf (ltb (plain (f .first)) (2 ^ 31) && unusedFrom 2 f) (Bundle (plain (f .first)))
 
--- The kinds by their number, 1 to 14.
+-- Point 14: "four argument variables, unused ones -1 at the end".
+unfoldable pub isArgument : Sections → ℕ → Bool
+isArgument h w = eqb w (bias - 1) || isBelow (h .variables) w
+
+-- Point 14: "kind 15 calls one: fields callee, integer result variable or -1, then four argument variables". A callee's number below 0 counts as that
+-- plus 4,294,967,296, a number that no routine has.
+unfoldable pub callSite : Fields → CallSite
+callSite f =
+    record {
+      callee = literalValue (f .first);
+      result = indexOf (f .second);
+      first = indexOf (f .third);
+      second = indexOf (f .fourth);
+      third = indexOf (f .fifth);
+      fourth = indexOf (f .sixth);
+    }
+
+unfoldable pub callRead : List ℤ → Sections → Fields → StatementRead
+callRead table h f =
+    readIf (namesIndex table h (f .second) && isArgument h (f .third) && isArgument h (f .fourth) && isArgument h (f .fifth) && isArgument h (f .sixth))
+    (Call (callSite f))
+
+-- The kinds by their number, 1 to 15.
 unfoldable pub kindRead : List ℤ → Sections → Fields → StatementRead
 kindRead table h f =
     let kind = plain (f .kind) in
@@ -120,7 +144,8 @@ kindRead table h f =
     (cond (eqb kind 11) (ifRead table h f)
     (cond (eqb kind 12) (whileRead table h f)
     (cond (eqb kind 13) (bundleRead f)
-    (cond (eqb kind 14) (declareRead table h f) Unread)))))))))))))
+    (cond (eqb kind 14) (declareRead table h f)
+    (cond (eqb kind 15) (callRead table h f) Unread))))))))))))))
 
 -- The statement of a number; a number that no statement has does not read.
 unfoldable pub statementAt : List ℤ → Sections → ℕ → StatementRead

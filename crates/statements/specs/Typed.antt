@@ -4,6 +4,7 @@ use mathlib.Core.Path.{_≡_}
 use mathlib.Core.Bool.{true}
 use mathlib.Core.List.{List}
 use lib.IntN.{ℤ}
+use Rattle.sums.specs.Numbers.{zeroVar}
 use Rattle.words.specs.Fields.{literalLimit}
 use Rattle.words.specs.Sections.{stringAt, objectTerminated}
 use Rattle.words.specs.Typed.{IsInteger, IsPointer, IsIndex, IsSmall}
@@ -13,8 +14,14 @@ use Rattle.conditions.specs.declared.Condition.{Condition}
 use Rattle.statements.specs.declared.Simple.{Simple}
 use Rattle.statements.specs.declared.Simple.the-variants.{Literal, AddConstant, Arithmetic, Null, Address}
 use Rattle.statements.specs.declared.Simple.the-variants.{PointerOffset, PointerIndex, Load, Store, Check, Declare}
+use Rattle.statements.specs.declared.CallSite.{CallSite}
 use Rattle.statements.specs.declared.Statement.{Statement}
-use Rattle.statements.specs.declared.Statement.the-variants.{Plain, If, While, Bundle}
+use Rattle.statements.specs.declared.Statement.the-variants.{Plain, If, While, Bundle, Call}
+
+-- A variable, or the number that stands for none.
+pub data IsArgument (h : Sections) (v : ℕ) : Type 0 where
+  missing : v ≡ zeroVar → IsArgument h v
+  given : v < h .variables → IsArgument h v
 
 module _ (table : List ℤ) (h : Sections) where
   pub record LiteralTyped (x k : ℕ) : Type 0 where
@@ -69,6 +76,13 @@ module _ (table : List ℤ) (h : Sections) where
     pub condition : ConditionTyped table h c
     pub count : n < 2 ^ 31
 
+  pub record CallTyped (c : CallSite) : Type 0 where
+    pub result : IsIndex table h (c .result)
+    pub first : IsArgument h (c .first)
+    pub second : IsArgument h (c .second)
+    pub third : IsArgument h (c .third)
+    pub fourth : IsArgument h (c .fourth)
+
   abbrev pub SimpleTyped : Simple → Type 0
   SimpleTyped (Literal x k) = LiteralTyped x k
   SimpleTyped (AddConstant x y k) = AddConstantTyped x y k
@@ -87,3 +101,4 @@ module _ (table : List ℤ) (h : Sections) where
   WellTyped (If c n m) = IfTyped c n m
   WellTyped (While c n) = WhileTyped c n
   WellTyped (Bundle n) = n < 2 ^ 31
+  WellTyped (Call c) = CallTyped c

@@ -1,5 +1,6 @@
 // The statements of a table that has been checked: decoded by their kind, with no test of a field. Words are taken as unsigned numbers, which costs
 // nothing, and for a field that the readers let pass is the same number.
+use crate::CallSite;
 use crate::Simple;
 use crate::Statement;
 use conditions::Condition;
@@ -13,7 +14,8 @@ use words::sections::Sections;
 ghost use mathlib.Core.Path.{_≡_};
 ghost use Prim.Native.Nat.{_+_, _≤_};
 ghost use lib.ListN.{length};
-ghost use Rattle.statements.specs.Decode.{unsigned, decodedIndex, decodedRight, decodedOffset, decodedCondition, decoded, decodeStart, decodedAt};
+ghost use Rattle.statements.specs.Decode.{unsigned, decodedIndex, decodedRight, decodedOffset, decodedCondition, decodedCall, decoded, decodeStart};
+ghost use Rattle.statements.specs.Decode.{decodedAt};
 
 // The 32 bits of a word as an unsigned number.
 fn unsigned(w: u64) -> usize
@@ -61,7 +63,20 @@ fn decode_condition(f: Fields) -> Condition
     }
 }
 
-// The statement of a record. A kind that is none of 1 to 13 is taken for 14.
+fn decode_call(f: Fields) -> CallSite
+    ensures { λ r. ⌜ r ≡ decodedCall f ⌝ }
+{
+    CallSite {
+        callee: literal_value(f.first),
+        result: decode_index(f.second),
+        first: decode_index(f.third),
+        second: decode_index(f.fourth),
+        third: decode_index(f.fifth),
+        fourth: decode_index(f.sixth),
+    }
+}
+
+// The statement of a record. A kind that is none of 1 to 14 is taken for 15.
 fn decode_kind(f: Fields) -> Statement
     ensures { λ r. ⌜ r ≡ decoded f ⌝ }
 {
@@ -126,10 +141,11 @@ fn decode_kind(f: Fields) -> Statement
         13 => Statement::Bundle {
             count: plain(f.first),
         },
-        _ => Statement::Plain(Simple::Declare {
+        14 => Statement::Plain(Simple::Declare {
             pointer: unsigned(f.first),
             row: unsigned(f.second),
         }),
+        _ => Statement::Call(decode_call(f)),
     }
 }
 

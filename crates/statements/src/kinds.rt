@@ -1,9 +1,11 @@
-// The thirteen kinds of statements, a reader each. A reader tests all fields of its kind; what it does not use is 0.
+// The fifteen kinds of statements, a reader each. A reader tests all fields of its kind; what it does not use is 0.
+use crate::CallSite;
 use crate::Simple;
 use crate::Statement;
 use crate::StatementRead;
 use conditions::condition_of;
 use conditions::condition_right;
+use sums::BIAS;
 use words::Fields;
 use words::field::COUNTS;
 use words::field::index_of;
@@ -20,7 +22,8 @@ use words::sections::takes_object;
 use words::sections::takes_pointer;
 ghost use mathlib.Core.Path.{_≡_};
 ghost use Rattle.statements.specs.Statements.{unusedFrom, literalRead, addConstantRead, arithmeticRead, nullRead, addressRead, pointerOffsetRead};
-ghost use Rattle.statements.specs.Statements.{pointerIndexRead, loadRead, storeRead, checkRead, ifRead, whileRead, bundleRead, declareRead, kindRead};
+ghost use Rattle.statements.specs.Statements.{pointerIndexRead, loadRead, storeRead, checkRead, ifRead, whileRead, bundleRead, declareRead};
+ghost use Rattle.statements.specs.Statements.{isArgument, callSite, callRead, kindRead};
 
 // Each field from number n on is 0. Every kind uses the first.
 fn unused_from(n: usize, f: Fields) -> bool
@@ -258,6 +261,41 @@ fn read_declare(table: &[i32], sections: Sections, f: Fields) -> StatementRead
     StatementRead::Unread
 }
 
+// An argument of a call: a variable, or -1 for none.
+fn is_argument(sections: Sections, w: u64) -> bool
+    ensures { λ r. ⌜ r ≡ isArgument sections w ⌝ }
+{
+    (w == BIAS - 1) | is_below(sections.variables, w)
+}
+
+fn call_site(f: Fields) -> CallSite
+    ensures { λ r. ⌜ r ≡ callSite f ⌝ }
+{
+    CallSite {
+        callee: literal_value(f.first),
+        result: index_of(f.second),
+        first: index_of(f.third),
+        second: index_of(f.fourth),
+        third: index_of(f.fifth),
+        fourth: index_of(f.sixth),
+    }
+}
+
+// Kind 15: a call. Whether there is such a callee, and whether the arguments fit it, is judged in the walk.
+fn read_call(table: &[i32], sections: Sections, f: Fields) -> StatementRead
+    ensures { λ r. ⌜ r ≡ callRead (now (table .entry)) sections f ⌝ }
+{
+    if names_index(table, sections, f.second)
+        & is_argument(sections, f.third)
+        & is_argument(sections, f.fourth)
+        & is_argument(sections, f.fifth)
+        & is_argument(sections, f.sixth)
+    {
+        return StatementRead::Read(Statement::Call(call_site(f)));
+    }
+    StatementRead::Unread
+}
+
 pub(crate) fn read_kind(table: &[i32], sections: Sections, f: Fields) -> StatementRead
     ensures { λ r. ⌜ r ≡ kindRead (now (table .entry)) sections f ⌝ }
 {
@@ -277,6 +315,7 @@ pub(crate) fn read_kind(table: &[i32], sections: Sections, f: Fields) -> Stateme
         12 => read_while(table, sections, f),
         13 => read_bundle(f),
         14 => read_declare(table, sections, f),
+        15 => read_call(table, sections, f),
         _ => StatementRead::Unread,
     }
 }

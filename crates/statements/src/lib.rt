@@ -1,5 +1,5 @@
 // The statements of a table: seven words each, read with every test that cause 5 asks for.
-mod kinds; // kinds.rt: the thirteen kinds of statements, a reader each
+mod kinds; // kinds.rt: the fifteen kinds of statements, a reader each
 pub mod decode; // decode.rt: the statements of a table that has been checked: decoded by their kind, with no test of a field
 
 use conditions::Condition;
@@ -65,7 +65,17 @@ pub enum Simple {
     },
 }
 
-// The fourteen kinds. A bundle holds kinds 1 to 10 and 14 only, so these have a type of their own.
+// Kind 15, a call: the callee's number (one below 0 is taken plus 4,294,967,296, which no routine has), the result and the arguments. A missing one is 16.
+pub struct CallSite {
+    pub callee: u64,
+    pub result: usize,
+    pub first: usize,
+    pub second: usize,
+    pub third: usize,
+    pub fourth: usize,
+}
+
+// The fifteen kinds. A bundle holds kinds 1 to 10 and 14 only, so these have a type of their own.
 pub enum Statement {
     Plain(Simple),
     If {
@@ -80,6 +90,7 @@ pub enum Statement {
     Bundle {
         count: usize,
     },
+    Call(CallSite),
 }
 
 pub enum StatementRead {

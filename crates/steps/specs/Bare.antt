@@ -14,7 +14,7 @@ use Rattle.statements.specs.declared.Simple.{Simple}
 use Rattle.statements.specs.declared.Simple.the-variants.{Literal, AddConstant, Arithmetic, Null, Address, PointerOffset}
 use Rattle.statements.specs.declared.Simple.the-variants.{PointerIndex, Load, Store, Check as Test, Declare}
 use Rattle.statements.specs.declared.Statement.{Statement}
-use Rattle.statements.specs.declared.Statement.the-variants.{Plain, If, While, Bundle}
+use Rattle.statements.specs.declared.Statement.the-variants.{Plain, If, While, Bundle, Call}
 use Rattle.statements.specs.declared.StatementRead.the-variants.{Read}
 use Rattle.statements.specs.Decode.{decodedAt}
 use Rattle.blocks.specs.Flow.{Successors}
@@ -107,6 +107,8 @@ statementMove W D (Plain s) a n vs cs = simpleMove W D s a (n .next) vs cs
 statementMove W D (If c x y) a n vs cs = move (Go (cond (conditionHolds vs c) (n .next) (n .other))) W vs cs
 statementMove W D (While c x) a n vs cs = move (Go (cond (conditionHolds vs c) (n .next) (n .other))) W vs cs
 statementMove W D (Bundle x) a n vs cs = move (Go (n .next)) W vs cs
+-- A routine by itself never comes to a call (19).
+statementMove W D (Call c) a n vs cs = move (Go (n .next)) W vs cs
 
 -- ---- what the code needs, so that no index is outside
 
@@ -133,6 +135,7 @@ Inside W (Plain s) vs cs = InsideSimple W s vs cs
 Inside W (If c x y) vs cs = Unit {0}
 Inside W (While c x) vs cs = Unit {0}
 Inside W (Bundle x) vs cs = Unit {0}
+Inside W (Call c) vs cs = Unit {0}
 
 -- What the step of an access needs: x is the variable read into or stored, f the first of its checks that fails, and no sum wraps.
 pub record Accessible (W : List ℕ) (x p i k : ℕ) (f : Failing) (vs cs : List ℕ) : Type 0 where

@@ -10,7 +10,7 @@ use Rattle.statements.specs.declared.Simple.{Simple}
 use Rattle.statements.specs.declared.Simple.the-variants.{Literal, AddConstant, Arithmetic, Null, Address}
 use Rattle.statements.specs.declared.Simple.the-variants.{PointerOffset, PointerIndex, Load, Store, Check, Declare}
 use Rattle.statements.specs.declared.Statement.{Statement}
-use Rattle.statements.specs.declared.Statement.the-variants.{Plain, If, While, Bundle}
+use Rattle.statements.specs.declared.Statement.the-variants.{Plain, If, While, Bundle, Call}
 use Rattle.statements.specs.Decode.{decodedAt}
 use Rattle.blocks.specs.Flow.{Successors}
 use Rattle.blocks.specs.Shape.{entriesAt}
@@ -66,6 +66,7 @@ statement-kept W D (Plain s) a n vs cs = unless-kept (failing (declaredIn W) vs 
 statement-kept W D (If c x y) a n vs cs = same-kept W
 statement-kept W D (While c x) a n vs cs = same-kept W
 statement-kept W D (Bundle x) a n vs cs = same-kept W
+statement-kept W D (Call x) a n vs cs = same-kept W
 
 pub move-kept : (T : List ℤ) (h : Sections) (W D S : List ℕ) (a : ℕ) (vs cs : List ℕ) {r : Step} {W′ ws ds : List ℕ}
     → Moves (bareMove T h W D S a vs cs) r W′ ws ds → EndsKept W W′
@@ -100,6 +101,7 @@ statement-sizes W D (Plain s) a n vs cs f x = unless-sizes (failing (declaredIn 
 statement-sizes W D (If c y z) a n vs cs f x = refl
 statement-sizes W D (While c y) a n vs cs f x = refl
 statement-sizes W D (Bundle y) a n vs cs f x = refl
+statement-sizes W D (Call y) a n vs cs f x = refl
 
 pub move-sizes : (T : List ℤ) (h : Sections) (W D S : List ℕ) (a : ℕ) (vs cs : List ℕ) {r : Step} {W′ ws ds : List ℕ} → Ready T h W a vs cs
     → Moves (bareMove T h W D S a vs cs) r W′ ws ds

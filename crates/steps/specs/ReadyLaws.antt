@@ -17,7 +17,8 @@ use Rattle.statements.specs.declared.Simple.{Simple}
 use Rattle.statements.specs.declared.Simple.the-variants.{Literal, AddConstant, Arithmetic, Null, Address, PointerOffset}
 use Rattle.statements.specs.declared.Simple.the-variants.{PointerIndex, Load, Store, Check as Test, Declare}
 use Rattle.statements.specs.declared.Statement.{Statement}
-use Rattle.statements.specs.declared.Statement.the-variants.{Plain, If, While, Bundle}
+use Rattle.statements.specs.declared.CallSite.{CallSite}
+use Rattle.statements.specs.declared.Statement.the-variants.{Plain, If, While, Bundle, Call}
 use Rattle.statements.specs.declared.StatementRead.the-variants.{Read}
 use Rattle.statements.specs.Decode.{decodeStart, decodedAt}
 use Rattle.statements.specs.DecodeLaws.{read-decoded}
@@ -116,6 +117,10 @@ module _ (T : List ℤ) (h : Sections) (W D S : List ℕ) (a : ℕ) (vs cs : Lis
       Moves (bareMove T h W D S a vs cs) (Go b) W vs cs
   unfolding bareMove statementMove
   bare-while c x b n o e g p q = rw e (record { said = ap Go (rw (p, q) at g); ends = refl; values = refl; cells = refl })
+
+  pub bare-call : (x : CallSite) (n : ℕ) → decodedAt T h a ≡ Call x → n ≡ getD S (2 * a) 0 → Moves (bareMove T h W D S a vs cs) (Go n) W vs cs
+  unfolding bareMove statementMove
+  bare-call x n e p = rw e (record { said = ap Go p; ends = refl; values = refl; cells = refl })
 
   pub bare-bundle : (x n : ℕ) → decodedAt T h a ≡ Bundle x → n ≡ getD S (2 * a) 0 → Moves (bareMove T h W D S a vs cs) (Go n) W vs cs
   unfolding bareMove statementMove

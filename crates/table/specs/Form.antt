@@ -59,6 +59,10 @@ directoryRight table h =
     && fourthRight table h && eqb (length table) (tableEnd h)
     )
 
+-- Causes 1 and 2 do not refuse the table.
+unfoldable pub headRight : List ℤ → Bool
+headRight table = lengthRight table && directoryRight table (sectionsOf table)
+
 -- Cause 3: "its length in cells, 1 to 1,000,000".
 unfoldable pub objectRight : List ℤ → Sections → ℕ → Bool
 objectRight table h o = leb 1 (objectAt table h o) && leb (objectAt table h o) 1000000

@@ -17,7 +17,7 @@ use words::word;
 ghost use mathlib.Core.Path.{_≡_};
 ghost use mathlib.Core.Bool.{true};
 ghost use Rattle.words.specs.Sections.{inLimits};
-ghost use Rattle.table.specs.Form.{isNumber, fourPairs, lengthRight, sectionsOf, fourthRight, directoryRight, objectRight, variableReads};
+ghost use Rattle.table.specs.Form.{isNumber, fourPairs, lengthRight, sectionsOf, fourthRight, directoryRight, headRight, objectRight, variableReads};
 ghost use Rattle.table.specs.Form.{rowReads, statementReads, lowestObject, lowestVariable, lowestRow, lowestStatement, itemsForm, formOf};
 
 // What causes 1 to 5 say of a table.
@@ -49,6 +49,7 @@ fn length_right(table: &[i32]) -> bool
     (6 <= table.len()) & (table.len() <= 7318)
 }
 
+// What the directory's lengths say of the sections.
 pub fn sections_of(table: &[i32]) -> Sections
     ensures { λ r. ⌜ r ≡ sectionsOf (now (table .entry)) ⌝ }
 {
@@ -105,6 +106,13 @@ pub fn directory_right(table: &[i32], sections: Sections) -> bool
         & is_number(statements, word(table, 5))
         & fourth_right(table, sections)
         & (table.len() == end)
+}
+
+// Causes 1 and 2 do not refuse the table.
+pub fn head_right(table: &[i32]) -> bool
+    ensures { λ r. ⌜ r ≡ headRight (now (table .entry)) ⌝ }
+{
+    length_right(table) & directory_right(table, sections_of(table))
 }
 
 fn object_right(table: &[i32], sections: Sections, o: usize) -> bool

@@ -2,7 +2,7 @@
 use mathlib.Core.Path.{sym, _∙_}
 use native.Mathlib.Omega.{arith}
 use borrow.Author.Needs.{needs}
-use Rattle.steps.specs.ReadyLaws.{ready-below, ready-start, ready-simple, ready-if, ready-while, bare-plain, bare-if, bare-while, bare-bundle}
+use Rattle.steps.specs.ReadyLaws.{ready-below, ready-start, ready-simple, ready-if, ready-while, bare-plain, bare-if, bare-while, bare-bundle, bare-call}
 use Rattle.steps.proofs.advance.Statement.{statement}
 use Rattle.steps.proofs.advance.Tie as tie
 
@@ -26,7 +26,7 @@ advance-spec =
     (λ c. omega (arith, ready-below _ _ _ _ _ _ (c .before .before .before .before .before .before .before .before .before .before .pre .1), c .before .before .before .before .before .before .before .before .before .before .pre .0 .successors))
     (λ c κs. omega (arith, ready-below _ _ _ _ _ _ (c .before .before .before .before .before .before .before .before .before .before .pre .1), c .before .before .before .before .before .before .before .before .before .before .pre .0 .successors))
     (λ c κs. ready-while _ _ _ _ _ _ _ _ (c .before .before .before .before .before .before .before .before .before .before .before .before .pre .1) (sym (c .before .before .before .before .before .decode-statement .ensures) ∙ c .before .before .before .s3 .given .1))
-    (λ c. search needs) (λ c. search needs) (λ c. search needs) (λ c. search needs)
+    (λ c. search needs) (λ c. search needs) (λ c. search needs) (λ c. search needs) (λ c. search needs)
     (λ c. bare-plain _ _ _ _ _ _ _ _ _ _ _ _ _ _ (sym (c .before .before .before .before .before .before .before .before .before .before .before .before .before .decode-statement .ensures) ∙ c .before .before .before .before .before .before .before .before .before .before .before .s .given .1)
     (c .before .before .before .before .before .before .before .before .before .before .before .before .before .before .successor .ensures) (c .before .before .before .before .before .before .advance-simple .ensures))
     (λ c. search needs)
@@ -35,4 +35,5 @@ advance-spec =
     (λ c. search needs)
     (λ c. bare-while _ _ _ _ _ _ _ _ _ _ _ _ _ (sym (c .before .before .before .before .before .before .decode-statement .ensures) ∙ c .before .before .before .before .s3 .given .1) (c .branch2 .ensures) (c .before .before .before .before .before .before .before .successor .ensures)
     (c .before .before .successor3 .ensures))
-    (λ c. bare-bundle _ _ _ _ _ _ _ _ _ _ (sym (c .before .before .decode-statement .ensures) ∙ c .enum-told .given .1) (c .before .before .before .successor .ensures)))
+    (λ c. bare-bundle _ _ _ _ _ _ _ _ _ _ (sym (c .before .before .decode-statement .ensures) ∙ c .enum-told .given .1) (c .before .before .before .successor .ensures))
+    (λ c. bare-call _ _ _ _ _ _ _ _ _ _ (sym (c .before .before .decode-statement .ensures) ∙ c .enum-told2 .given .1) (c .before .before .before .successor .ensures)))

@@ -11,7 +11,7 @@ use Rattle.statements.specs.StatementLaws.{read-counts-if, read-counts-while, r
 use Rattle.blocks.specs.Tree.{parse}
 use Rattle.blocks.specs.Flow.{flow}
 use Rattle.blocks.specs.Written.{written}
-use Rattle.blocks.specs.FlowLaws.{Kept, Turn, arm, placed, falls as left-falls, room-put, room-if, room-bundle, link-none, link-end, link-unread, link-plain, link-if, link-while, link-bundle}
+use Rattle.blocks.specs.FlowLaws.{Kept, Turn, arm, placed, falls as left-falls, room-put, room-if, room-bundle, link-none, link-end, link-unread, link-plain, link-call, link-if, link-while, link-bundle}
 use Rattle.blocks.proofs.flow.link_block.Reads as link-block
 use Rattle.blocks.proofs.flow.link_block.Kinds as link-block-kinds
 use Rattle.blocks.proofs.flow.+link_block.Lts-link_block as link-block-lts
@@ -123,5 +123,10 @@ pub +link-block-spec : {M : Type 1} → statement M
     (λ c. link-bundle (arm (turn t (c .before .before .before .before .before .before .before .before .before .before .before .before .before .before)) (c .before .before .before .before .before .before .before .before .before .before .before .before .s3 .given .1))
     (c .before .before .before .before .before .before .before .before .before .count-simple .ensures) (c .before .before .before .before .before .before .before .before .before .before .first-due7 .ensures)
     (c .before .before .before .before .before .before .before .before .first-simple .ensures) (c .before .before .before .before .before .before .put-successors4 .ensures) (c .before .before .link-bundle .ensures))
+    (λ c. search needs)
+    (λ c κs. search needs)
+    (λ c κs. placed (turn t (c .before .before .before .before)) .1)
+    (λ c. omega (arith, turn t (c .before .before .before .before .before .before .before) .some))
+    (λ c. link-call (arm (turn t (c .before .before .before .before .before .before .before)) (c .before .before .before .before .before .enum-told3 .given .1)) (c .before .before .before .before .first-due8 .ensures) (c .before .before .put-successors5 .ensures))
     (λ c. search needs)
     (λ c. link-none (c .before .loop .inv) (c .loop-test .left))

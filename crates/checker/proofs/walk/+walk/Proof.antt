@@ -15,7 +15,8 @@ use Rattle.bundles.specs.BundleLaws.{applied-short, measured-by, marked-safe, u
 use Rattle.bundles.specs.declared.Walked.{Walked}
 use Rattle.checker.specs.WalkLaws.{Kept, Turn, carried-from, arm, placed, falls as left-falls, negated-offset, if-counts, while-count, bundle-count, if-offset, while-offset, plain-ranged, kept-none, kept-done, kept-end, kept-unread, plain-refused}
 use Rattle.checker.specs.PlaceLaws.{then-placed, else-placed, body-placed}
-use Rattle.checker.specs.WalkLaws.{turn-plain, turn-untouched, at-node, then-refused, else-refused, turn-if, body-refused, turn-while, bundle-refused, turn-bundle, row-named-within, same-force, row-refused, turn-row, sides-differ, ends-differ, before-refused, again-refused}
+use Rattle.checker.specs.WalkLaws.{turn-plain, turn-untouched, at-node, then-refused, else-refused, turn-if, body-refused, turn-while, bundle-refused, turn-bundle, row-named-within, same-force, row-refused, turn-row, sides-differ, ends-differ, before-refused, again-refused, call-refused}
+use Rattle.checker.specs.WalkLaws.{turn-call}
 use Rattle.checker.proofs.walk.walk.Reads as walk
 use Rattle.checker.proofs.walk.walk.Kinds as walk-kinds
 use Rattle.checker.proofs.walk.+walk.Lts-walk as walk-lts
@@ -44,15 +45,18 @@ use Rattle.effects.proofs.entries.check_entries.Reads as check-entries-reads
 use Rattle.declared.proofs.force.declare_row.Reads as declare-row-reads
 use Rattle.declared.proofs.force.force_of.Reads as force-of-reads
 use Rattle.declared.proofs.force.same_rows.Reads as same-rows-reads
+use Rattle.declared.proofs.calls.check_call.Reads as check-call-reads
+use Rattle.declared.proofs.calls.drop_result.Reads as drop-result-reads
+use Rattle.declared.specs.Callee.{calleesIn}
 
-abbrev μ-walk : Measures 2 walk-kinds.ps ℕ
+abbrev μ-walk : Measures 4 walk-kinds.ps ℕ
 μ-walk κs a = a .1 .1 .1 .1 .1 .1 .1 .0
 
-abbrev walk-at : ℕ → In 2 walk-kinds.ps
-walk-at t = and 2 walk-kinds.ps (is 2 walk-kinds.ps μ-walk t) walk.Pre
+abbrev walk-at : ℕ → In 4 walk-kinds.ps
+walk-at t = and 4 walk-kinds.ps (is 4 walk-kinds.ps μ-walk t) walk.Pre
 
-abbrev walk-below : ℕ → In 2 walk-kinds.ps
-walk-below t = and 2 walk-kinds.ps (falls 2 walk-kinds.ps _<_ μ-walk t) walk.Pre
+abbrev walk-below : ℕ → In 4 walk-kinds.ps
+walk-below t = and 4 walk-kinds.ps (falls 4 walk-kinds.ps _<_ μ-walk t) walk.Pre
 
 abbrev callees : ℕ → walk-lts.Claims
 callees t = (
@@ -102,19 +106,24 @@ callees t = (
   assume-entries-reads.Learnt,
   walk-bundle-reads.Asked,
   walk-bundle-reads.Learnt,
+  check-call-reads.Asked,
+  check-call-reads.Learnt,
+  drop-result-reads.Asked,
+  drop-result-reads.Learnt,
 )
 
 abbrev Inv : walk-lts.InvT-loop
-Inv table sections listed frame first end allowed sizes spans pointers at₀ left₀ force₀ now₀ side₀ at left force now side = Kept table sections (environmentOf table sections) listed end allowed (parse allowed table sections first end) (stateOf (now₀ .facts) (force₀ .rows .each))
+Inv table sections listed frame first end allowed words called sizes spans pointers at₀ left₀ force₀ now₀ side₀ at left force now side = Kept table sections (environmentOf table sections) listed (calleesIn words called) end allowed (parse allowed table sections first end)
+    (stateOf (now₀ .facts) (force₀ .rows .each))
     (now₀ .report .words) at left (now .facts) force (now .report .words)
 
 abbrev μ : walk-lts.MeasureT-loop
-μ table sections listed frame first end allowed sizes spans pointers at₀ left₀ force₀ now₀ side₀ at left force now side = left
+μ table sections listed frame first end allowed words called sizes spans pointers at₀ left₀ force₀ now₀ side₀ at left force now side = left
 
 -- the turn, once its statement is read
 turn : (t : ℕ) (d : walk-lts.After-known-told (callees t) (walk-at t) walk.Post Inv μ)
-    → let a = d .before .before .before .before .before .before .before .before .before .before .before .before .before .args in let l = d .before .before .before .before .before .before .before .before .loop in
-    Turn (now (a .table)) (a .sections) (environmentOf (now (a .table)) (a .sections)) (now (a .listed)) (a .end) (a .allowed) (parse (a .allowed) (now (a .table)) (a .sections) (a .first) (a .end)) (stateOf (a .given) (a .begun .rows .each))
+    → let a = d .before .before .before .before .before .before .before .before .before .before .before .before .before .before .args in let l = d .before .before .before .before .before .before .before .before .loop in
+    Turn (now (a .table)) (a .sections) (environmentOf (now (a .table)) (a .sections)) (now (a .listed)) (calleesIn (now (a .words)) (now (a .callees))) (a .end) (a .allowed) (parse (a .allowed) (now (a .table)) (a .sections) (a .first) (a .end)) (stateOf (a .given) (a .begun .rows .each))
     (a .reported .words) (l .at) (l .left) (l .now .facts) (l .force) (l .now .report .words) (d .before .got .given .0 .0)
 turn t d = record {
   so-far = d .before .before .before .before .before .before .before .before .loop .inv;
@@ -129,7 +138,7 @@ met t d = ⊎-elim (λ w. ap (λ (r : Walked). r .facts) (w .3)) (λ w. ap (λ (
 
 pub +walk-spec : {M : Type 1} → statement M
 +walk-spec = close μ-walk λ t. walk-lts.spec (callees t) (walk-at t) walk.Post Inv μ
-    (λ c. let p = c .before .before .before .before .pre .1 in kept-none _ _ _ _ _ _ _ _ _ _ (p .2) (p .3))
+    (λ c. let p = c .before .before .before .before .before .pre .1 in kept-none _ _ _ _ _ _ _ _ _ _ _ (p .2) (p .3))
     (λ c. search needs)
     (λ c κs. search needs)
     (λ c. search needs)
@@ -162,11 +171,11 @@ pub +walk-spec : {M : Type 1} → statement M
     (λ c κs. plain-ranged (arm (turn t (c .before .before .before .before .before .before .before .before .before .before)) (c .before .before .before .before .before .before .before .before .statement .given .1)))
     (λ c κs. search needs)
     (λ c κs. search needs)
-    (λ c κs. applied-short (environmentOf (now (c .before .before .before .before .before .before .before .before .before .before .before .before .before .before .before .before .before .before .before .before .before .before .before .before .before .before .before .args .table))
-    (c .before .before .before .before .before .before .before .before .before .before .before .before .before .before .before .before .before .before .before .before .before .before .before .before .before .before .before .args .sections)) _ _ (measured-by _ _
-    (c .before .before .before .before .before .before .before .before .before .before .before .before .before .before .before .before .before .before .before .before .before .before .before .before .before .before .before .pre .1 .1) (carried-from (met t
+    (λ c κs. applied-short (environmentOf (now (c .before .before .before .before .before .before .before .before .before .before .before .before .before .before .before .before .before .before .before .before .before .before .before .before .before .before .before .before .args .table))
+    (c .before .before .before .before .before .before .before .before .before .before .before .before .before .before .before .before .before .before .before .before .before .before .before .before .before .before .before .before .args .sections)) _ _ (measured-by _ _
+    (c .before .before .before .before .before .before .before .before .before .before .before .before .before .before .before .before .before .before .before .before .before .before .before .before .before .before .before .before .pre .1 .1) (carried-from (met t
     (c .before .before .before .before .before .before)) _ _ _ _ (c .before .before .before .before .before .ask-statement .ensures) (c .before .before .before .before .answer .ensures) (c .before .before .before .plan-statement .ensures) (c .before .before .after .ensures)))
-    (c .before .before .before .before .before .before .before .before .before .before .before .before .before .before .before .before .before .before .before .before .before .before .before .before .before .before .before .pre .1 .0) (plain-ranged (arm (turn t
+    (c .before .before .before .before .before .before .before .before .before .before .before .before .before .before .before .before .before .before .before .before .before .before .before .before .before .before .before .before .pre .1 .0) (plain-ranged (arm (turn t
     (c .before .before .before .before .before .before .before .before .before .before .before .before .before .before)) (c .before .before .before .before .before .before .before .before .before .before .before .before .statement .given .1))))
     (λ c. search needs)
     (λ c. search needs)
@@ -174,7 +183,7 @@ pub +walk-spec : {M : Type 1} → statement M
     (c .before .before .before .before .before .before .before .before .before .before .before .before .before .before .before .before .statement .given .1)) (sym
     (c .before .before .before .before .before .before .before .before .before .before .before .before .before .before .declares-of .ensures) ∙
     c .before .before .before .before .before .before .before .before .before .before .before .before .enum-told4 .given .1) (measured-by _ _
-    (c .before .before .before .before .before .before .before .before .before .before .before .before .before .before .before .before .before .before .before .before .before .before .before .before .before .before .before .before .before .before .before .pre .1 .1) (carried-from (met t
+    (c .before .before .before .before .before .before .before .before .before .before .before .before .before .before .before .before .before .before .before .before .before .before .before .before .before .before .before .before .before .before .before .before .pre .1 .1) (carried-from (met t
     (c .before .before .before .before .before .before .before .before .before .before)) _ _ _ _ (c .before .before .before .before .before .before .before .before .before .ask-statement .ensures) (c .before .before .before .before .before .before .before .before .answer .ensures)
     (c .before .before .before .before .before .before .before .plan-statement .ensures)
     (c .before .before .before .before .before .before .after .ensures))) (c .before .before .before .check-effect .ensures) refl (c .before .enum-told6 .given .1))
@@ -182,7 +191,7 @@ pub +walk-spec : {M : Type 1} → statement M
     (λ c. turn-plain (arm (turn t (c .before .before .before .before .before .before .before .before .before .before .before .before .before .before .before .before .before))
     (c .before .before .before .before .before .before .before .before .before .before .before .before .before .before .before .statement .given .1)) (sym (c .before .before .before .before .before .before .before .before .before .before .before .before .before .declares-of .ensures) ∙
     c .before .before .before .before .before .before .before .before .before .before .before .enum-told4 .given .1) (measured-by _ _
-    (c .before .before .before .before .before .before .before .before .before .before .before .before .before .before .before .before .before .before .before .before .before .before .before .before .before .before .before .before .before .before .pre .1 .1) (carried-from (met t
+    (c .before .before .before .before .before .before .before .before .before .before .before .before .before .before .before .before .before .before .before .before .before .before .before .before .before .before .before .before .before .before .before .pre .1 .1) (carried-from (met t
     (c .before .before .before .before .before .before .before .before .before)) _ _ _ _ (c .before .before .before .before .before .before .before .before .ask-statement .ensures) (c .before .before .before .before .before .before .before .answer .ensures)
     (c .before .before .before .before .before .before .plan-statement .ensures)
     (c .before .before .before .before .before .after .ensures))) (c .before .before .check-effect .ensures)
@@ -192,12 +201,13 @@ pub +walk-spec : {M : Type 1} → statement M
     (λ c. omega (arith, (turn t (c .before .before .before .before .before .before .before .before .before .before .before .before .before .before)) .some))
     (λ c. turn-untouched (arm (turn t (c .before .before .before .before .before .before .before .before .before .before .before .before .before .before)) (c .before .before .before .before .before .before .before .before .before .before .before .before .statement .given .1)) (sym
     (c .before .before .before .before .before .before .before .before .before .before .declares-of .ensures) ∙ c .before .before .before .before .before .before .before .before .enum-told4 .given .1) (measured-by _ _
-    (c .before .before .before .before .before .before .before .before .before .before .before .before .before .before .before .before .before .before .before .before .before .before .before .before .before .before .before .pre .1 .1) (carried-from (met t
+    (c .before .before .before .before .before .before .before .before .before .before .before .before .before .before .before .before .before .before .before .before .before .before .before .before .before .before .before .before .pre .1 .1) (carried-from (met t
     (c .before .before .before .before .before .before)) _ _ _ _ (c .before .before .before .before .before .ask-statement .ensures) (c .before .before .before .before .answer .ensures) (c .before .before .before .plan-statement .ensures) (c .before .before .after .ensures)))
     (⊎-elim (λ w. marked-safe _ _ _ _ _ (w .1 .ensures) (ap (λ (r : Walked). r .report .words) (w .3) ∙ w .2 .ensures))
     (λ w. unmarked _ _ _ _ _ (c .before .before .before .before .before .before .before .is-access .ensures) (w .0 .left) (ap (λ (r : Walked). r .report .words) (w .1)))
     (c .before .before .before .before .before .before .if2 .came))
-    (c .before .before .before .before .before .before .before .before .before .before .before .before .before .before .before .before .before .before .before .before .before .before .before .before .before .before .before .pre .1 .1 .pointers) (sym (c .before .touches .ensures) ∙ c .if3 .left))
+    (c .before .before .before .before .before .before .before .before .before .before .before .before .before .before .before .before .before .before .before .before .before .before .before .before .before .before .before .before .pre .1 .1 .pointers)
+    (sym (c .before .touches .ensures) ∙ c .if3 .left))
     (λ c. search needs)
     (λ c. let u = (arm (turn t (c .before .before .before)) (c .before .statement2 .given .1)) in omega (arith, placed u, if-counts u))
     (λ c. let u = (arm (turn t (c .before .before .before)) (c .before .statement2 .given .1)) in omega (arith, placed u, if-counts u))
@@ -206,13 +216,13 @@ pub +walk-spec : {M : Type 1} → statement M
     (λ c κs. if-offset (arm (turn t (c .before .before .before .before .before)) (c .before .before .before .statement2 .given .1)))
     (λ c κs. search needs)
     (λ c κs. (
-      left-falls (turn t (c .before .before .before .before .before .before .before)) (c .before .before .before .before .before .before .before .before .before .before .before .before .before .before .before .before .before .before .before .before .pre .0),
+      left-falls (turn t (c .before .before .before .before .before .before .before)) (c .before .before .before .before .before .before .before .before .before .before .before .before .before .before .before .before .before .before .before .before .before .pre .0),
       (
-        c .before .before .before .before .before .before .before .before .before .before .before .before .before .before .before .before .before .before .before .before .pre .1 .0,
-        c .before .before .before .before .before .before .before .before .before .before .before .before .before .before .before .before .before .before .before .before .pre .1 .1,
+        c .before .before .before .before .before .before .before .before .before .before .before .before .before .before .before .before .before .before .before .before .before .pre .1 .0,
+        c .before .before .before .before .before .before .before .before .before .before .before .before .before .before .before .before .before .before .before .before .before .pre .1 .1,
         (turn t (c .before .before .before .before .before .before .before)) .so-far .forced,
         let u = arm (turn t (c .before .before .before .before .before .before .before)) (c .before .before .before .before .before .statement2 .given .1) in then-placed (u .read) (at-node u),
-        c .before .before .before .before .before .before .before .before .before .before .before .before .before .before .before .before .before .before .before .before .pre .1 .4,
+        c .before .before .before .before .before .before .before .before .before .before .before .before .before .before .before .before .before .before .before .before .before .pre .1 .4,
       ),
     ))
     (λ c. search needs)
@@ -225,14 +235,14 @@ pub +walk-spec : {M : Type 1} → statement M
     (λ c κs. search needs)
     (λ c κs. (
       left-falls (turn t (c .before .before .before .before .before .before .before .before .before .before .before .before .before))
-          (c .before .before .before .before .before .before .before .before .before .before .before .before .before .before .before .before .before .before .before .before .before .before .before .before .before .before .pre .0),
+          (c .before .before .before .before .before .before .before .before .before .before .before .before .before .before .before .before .before .before .before .before .before .before .before .before .before .before .before .pre .0),
       (
-        c .before .before .before .before .before .before .before .before .before .before .before .before .before .before .before .before .before .before .before .before .before .before .before .before .before .before .pre .1 .0,
-        c .before .before .before .before .before .before .before .before .before .before .before .before .before .before .before .before .before .before .before .before .before .before .before .before .before .before .pre .1 .1,
+        c .before .before .before .before .before .before .before .before .before .before .before .before .before .before .before .before .before .before .before .before .before .before .before .before .before .before .before .pre .1 .0,
+        c .before .before .before .before .before .before .before .before .before .before .before .before .before .before .before .before .before .before .before .before .before .before .before .before .before .before .before .pre .1 .1,
         (turn t
             (c .before .before .before .before .before .before .before .before .before .before .before .before .before)) .so-far .forced,
         let u = arm (turn t (c .before .before .before .before .before .before .before .before .before .before .before .before .before)) (c .before .before .before .before .before .before .before .before .before .before .before .statement2 .given .1) in else-placed (u .read) (at-node u),
-        c .before .before .before .before .before .before .before .before .before .before .before .before .before .before .before .before .before .before .before .before .before .before .before .before .before .before .pre .1 .4,
+        c .before .before .before .before .before .before .before .before .before .before .before .before .before .before .before .before .before .before .before .before .before .before .before .before .before .before .before .pre .1 .4,
       ),
     ))
     (λ c. search needs)
@@ -273,7 +283,8 @@ pub +walk-spec : {M : Type 1} → statement M
     (c .before .before .before .before .before .before .before .before .before .before .before .assume2 .ensures) (c .before .before .before .before .before .before .before .before .before .before .after3 .ensures))
     (c .before .before .before .before .before .before .before .before .before .walk2 .ensures) (c .before .before .before .before .before .before .before .enum-told9 .given .1) (c .before .before .before .before .before .same-rows .ensures) (not-false _
     (c .before .before .before .before .if4 .left))
-    (c .before .before .before .before .before .before .before .before .before .before .before .before .before .before .before .before .before .before .before .before .before .before .before .before .before .before .before .before .before .before .before .before .before .before .before .before .pre .1 .1
+    (c .before .before .before .before .before .before .before .before .before .before .before .before .before .before .before .before .before .before .before .before .before .before .before .before .before .before .before .before .before .before .before .before .before .before
+    .before .before .before .pre .1 .1
     .pointers) (c .before .before .before .join .ensures) (c .force-of .ensures))
     (λ c. omega (arith, (turn t (c .before .before .before .before .before .before .before .before .before .before .before .before .before .before .before .before .before .before .before .before .before .before)) .some))
     (λ c. turn-if (arm (turn t (c .before .before .before .before .before .before .before .before .before .before .before .before .before .before .before .before .before .before .before .before .before .before))
@@ -288,30 +299,31 @@ pub +walk-spec : {M : Type 1} → statement M
     (c .before .before .before .before .before .before .before .before .before .before .before .before .before .before .before .before .before .answer2 .ensures) (c .before .before .before .before .before .before .before .before .before .before .assume2 .ensures)
     (c .before .before .before .before .before .before .before .before .before .after3 .ensures)) (c .before .before .before .before .before .before .before .before .walk2 .ensures) (c .before .before .before .before .before .before .enum-told9 .given .1)
     (c .before .before .before .before .same-rows .ensures) (not-false _ (c .before .before .before .if4 .left))
-    (c .before .before .before .before .before .before .before .before .before .before .before .before .before .before .before .before .before .before .before .before .before .before .before .before .before .before .before .before .before .before .before .before .before .before .before .pre .1 .1
+    (c .before .before .before .before .before .before .before .before .before .before .before .before .before .before .before .before .before .before .before .before .before .before .before .before .before .before .before .before .before .before .before .before .before .before
+    .before .before .pre .1 .1
     .pointers) (c .before .before .join .ensures)
     (same-force ((turn t (c .before .before .before .before .before .before .before .before .before .before .before .before .before .before .before .before .before .before .before .before .before .before)) .so-far .forced) (c .before .same-rows2 .ensures) (not-false _ (c .if5 .left))))
     (λ c. search needs)
     (λ c. let u = (arm (turn t (c .before .before .before)) (c .before .statement3 .given .1)) in omega (arith, placed u, while-count u))
     (λ c κs. let u = (arm (turn t (c .before .before .before)) (c .before .statement3 .given .1)) in omega (arith, placed u, while-count u))
-    (λ c κs. (c .before .before .before .before .before .before .before .before .before .before .before .before .before .before .before .before .before .pre .1 .4, omega (arith, placed (turn t (c .before .before .before .before)))))
+    (λ c κs. (c .before .before .before .before .before .before .before .before .before .before .before .before .before .before .before .before .before .before .pre .1 .4, omega (arith, placed (turn t (c .before .before .before .before)))))
     (λ c. search needs)
     (λ c. search needs)
     (λ c. before-refused (arm (turn t (c .before .before .before .before .before .before .before .before)) (c .before .before .before .before .before .before .statement3 .given .1)) (c .before .before .before .check-entries .ensures) refl (c .before .enum-told12 .given .1))
-    (λ c κs. (c .before .before .before .before .before .before .before .before .before .before .before .before .before .before .before .before .before .before .before .before .pre .1 .4, omega (arith, placed (turn t (c .before .before .before .before .before .before .before)))))
+    (λ c κs. (c .before .before .before .before .before .before .before .before .before .before .before .before .before .before .before .before .before .before .before .before .before .pre .1 .4, omega (arith, placed (turn t (c .before .before .before .before .before .before .before)))))
     (λ c κs. while-offset (arm (turn t (c .before .before .before .before .before .before .before .before)) (c .before .before .before .before .before .before .statement3 .given .1)))
     (λ c κs. search needs)
     (λ c κs. while-offset (arm (turn t (c .before .before .before .before .before .before .before .before .before .before)) (c .before .before .before .before .before .before .before .before .statement3 .given .1)))
     (λ c κs. search needs)
     (λ c κs. (
       left-falls (turn t (c .before .before .before .before .before .before .before .before .before .before .before .before))
-          (c .before .before .before .before .before .before .before .before .before .before .before .before .before .before .before .before .before .before .before .before .before .before .before .before .before .pre .0),
+          (c .before .before .before .before .before .before .before .before .before .before .before .before .before .before .before .before .before .before .before .before .before .before .before .before .before .before .pre .0),
       (
-        c .before .before .before .before .before .before .before .before .before .before .before .before .before .before .before .before .before .before .before .before .before .before .before .before .before .pre .1 .0,
-        c .before .before .before .before .before .before .before .before .before .before .before .before .before .before .before .before .before .before .before .before .before .before .before .before .before .pre .1 .1,
+        c .before .before .before .before .before .before .before .before .before .before .before .before .before .before .before .before .before .before .before .before .before .before .before .before .before .before .pre .1 .0,
+        c .before .before .before .before .before .before .before .before .before .before .before .before .before .before .before .before .before .before .before .before .before .before .before .before .before .before .pre .1 .1,
         (turn t (c .before .before .before .before .before .before .before .before .before .before .before .before)) .so-far .forced,
         let u = (arm (turn t (c .before .before .before .before .before .before .before .before .before .before .before .before)) (c .before .before .before .before .before .before .before .before .before .before .statement3 .given .1)) in body-placed (u .read) (at-node u),
-        c .before .before .before .before .before .before .before .before .before .before .before .before .before .before .before .before .before .before .before .before .before .before .before .before .before .pre .1 .4,
+        c .before .before .before .before .before .before .before .before .before .before .before .before .before .before .before .before .before .before .before .before .before .before .before .before .before .before .pre .1 .4,
       ),
     ))
     (λ c. search needs)
@@ -321,7 +333,7 @@ pub +walk-spec : {M : Type 1} → statement M
     (c .before .before .before .before .before .before .before .before .before .before .before .lose .ensures) (c .before .before .before .before .before .before .before .assume-entries .ensures) (assumed _ _ _ (c .before .before .before .before .before .before .ask-condition2 .ensures)
     (c .before .before .before .before .before .answer3 .ensures) (c .before .before .before .before .assume3 .ensures) (c .before .before .before .after4 .ensures)) (c .before .before .walk3 .ensures) (c .enum-told14 .given .1))
     (λ c κs. (
-      c .before .before .before .before .before .before .before .before .before .before .before .before .before .before .before .before .before .before .before .before .before .before .before .before .before .before .before .before .pre .1 .4,
+      c .before .before .before .before .before .before .before .before .before .before .before .before .before .before .before .before .before .before .before .before .before .before .before .before .before .before .before .before .before .pre .1 .4,
       omega (
         arith,
         placed (turn t
@@ -367,9 +379,9 @@ pub +walk-spec : {M : Type 1} → statement M
     (λ c. search needs)
     (λ c. let u = (arm (turn t (c .before .before .before)) (c .before .statement4 .given .1)) in omega (arith, placed u, bundle-count u))
     (λ c κs. (
-      c .before .before .before .before .before .before .before .before .before .before .before .before .before .before .before .before .pre .1 .0,
+      c .before .before .before .before .before .before .before .before .before .before .before .before .before .before .before .before .before .pre .1 .0,
       omega (arith, placed (turn t (c .before .before .before))),
-      c .before .before .before .before .before .before .before .before .before .before .before .before .before .before .before .before .pre .1 .1,
+      c .before .before .before .before .before .before .before .before .before .before .before .before .before .before .before .before .before .pre .1 .1,
       (turn t (c .before .before .before)) .so-far .forced,
     ))
     (λ c. search needs)
@@ -383,4 +395,9 @@ pub +walk-spec : {M : Type 1} → statement M
     (λ c. omega (arith, (turn t (c .before .before .before .before .before .before .before .before .before)) .some))
     (λ c. turn-bundle (arm (turn t (c .before .before .before .before .before .before .before .before .before)) (c .before .before .before .before .before .before .before .statement4 .given .1)) (c .before .before .before .before .before .walk-bundle .ensures)
     (c .before .before .before .enum-told17 .given .1) (same-force ((turn t (c .before .before .before .before .before .before .before .before .before)) .so-far .forced) (c .before .same-rows4 .ensures) (not-false _ (c .if7 .left))))
+    (λ c. search needs) (λ c κs. search needs) (λ c. search needs) (λ c. search needs)
+    (λ c. call-refused (arm (turn t (c .before .before .before .before .before .before .before)) (c .before .before .before .before .before .statement5 .given .1)) (c .before .before .before .check-call .ensures) refl (c .before .enum-told20 .given .1))
+    (λ c κs. search needs)
+    (λ c. omega (arith, (turn t (c .before .before .before .before .before .before .before)) .some))
+    (λ c. turn-call (arm (turn t (c .before .before .before .before .before .before .before)) (c .before .before .before .before .before .statement5 .given .1)) (c .before .before .before .check-call .ensures) (c .before .enum-told19 .given .1) (c .drop-result .ensures))
     (λ c. ⊎-elim (λ w. kept-done (c .before .before .before .before .loop .inv) (w .left) refl refl refl refl) (λ w. kept-end (c .before .before .before .before .loop .inv) (w .1 .taken) refl refl refl refl) (c .before .before .before .loop-test .came))

@@ -1,8 +1,7 @@
 -- `effects::loops::mark_target` meets its contract.
 use borrow.Author.Needs.{needs}
 use Rattle.effects.specs.Marks.{marked}
-use Rattle.effects.specs.MarkLaws.{read-target, read-past, read-other}
-use Rattle.blocks.proofs.Variants.{not-plain}
+use Rattle.effects.specs.MarkLaws.{read-target, read-past}
 use Rattle.effects.proofs.loops.mark_target.Statement.{statement}
 use Rattle.effects.proofs.loops.mark_target.Tie as tie
 
@@ -13,8 +12,6 @@ mark-target-spec =
     (tie.spec
     (λ c. search needs) (λ c. search needs)
     (λ c. simp (c .enum-told .given .1))
-    (λ c. search needs)
-    (λ c. read-other _ (c .before .before .read .given .1) (not-plain _ (c .match2 .keys2)))
     (λ c κs. search needs) (λ c. search needs)
-    (λ c. read-target _ (c .before .before .before .before .before .before .read .given .1) (c .before .before .before .statement .given .1) (c .before .target-of .ensures) (c .if1 .taken))
-    (λ c. read-past _ (c .before .before .before .before .before .before .read .given .1) (c .before .before .before .statement .given .1) (c .before .target-of .ensures) (search needs) (c .if1 .left)))
+    (λ c. read-target _ (c .before .before .before .read .given .1) (c .before .assigned-by .ensures) (c .if1 .taken))
+    (λ c. read-past _ (c .before .before .before .read .given .1) (c .before .assigned-by .ensures) (search needs) (c .if1 .left)))

@@ -1,5 +1,7 @@
 -- `interpreter::starts::prepare` meets its contract: the verdict refuses, or the accepted table is prepared.
+use mathlib.Core.List.{[]}
 use borrow.Author.Needs.{needs}
+use Rattle.rules.specs.CallLaws.{none-formed}
 use Rattle.rules.specs.AcceptedLaws.{accepted-clear}
 use Rattle.rules.specs.Decidable.{stored-verdict}
 use Rattle.interpreter.specs.ClaimLaws.{check-refused}
@@ -13,8 +15,8 @@ prepare-spec =
     (λ c κs. search needs)
     (λ c. search needs)
     (λ c. search needs)
-    (λ c κs. (accepted-clear _ (stored-verdict _ _ _ (c .before .before .before .before .check .ensures .0)) (c .before .before .enum-told .given .1), c .before .before .before .before .before .before .before .before .before .before .before .pre))
-    (λ c. check-refused _ _ _ _ _ _ _ (stored-verdict _ _ _ (rw (c .before .verdict .given .1) at (c .before .before .before .check .ensures .0))))
+    (λ c κs. (accepted-clear _ (stored-verdict [] none-formed _ _ _ (c .before .before .before .before .check .ensures .0)) (c .before .before .enum-told .given .1), c .before .before .before .before .before .before .before .before .before .before .before .pre))
+    (λ c. check-refused _ _ _ _ _ _ _ (stored-verdict [] none-formed _ _ _ (rw (c .before .verdict .given .1) at (c .before .before .before .check .ensures .0))))
     (λ c. search needs)
     (λ c. search needs)
     (λ c. search needs))

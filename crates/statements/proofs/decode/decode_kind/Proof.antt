@@ -11,7 +11,7 @@ unfolding decodedAs
 decode-kind-spec =
     tie.close
     (tie.spec
-    (λ c κs. search needs) (λ c κs. search needs) (λ c κs. search needs) (λ c κs. search needs) (λ c κs. search needs) (λ c κs. search needs) (λ c κs. search needs) (λ c κs. search needs)
+    (λ c κs. search needs) (λ c κs. search needs) (λ c κs. search needs) (λ c κs. search needs) (λ c κs. search needs) (λ c κs. search needs) (λ c κs. search needs) (λ c κs. search needs) (λ c κs. search needs)
     (λ c κs. search needs) (λ c κs. search needs) (λ c κs. search needs) (λ c κs. search needs) (λ c κs. search needs) (λ c κs. search needs)
     (λ c κs. search needs) (λ c κs. search needs) (λ c κs. search needs) (λ c κs. search needs) (λ c κs. search needs) (λ c κs. search needs)
     (λ c κs. search needs) (λ c κs. search needs) (λ c κs. search needs) (λ c κs. search needs) (λ c κs. search needs) (λ c κs. search needs)
@@ -29,20 +29,21 @@ decode-kind-spec =
     (λ c. rw (sym (c .before .before .before .before .unsigned .ensures) ∙ c .before .before .before .match .keys11) (simp (c .before .before .decode-condition2 .ensures, c .before .plain .ensures, c .plain2 .ensures)))
     (λ c. rw (sym (c .before .before .before .unsigned .ensures) ∙ c .before .before .match .keys12) (simp (c .before .decode-condition3 .ensures, c .plain3 .ensures)))
     (λ c. rw (sym (c .before .before .unsigned .ensures) ∙ c .before .match .keys13) (simp (c .plain4 .ensures)))
-    (λ c. let kind = unsigned (c .before .before .before .before .args .f .kind) in let rest = c .before .before .match .rest in let same = c .before .before .before .unsigned .ensures in simp (
-      ne-eqb kind 1 (λ e. rest .0 .0 .0 .0 .0 .0 .0 .0 .0 .0 .0 .0 .1 (same ∙ e)),
-      ne-eqb kind 2 (λ e. rest .0 .0 .0 .0 .0 .0 .0 .0 .0 .0 .0 .1 (same ∙ e)),
-      ne-eqb kind 3 (λ e. rest .0 .0 .0 .0 .0 .0 .0 .0 .0 .0 .1 (same ∙ e)),
-      ne-eqb kind 4 (λ e. rest .0 .0 .0 .0 .0 .0 .0 .0 .0 .1 (same ∙ e)),
-      ne-eqb kind 5 (λ e. rest .0 .0 .0 .0 .0 .0 .0 .0 .1 (same ∙ e)),
-      ne-eqb kind 6 (λ e. rest .0 .0 .0 .0 .0 .0 .0 .1 (same ∙ e)),
-      ne-eqb kind 7 (λ e. rest .0 .0 .0 .0 .0 .0 .1 (same ∙ e)),
-      ne-eqb kind 8 (λ e. rest .0 .0 .0 .0 .0 .1 (same ∙ e)),
-      ne-eqb kind 9 (λ e. rest .0 .0 .0 .0 .1 (same ∙ e)),
-      ne-eqb kind 10 (λ e. rest .0 .0 .0 .1 (same ∙ e)),
-      ne-eqb kind 11 (λ e. rest .0 .0 .1 (same ∙ e)),
-      ne-eqb kind 12 (λ e. rest .0 .1 (same ∙ e)),
-      ne-eqb kind 13 (λ e. rest .1 (same ∙ e)),
-      c .before .unsigned21 .ensures,
-      c .unsigned22 .ensures,
+    (λ c. rw (sym (c .before .before .before .unsigned .ensures) ∙ c .before .before .match .keys14) (simp (c .before .unsigned21 .ensures, c .unsigned22 .ensures)))
+    (λ c. let kind = unsigned (c .before .before .before .args .f .kind) in let rest = c .before .match .rest in let same = c .before .before .unsigned .ensures in simp (
+      ne-eqb kind 1 (λ e. rest .0 .0 .0 .0 .0 .0 .0 .0 .0 .0 .0 .0 .0 .1 (same ∙ e)),
+      ne-eqb kind 2 (λ e. rest .0 .0 .0 .0 .0 .0 .0 .0 .0 .0 .0 .0 .1 (same ∙ e)),
+      ne-eqb kind 3 (λ e. rest .0 .0 .0 .0 .0 .0 .0 .0 .0 .0 .0 .1 (same ∙ e)),
+      ne-eqb kind 4 (λ e. rest .0 .0 .0 .0 .0 .0 .0 .0 .0 .0 .1 (same ∙ e)),
+      ne-eqb kind 5 (λ e. rest .0 .0 .0 .0 .0 .0 .0 .0 .0 .1 (same ∙ e)),
+      ne-eqb kind 6 (λ e. rest .0 .0 .0 .0 .0 .0 .0 .0 .1 (same ∙ e)),
+      ne-eqb kind 7 (λ e. rest .0 .0 .0 .0 .0 .0 .0 .1 (same ∙ e)),
+      ne-eqb kind 8 (λ e. rest .0 .0 .0 .0 .0 .0 .1 (same ∙ e)),
+      ne-eqb kind 9 (λ e. rest .0 .0 .0 .0 .0 .1 (same ∙ e)),
+      ne-eqb kind 10 (λ e. rest .0 .0 .0 .0 .1 (same ∙ e)),
+      ne-eqb kind 11 (λ e. rest .0 .0 .0 .1 (same ∙ e)),
+      ne-eqb kind 12 (λ e. rest .0 .0 .1 (same ∙ e)),
+      ne-eqb kind 13 (λ e. rest .0 .1 (same ∙ e)),
+      ne-eqb kind 14 (λ e. rest .1 (same ∙ e)),
+      c .decode-call .ensures,
     )))
