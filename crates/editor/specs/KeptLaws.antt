@@ -156,7 +156,8 @@ rechecked T h K S {r} {Q} k w =
     let p = last-reached T h (places S) (table-laid T h (k .laid)) (k .reached) in
     let o = reached-laid T h p in
     let l = from-laid T h (lastPlace (places S) .position) o in
-    let v : r .verdict ≡ verdictOf (blockFaults (environmentOf T h) [] [] (restOf T h (lastPlace (places S) .position)) (lastPlace (places S) .state)) = rw l at (w .verdict) in
+    let v : r .verdict ≡ verdictOf (blockFaults (environmentOf T h) [] [] (restOf T h (lastPlace (places S) .position)) (lastPlace (places S) .state)) =
+    rw l at (w .verdict) in
     let n : r .walked ≡ walkedFrom T h (lastPlace (places S) .position) (r .verdict) = rw l at (w .walked) in
     let z : places Q ≡ keptFrom K (capacity S) (environmentOf T h) (restOf T h (lastPlace (places S) .position)) (lastPlace (places S) .state) (places S) =
     rw l at (w .left .holds) in

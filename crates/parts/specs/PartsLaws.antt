@@ -70,7 +70,8 @@ module _ (L : List ℕ) (kinds kind : ℕ) where
 pub span-within : (n s e a b : ℕ) → s ≤ 2 ^ 36 → a ≡ min s n → b ≡ min (s + e) n → (a ≤ b) × (b ≤ n) × (a ≤ 2 ^ 36)
 span-within n s e a b z x y = (omega arith, omega arith, omega arith)
 
-pub between-part : {A : Type 0} (L : List ℕ) (kinds kind r n : ℕ) (xs : List A) → n ≡ length xs → between (spanOf L kinds kind r n) xs ≡ partOf L kinds kind r xs
+pub between-part : {A : Type 0} (L : List ℕ) (kinds kind r n : ℕ) (xs : List A) → n ≡ length xs
+    → between (spanOf L kinds kind r n) xs ≡ partOf L kinds kind r xs
 between-part L kinds kind r n xs e = rw e (cut-window (startAt L kinds kind r) (lengthAt L kinds kind r) xs)
 
 -- One length a routine: the lengths of the first n routines say where these lie.

@@ -59,11 +59,13 @@ module _ (K : List ℕ) (n : ℕ) (E : Environment) where
   unfolding followed keptFrom
   kept-followed nil u a m w P = nil-onward K n E u w P
   kept-followed (plain x s r) u a m w P =
-      step (blockFaults E [] [] (plain x s nil) w) (blockFaults E [] [] r (blockAfter E [] (plain x s nil) w)) _ _ _ (keptFrom K n E u (blockAfter E [] r (blockAfter E [] (plain x s nil) w)))
+      step (blockFaults E [] [] (plain x s nil) w) (blockFaults E [] [] r (blockAfter E [] (plain x s nil) w)) _ _ _
+      (keptFrom K n E u (blockAfter E [] r (blockAfter E [] (plain x s nil) w)))
       (kept-followed r u (x + 1) (m .1) (blockAfter E [] (plain x s nil) w) (keptAt K n P x w))
       ∙ rw (sym (first-faults (plain x s nil) r x (refl, tt) w), sym (first-after (plain x s nil) r x (refl, tt) w))
   kept-followed (call x s r) u a m w P =
-      step (blockFaults E [] [] (call x s nil) w) (blockFaults E [] [] r (blockAfter E [] (call x s nil) w)) _ _ _ (keptFrom K n E u (blockAfter E [] r (blockAfter E [] (call x s nil) w)))
+      step (blockFaults E [] [] (call x s nil) w) (blockFaults E [] [] r (blockAfter E [] (call x s nil) w)) _ _ _
+      (keptFrom K n E u (blockAfter E [] r (blockAfter E [] (call x s nil) w)))
       (kept-followed r u (x + 1) (m .1) (blockAfter E [] (call x s nil) w) (keptAt K n P x w))
       ∙ rw (sym (first-faults (call x s nil) r x (refl, tt) w), sym (first-after (call x s nil) r x (refl, tt) w))
   kept-followed (branch x c t e r) u a m w P =

@@ -132,7 +132,8 @@ module _ (K : List ℕ) (n : ℕ) where
     -- The first statement t of a block, and the rest r from b on.
     part : {v : Verdict} (t r : Block) (a b : ℕ) (w : State FactSet) (P : List Place) → Numbered t a → b ≡ a + size t → 0 < size t → Numbered r b
         → v ≡ verdictOf (blockFaults E [] [] (followed t r) w)
-        → ((u : State FactSet) (Q : List Place) → v ≡ verdictOf (blockFaults E [] [] r u) → positionsIn (keptFrom K n E r u Q) ≡ stored K n v (positionsOf r) (positionsIn Q))
+        → ((u : State FactSet) (Q : List Place) → v ≡ verdictOf (blockFaults E [] [] r u)
+        → positionsIn (keptFrom K n E r u Q) ≡ stored K n v (positionsOf r) (positionsIn Q))
         → positionsIn (onward (blockFaults E [] [] t w) (keptFrom K n E r (blockAfter E [] t w) (keptAt K n P a w)) (keptAt K n P a w))
         ≡ stored K n v (a ∷ positionsOf r) (positionsIn P)
     unfolding topLevel

@@ -117,8 +117,11 @@ module _ (T : List ℤ) (h : Sections) (K : List ℕ) (from : ℕ) (w₀ : State
       whole : g .stands .block ≡ followed (s .cut .front) (s .cut .back)
       whole = cut-whole (g .stands .laid) (s .cut)
 
-      parts : blockFaults E [] [] (restOf T h from) w₀ ≡ also (blockFaults E [] [] (s .cut .front) w) (blockFaults E [] [] (s .cut .back) (blockAfter E [] (s .cut .front) w))
-      parts = g .faults ∙ (ap (λ (b : Block). blockFaults E [] [] b w) whole ∙ faults-followed store E [] (s .cut .front) (s .cut .back) at (s .cut .front-laid .numbered) w)
+      parts : blockFaults E [] [] (restOf T h from) w₀
+          ≡ also (blockFaults E [] [] (s .cut .front) w) (blockFaults E [] [] (s .cut .back) (blockAfter E [] (s .cut .front) w))
+      parts =
+          g .faults ∙ (ap (λ (b : Block). blockFaults E [] [] b w) whole
+          ∙ faults-followed store E [] (s .cut .front) (s .cut .back) at (s .cut .front-laid .numbered) w)
 
       first-kept : keptFrom K (capacity S₀) E (s .cut .front) w (places S) ≡ places Q
       first-kept =
@@ -130,7 +133,8 @@ module _ (T : List ℤ) (h : Sections) (K : List ℕ) (from : ℕ) (w₀ : State
       kept-parts =
           g .kept ∙ (ap (λ (b : Block). keptFrom K (capacity S₀) E b w (places S)) whole
           ∙ (kept-followed K (capacity S₀) E (s .cut .front) (s .cut .back) at (s .cut .front-laid .numbered) w (places S)
-          ∙ ap (λ (P : List Place). onward (blockFaults E [] [] (s .cut .front) w) (keptFrom K (capacity S₀) E (s .cut .back) (blockAfter E [] (s .cut .front) w) P) P) first-kept))
+          ∙ ap (λ (P : List Place).
+          onward (blockFaults E [] [] (s .cut .front) w) (keptFrom K (capacity S₀) E (s .cut .back) (blockAfter E [] (s .cut .front) w) P) P) first-kept))
 
       module _ {r : Walked} (walks : WalksPart E (parse (stop - at) T h at stop) w r) where
         front-walks : Walks E [] [] (s .cut .front) w (walks .0) r
@@ -138,9 +142,13 @@ module _ (T : List ℤ) (h : Sections) (K : List ℕ) (from : ℕ) (w₀ : State
 
         pub going-refused : {v : Verdict} {x : Refusal} → v ≡ r .verdict → v ≡ Refused x → WalkedOn T h K from w₀ S₀ v Q
         going-refused e p =
-            let said = refuse-part (blockFaults E [] [] (s .cut .front) w) (blockFaults E [] [] (s .cut .back) (blockAfter E [] (s .cut .front) w)) (e ∙ front-walks .said) p in record {
+            let said = refuse-part (blockFaults E [] [] (s .cut .front) w)
+            (blockFaults E [] [] (s .cut .back) (blockAfter E [] (s .cut .front) w)) (e ∙ front-walks .said) p in record {
               said = said .0 ∙ ap verdictOf (sym parts);
-              left = record { long = k .long ∙ g .long; holds = sym (kept-parts ∙ not-onward (blockFaults E [] [] (s .cut .front) w) (e ∙ front-walks .said) p _ _) };
+              left = record {
+                long = k .long ∙ g .long;
+                holds = sym (kept-parts ∙ not-onward (blockFaults E [] [] (s .cut .front) w) (e ∙ front-walks .said) p _ _);
+              };
             }
 
         pub going-on : {v : Verdict} → v ≡ r .verdict → v ≡ Accepted → Going T h K from w₀ S₀ stop (stateOf (r .facts) (r .rows .each)) Q
@@ -149,7 +157,8 @@ module _ (T : List ℤ) (h : Sections) (K : List ℕ) (from : ℕ) (w₀ : State
             let now = front-walks .kept clear in record {
               stands = record { block = s .cut .back; laid = s .cut .back-laid };
               faults = parts ∙ (pass _ _ clear ∙ ap (blockFaults E [] [] (s .cut .back)) (sym now));
-              kept = kept-parts ∙ (all-onward (blockFaults E [] [] (s .cut .front) w) clear _ _ ∙ ap (λ (v : State FactSet). keptFrom K (capacity S₀) E (s .cut .back) v (places Q)) (sym now));
+              kept = kept-parts ∙ (all-onward (blockFaults E [] [] (s .cut .front) w) clear _ _
+                  ∙ ap (λ (v : State FactSet). keptFrom K (capacity S₀) E (s .cut .back) v (places Q)) (sym now));
               long = k .long ∙ g .long;
             }
 

@@ -50,7 +50,8 @@ fn force_after(table: &[i32], sections: Sections, force: Force, rows: Rows) -> F
     force_of(table, sections, rows)
 }
 
-// The checker's walk over a part of the statements, with no loop facts ("has no list of loop facts"), of a routine by itself. What it would report is of no use here.
+// The checker's walk over a part of the statements, with no loop facts ("has no list of loop facts"), of a routine by itself. What it would
+// report is of no use here.
 fn walk_part(
     table: &[i32],
     sections: Sections,

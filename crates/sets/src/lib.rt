@@ -2,7 +2,7 @@
 mod member; // member.rt: a table with the objects of routine 0 put in
 
 use answers::refusals::Refusal;
-use checker::check_sections;
+use checker::sections::check_sections;
 use member::put_objects;
 use parts::span_of;
 use rules::SetVerdict;

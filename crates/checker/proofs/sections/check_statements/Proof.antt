@@ -1,11 +1,11 @@
--- `checker::check_statements` meets its contract.
+-- `checker::sections::check_statements` meets its contract.
 use borrow.Author.Needs.{needs}
 use mathlib.Core.Path.{refl}
 use Rattle.listed.specs.ListLaws.{entries-few}
 use Rattle.checker.specs.VerdictLaws.{measured, table-placed, walk-refused, walk-accepted}
 use Rattle.checker.specs.WalkLaws.{forced-own}
-use Rattle.checker.proofs.check_statements.Statement.{statement}
-use Rattle.checker.proofs.check_statements.Tie as tie
+use Rattle.checker.proofs.sections.check_statements.Statement.{statement}
+use Rattle.checker.proofs.sections.check_statements.Tie as tie
 
 pub check-statements-spec : {M : Type 1} → statement M
 check-statements-spec =

@@ -1,10 +1,10 @@
--- `checker::check_listed` meets its contract.
+-- `checker::sections::check_listed` meets its contract.
 use borrow.Author.Needs.{needs}
 use mathlib.Core.Path.{refl}
 use Rattle.listed.specs.ListLaws.{form-clear}
 use Rattle.checker.specs.VerdictLaws.{list-refused}
-use Rattle.checker.proofs.check_listed.Statement.{statement}
-use Rattle.checker.proofs.check_listed.Tie as tie
+use Rattle.checker.proofs.sections.check_listed.Statement.{statement}
+use Rattle.checker.proofs.sections.check_listed.Tie as tie
 
 pub check-listed-spec : {M : Type 1} → statement M
 check-listed-spec =

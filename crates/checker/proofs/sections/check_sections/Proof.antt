@@ -1,8 +1,8 @@
--- `checker::check_sections` meets its contract.
+-- `checker::sections::check_sections` meets its contract.
 use borrow.Author.Needs.{needs}
 use Rattle.checker.specs.VerdictLaws.{layout-refused, layout-clear}
-use Rattle.checker.proofs.check_sections.Statement.{statement}
-use Rattle.checker.proofs.check_sections.Tie as tie
+use Rattle.checker.proofs.sections.check_sections.Statement.{statement}
+use Rattle.checker.proofs.sections.check_sections.Tie as tie
 
 pub check-sections-spec : {M : Type 1} → statement M
 check-sections-spec =
