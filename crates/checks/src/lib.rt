@@ -14,10 +14,11 @@ ghost use Rattle.checks.specs.Checked.{sizeIn, stringIn, endIn, declared
 ghost use Rattle.checks.specs.declared.Step.the-variants.{Go, Stop};
 ghost use Rattle.answers.specs.declared.stops.Check.the-variants.{NullAccess, OutOfBounds, Terminator};
 
-// What a step says: the statement due after it, or the check that fails.
+// What a step says: the statement due after it, the check that fails, or that the statement is a call, which makes another routine run.
 pub enum Step {
     Go(usize),
     Stop(Check),
+    Call,
 }
 
 // Relations in the order of the table.

@@ -346,12 +346,12 @@ module _ (T : List ℤ) (h : Sections) (E : Environment) (D S : List ℕ) where
       ap (λ (i : ℕ). result (Stopped i (checkOf k (P .due))) (endsOf E (P .rows)) (P .values) (P .cells)) e
       ∙ ap (λ (s : Status). result (outcomeShown h s (P .steps) (P .due)) (endsOf E (P .rows)) (P .values) (P .cells)) (sym g)
 
-  followed : (s : Status) (a n : ℕ) (F : ℕ → Result) (W vs cs : List ℕ) (X : Result) → (s ≡ going → F a ≡ X)
-      → ((k : ℕ) → s ≡ stopped k → result (Stopped n (checkOf k a)) W vs cs ≡ X) →
-      (s ≡ stuck → ⊥) → follow (stepShown s a) F n W vs cs ≡ X
-  followed going a n F W vs cs X f c u = f refl
-  followed (stopped k) a n F W vs cs X f c u = c k refl
-  followed stuck a n F W vs cs X f c u = absurd (u refl)
+  followed : (s : Status) (a n b : ℕ) (F : ℕ → Result) (W vs cs : List ℕ) (X : Result) → (s ≡ going → F a ≡ X)
+      → ((k : ℕ) → s ≡ stopped k → result (Stopped (n + 1) (checkOf k a)) W vs cs ≡ X) →
+      (s ≡ stuck → ⊥) → follow (stepShown s a) F n b W vs cs ≡ X
+  followed going a n b F W vs cs X f c u = f refl
+  followed (stopped k) a n b F W vs cs X f c u = c k refl
+  followed stuck a n b F W vs cs X f c u = absurd (u refl)
 
   by-test : (b : Bool) (x y X : Result) → (b ≡ true → x ≡ X) → (b ≡ false → y ≡ X) → cond b x y ≡ X
   by-test true x y X f c = f refl
@@ -370,9 +370,9 @@ module _ (T : List ℤ) (h : Sections) (E : Environment) (D S : List ℕ) where
       let n = P .steps + 1 in
       let X = endsOf E (Q .rows) in
       let counted = point-stepped T h E D W S P g R due .counted in
-      ap (λ (m : Move). follow (m .said) (λ b. bareRun T h (m .ends) D S l n b (m .values) (m .cells)) n (m .ends) (m .values) (m .cells))
+      ap (λ (m : Move). follow (m .said) (λ b. bareRun T h (m .ends) D S l n b (m .values) (m .cells)) (P .steps) (P .due) (m .ends) (m .values) (m .cells))
       (step-agrees T h E D W S P g R due)
-      ∙ followed (Q .status) (Q .due) n (λ b. bareRun T h X D S l n b (Q .values) (Q .cells)) X (Q .values) (Q .cells) _
+      ∙ followed (Q .status) (Q .due) (P .steps) (P .due) (λ b. bareRun T h X D S l n b (Q .values) (Q .cells)) X (Q .values) (Q .cells) _
       (λ i. ap (λ (j : ℕ). bareRun T h X D S l j (Q .due) (Q .values) (Q .cells)) (sym counted)
       ∙ (run-agrees X l Q i (runnable-next T h E D W S P g R due) ∙ ap (resultShown E h) (later T h E D W S l P)))
       (λ k i. shown-stopped Q k n i (sym counted)

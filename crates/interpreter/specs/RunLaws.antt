@@ -13,7 +13,7 @@ use Rattle.steps.specs.Bare.{bareMove, Ready, Prepared, Moves}
 use Rattle.interpreter.specs.BareRun.{Result, follow, bareRun, Onward, SafeRun, Ends}
 use Rattle.answers.specs.declared.stops.Check.{Check}
 use Rattle.checks.specs.declared.Step.{Step}
-use Rattle.checks.specs.declared.Step.the-variants.{Go, Stop}
+use Rattle.checks.specs.declared.Step.the-variants.{Go, Stop, Call}
 use Rattle.answers.specs.declared.stops.Outcome.{Outcome}
 use Rattle.answers.specs.declared.stops.Outcome.the-variants.{Done, Spent, Stopped}
 
@@ -57,7 +57,7 @@ module _ (T : List ℤ) (h : Sections) (W D S : List ℕ) where
       run-some : run l n a vs cs
           ≡ follow (bareMove T h W D S a vs cs .said)
           (λ b. bareRun T h (bareMove T h W D S a vs cs .ends) D S m (n + 1) b (bareMove T h W D S a vs cs .values) (bareMove T h W D S a vs cs .cells))
-          (n + 1) (bareMove T h W D S a vs cs .ends) (bareMove T h W D S a vs cs .values) (bareMove T h W D S a vs cs .cells)
+          n a (bareMove T h W D S a vs cs .ends) (bareMove T h W D S a vs cs .values) (bareMove T h W D S a vs cs .cells)
       unfolding bareRun
       run-some = rw (some, add-one m, lt-ltb a (h .statements) within)
 
@@ -79,3 +79,6 @@ module _ (T : List ℤ) (h : Sections) (W D S : List ℕ) where
 
         pub run-stop : (c : Check) → r ≡ Stop c → Ends (run l n a vs cs) (Stopped (n + 1) c) W′ ws ds
         run-stop c e = carry (run-some ∙ rw (sym (q .said) ∙ e)) (record { outcome = refl; ends = q .ends; values = q .values; cells = q .cells })
+
+        pub run-call : r ≡ Call → Ends (run l n a vs cs) (Spent n a) W′ ws ds
+        run-call e = carry (run-some ∙ rw (sym (q .said) ∙ e)) (record { outcome = refl; ends = q .ends; values = q .values; cells = q .cells })

@@ -8,7 +8,7 @@ ghost use Rattle.steps.specs.Bare.{Prepared};
 ghost use Rattle.interpreter.specs.BareRun.{SafeRun, bareRun, Ends};
 
 // Goes on from the statement `first` with `made` steps made, up to `limit` of them, with the ends, values and cells as they are.
-// A run that is spent goes on from the statement that it gives.
+// A run that is spent goes on from the statement that it gives: a call, where it is spent before the limit.
 pub fn resume(
     table: &[i32],
     sections: Sections,
@@ -36,7 +36,7 @@ pub fn resume(
                 statement: at,
             };
         }
-        steps += 1;
+        let counted = steps + 1;
         let said = advance(
             table,
             sections,
@@ -50,11 +50,18 @@ pub fn resume(
         match said {
             Step::Go(next) => {
                 at = next;
+                steps = counted;
             }
             Step::Stop(check) => {
                 return Outcome::Stopped {
-                    steps: steps,
+                    steps: counted,
                     check: check,
+                };
+            }
+            Step::Call => {
+                return Outcome::Spent {
+                    steps: steps,
+                    statement: at,
                 };
             }
         }

@@ -20,6 +20,7 @@ use Rattle.steps.specs.Bare.{offsetFailing, indexFailing, changedUnless,
 use Rattle.answers.specs.declared.stops.Check.{Check}
 use Rattle.checks.specs.declared.Step.{Step}
 use Rattle.checks.specs.declared.Step.the-variants.{Go, Stop}
+use Rattle.checks.specs.declared.Step.the-variants as step
 
 -- ---- a step with checks
 
@@ -39,6 +40,15 @@ stop-kept (fails m) a n k old new e = refl
 
 pub assigns-stop : {f : Failing} {a n x w : ℕ} {k : Check} {r : Step} {old : List ℕ} → r ≡ stepUnless f a n → r ≡ Stop k → Assigns f a n x w old r old
 assigns-stop {f} {a} {n} {x} {w} {k} {r} {old} e g = record { said = e; buffer = sym (stop-kept f a n k old (set old x w) (sym e ∙ g)) }
+
+never-call : (f : Failing) (a n : ℕ) → stepUnless f a n ≡ step.Call → ⊥
+unfolding stepUnless
+never-call none a n e = let z : _≡_ {A = ℕ} 0 1 = cc in omega arith
+never-call (fails m) a n e = let z : _≡_ {A = ℕ} 0 1 = cc in omega arith
+
+-- No check says that a call is due.
+pub assigns-call : {f : Failing} {a n x w : ℕ} {r : Step} {old : List ℕ} → r ≡ stepUnless f a n → r ≡ step.Call → Assigns f a n x w old r old
+assigns-call {f} {a} {n} e g = absurd (never-call f a n (sym e ∙ g))
 
 go-changed : (f : Failing) (old new : List ℕ) → f ≡ none → new ≡ changedUnless f old new
 unfolding changedUnless

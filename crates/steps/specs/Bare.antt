@@ -24,6 +24,7 @@ use Rattle.machine.specs.Machine.{loadFailing, storeFailing, arithmeticFailing,
 use Rattle.checks.specs.Checked.{declaredIn, stepUnless, sizeIn}
 use Rattle.checks.specs.declared.Step.{Step}
 use Rattle.checks.specs.declared.Step.the-variants.{Go}
+use Rattle.checks.specs.declared.Step.the-variants as step
 
 -- ---- what a statement of kinds 1 to 10 leaves where no check fails: the values and cells of `performed`
 
@@ -107,8 +108,8 @@ statementMove W D (Plain s) a n vs cs = simpleMove W D s a (n .next) vs cs
 statementMove W D (If c x y) a n vs cs = move (Go (cond (conditionHolds vs c) (n .next) (n .other))) W vs cs
 statementMove W D (While c x) a n vs cs = move (Go (cond (conditionHolds vs c) (n .next) (n .other))) W vs cs
 statementMove W D (Bundle x) a n vs cs = move (Go (n .next)) W vs cs
--- A routine by itself never comes to a call (19).
-statementMove W D (Call c) a n vs cs = move (Go (n .next)) W vs cs
+-- A call changes nothing of the caller: another routine runs.
+statementMove W D (Call c) a n vs cs = move step.Call W vs cs
 
 -- ---- what the code needs, so that no index is outside
 

@@ -27,6 +27,7 @@ use Rattle.checks.specs.Checked.{declaredIn}
 use Rattle.steps.specs.Bare.{InCells, InsideSimple, Inside, Accessible, Operable, Ready, Prepared, simpleMove, statementMove, bareMove, Moves}
 use Rattle.checks.specs.declared.Step.{Step}
 use Rattle.checks.specs.declared.Step.the-variants.{Go}
+use Rattle.checks.specs.declared.Step.the-variants as step
 
 module _ (T : List ℤ) (h : Sections) (W D S vs cs : List ℕ) (few : Limits h) (P : Prepared T h W D S vs) where
   accessible : (x p i k : ℕ) (f : Failing) → AccessTyped T h x p i k → (f ≡ none → InCells (address (declaredIn W) vs p i k) cs) → Accessible W x p i k f vs cs
@@ -118,9 +119,9 @@ module _ (T : List ℤ) (h : Sections) (W D S : List ℕ) (a : ℕ) (vs cs : Lis
   unfolding bareMove statementMove
   bare-while c x b n o e g p q = rw e (record { said = ap Go (rw (p, q) at g); ends = refl; values = refl; cells = refl })
 
-  pub bare-call : (x : CallSite) (n : ℕ) → decodedAt T h a ≡ Call x → n ≡ getD S (2 * a) 0 → Moves (bareMove T h W D S a vs cs) (Go n) W vs cs
+  pub bare-call : (x : CallSite) → decodedAt T h a ≡ Call x → Moves (bareMove T h W D S a vs cs) step.Call W vs cs
   unfolding bareMove statementMove
-  bare-call x n e p = rw e (record { said = ap Go p; ends = refl; values = refl; cells = refl })
+  bare-call x e = rw e (record { said = refl; ends = refl; values = refl; cells = refl })
 
   pub bare-bundle : (x n : ℕ) → decodedAt T h a ≡ Bundle x → n ≡ getD S (2 * a) 0 → Moves (bareMove T h W D S a vs cs) (Go n) W vs cs
   unfolding bareMove statementMove

@@ -72,6 +72,6 @@ pub fn advance(
             Step::Go(branch(values, condition, next, other))
         }
         Statement::Bundle { count: _ } => Step::Go(next),
-        Statement::Call(_) => Step::Go(next),
+        Statement::Call(_) => Step::Call,
     }
 }

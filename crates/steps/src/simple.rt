@@ -34,11 +34,14 @@ fn assign_pointer(
     ensures { λ r. ⌜ Assigns (arithmeticFailing base sum) at next target (sum - bias) (now (values .entry)) r (now (values .exit)) ⌝ }
 {
     let arithmetic = check_arithmetic(at, next, base, sum);
-    let Step::Go(_) = arithmetic else {
-        return arithmetic;
-    };
-    values[target] = (sum - BIAS) as u32;
-    arithmetic
+    match arithmetic {
+        Step::Go(_) => {
+            values[target] = (sum - BIAS) as u32;
+            arithmetic
+        }
+        Step::Stop(_) => arithmetic,
+        Step::Call => arithmetic,
+    }
 }
 
 // Kind 6: p := q + k, unless check 4 or 5 fails; with k = 0 none does.
@@ -111,12 +114,15 @@ fn load(
 {
     let address = address_of(ends, values, pointer, index, constant);
     let said = check_load(ends, values, at, next, pointer, address);
-    let Step::Go(_) = said else {
-        return said;
-    };
-    let place = (address - BIAS) as usize;
-    values[target] = cells[place];
-    said
+    match said {
+        Step::Go(_) => {
+            let place = (address - BIAS) as usize;
+            values[target] = cells[place];
+            said
+        }
+        Step::Stop(_) => said,
+        Step::Call => said,
+    }
 }
 
 // Kind 9: p[i + k] := x, unless check 2, 3 or 6 fails.
@@ -140,12 +146,15 @@ fn store(
     let address = address_of(ends, values, pointer, index, constant);
     let number = value_at(values, source);
     let said = check_store(ends, values, at, next, pointer, address, number);
-    let Step::Go(_) = said else {
-        return said;
-    };
-    let place = (address - BIAS) as usize;
-    cells[place] = values[source];
-    said
+    match said {
+        Step::Go(_) => {
+            let place = (address - BIAS) as usize;
+            cells[place] = values[source];
+            said
+        }
+        Step::Stop(_) => said,
+        Step::Call => said,
+    }
 }
 
 // Kind 14: the six numbers of the row become those of the pointer.

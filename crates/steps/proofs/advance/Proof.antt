@@ -36,4 +36,4 @@ advance-spec =
     (λ c. bare-while _ _ _ _ _ _ _ _ _ _ _ _ _ (sym (c .before .before .before .before .before .before .decode-statement .ensures) ∙ c .before .before .before .before .s3 .given .1) (c .branch2 .ensures) (c .before .before .before .before .before .before .before .successor .ensures)
     (c .before .before .successor3 .ensures))
     (λ c. bare-bundle _ _ _ _ _ _ _ _ _ _ (sym (c .before .before .decode-statement .ensures) ∙ c .enum-told .given .1) (c .before .before .before .successor .ensures))
-    (λ c. bare-call _ _ _ _ _ _ _ _ _ _ (sym (c .before .before .decode-statement .ensures) ∙ c .enum-told2 .given .1) (c .before .before .before .successor .ensures)))
+    (λ c. bare-call _ _ _ _ _ _ _ _ _ (sym (c .before .before .decode-statement .ensures) ∙ c .enum-told2 .given .1)))

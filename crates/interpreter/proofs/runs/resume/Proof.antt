@@ -7,7 +7,7 @@ use lib.ListN.{length}
 use Rattle.steps.specs.Bare.{Prepared}
 use Rattle.steps.specs.KeptLaws.{move-kept, move-sizes}
 use Rattle.interpreter.specs.BareRun.{SafeRun, bareRun}
-use Rattle.interpreter.specs.RunLaws.{carry, still-prepared, run-done, run-spent, safe-ready, run-go, safe-go, run-stop}
+use Rattle.interpreter.specs.RunLaws.{carry, still-prepared, run-done, run-spent, safe-ready, run-go, safe-go, run-stop, run-call}
 use Rattle.interpreter.proofs.runs.resume.Statement.{statement}
 use Rattle.interpreter.proofs.runs.resume.Tie as tie
 
@@ -69,5 +69,13 @@ resume-spec =
       c .before .before .before .before .before .before .before .before .before .before .before .before .before .if2 .left,
       c .before .before .before .before .before .before .before .before .before .before .before .before .before .before .before .before .loop .inv .1,
     )) _ _ _ _ (c .before .before .before .before .before .before .before .before .before .advance .ensures) _ (c .before .said2 .given .1)))
+    (λ c. search needs) (λ c. search needs) (λ c. search needs) (λ c. search needs)
+    (λ c. carry (c .before .before .before .before .before .before .before .before .before .before .before .before .before .before .before .loop .inv .0)
+    (run-call _ _ _ _ _ _ _ _ _ _ (c .before .before .before .before .before .before .before .before .before .before .before .before .before .if1 .taken) (c .before .before .before .before .before .before .before .before .before .before .before .before .before .before .before
+    .before .before .before .before .before .before .args .limit - (c .before .before .before .before .before .before .before .before .before .before .before .before .before .before .before .loop .steps + 1)) (omega (
+      arith,
+      c .before .before .before .before .before .before .before .before .before .before .before .before .if2 .left,
+      c .before .before .before .before .before .before .before .before .before .before .before .before .before .before .before .loop .inv .1,
+    )) _ _ _ _ (c .before .before .before .before .before .before .before .before .advance .ensures) (c .enum-told .given .1)))
     (λ c. search needs) (λ c. search needs) (λ c. search needs)
     (λ c. carry (c .before .before .loop .inv .0) (run-done _ _ _ _ _ _ _ _ _ _ (c .if1 .left))))
