@@ -44,7 +44,7 @@ pub struct Signature {
 }
 
 // The variable that the callee's variable j takes; 16 where it takes none.
-fn argument(call: CallSite, j: usize) -> usize
+pub fn argument(call: CallSite, j: usize) -> usize
     ensures { λ r. ⌜ r ≡ argument call j ⌝ }
 {
     match j {

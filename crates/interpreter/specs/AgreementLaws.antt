@@ -207,7 +207,7 @@ module _ (T : List ℤ) (h : Sections) (E : Environment) (D W S : List ℕ) wher
     inside-simple (Test c) n w l t u = tt
     inside-simple (Declare p r) n w l t u = tt
 
-    inside : (s : Statement) (n : Successors) → W ≡ endsOf E (P .rows) → Limits h → WellTyped T h s → (statementStep E D (Read s) n P .status ≡ stuck → ⊥)
+    pub inside : (s : Statement) (n : Successors) → W ≡ endsOf E (P .rows) → Limits h → WellTyped T h s → (statementStep E D (Read s) n P .status ≡ stuck → ⊥)
         → Inside W s (P .values) (P .cells)
     unfolding statementStep
     inside (Plain s) n w l t u = inside-simple s (n .next) w l t u
@@ -278,6 +278,8 @@ module _ (T : List ℤ) (h : Sections) (E : Environment) (D W S : List ℕ) wher
     pub step-ready : Ready T h W (P .due) (P .values) (P .cells)
     step-ready =
         record {
+          checked = T;
+          same = refl;
           statement = here;
           reads = reads;
           inside =
@@ -310,7 +312,7 @@ module _ (T : List ℤ) (h : Sections) (E : Environment) (D S : List ℕ) where
   onward (stopped k) a A f u = tt
   onward stuck a A f u = absurd (u refl)
 
-  if-true : (b : Bool) (A : Type 0) → (b ≡ true → A) → IfTrue b A
+  pub if-true : (b : Bool) (A : Type 0) → (b ≡ true → A) → IfTrue b A
   if-true true A f = f refl
   if-true false A f = tt
 
@@ -328,19 +330,19 @@ module _ (T : List ℤ) (h : Sections) (E : Environment) (D S : List ℕ) where
             (λ i. safe-run (endsOf E (next P .rows)) l (next P) i (runnable-next T h E D W S P g R due)) (free T h E D W S P g R due)),
       ))
 
-  spent-or-done : (b : Bool) (n a : ℕ) (W vs cs : List ℕ)
+  pub spent-or-done : (b : Bool) (n a : ℕ) (W vs cs : List ℕ)
       → cond b (result (Spent n a) W vs cs) (result (Done n) W vs cs) ≡ result (cond b (Spent n a) (Done n)) W vs cs
   spent-or-done true n a W vs cs = refl
   spent-or-done false n a W vs cs = refl
 
   -- The result shown at a point that is going.
-  shown-going : (P : Point) (b : Bool) → P .status ≡ going → ltb (P .due) (h .statements) ≡ b
+  pub shown-going : (P : Point) (b : Bool) → P .status ≡ going → ltb (P .due) (h .statements) ≡ b
       → result (cond b (Spent (P .steps) (P .due)) (Done (P .steps))) (endsOf E (P .rows)) (P .values) (P .cells) ≡ resultShown E h P
   shown-going P b g e =
       ap (λ (x : Bool). result (cond x (Spent (P .steps) (P .due)) (Done (P .steps))) (endsOf E (P .rows)) (P .values) (P .cells)) (sym e)
       ∙ ap (λ (s : Status). result (outcomeShown h s (P .steps) (P .due)) (endsOf E (P .rows)) (P .values) (P .cells)) (sym g)
 
-  shown-stopped : (P : Point) (k n : ℕ) → P .status ≡ stopped k → n ≡ P .steps
+  pub shown-stopped : (P : Point) (k n : ℕ) → P .status ≡ stopped k → n ≡ P .steps
       → result (Stopped n (checkOf k (P .due))) (endsOf E (P .rows)) (P .values) (P .cells) ≡ resultShown E h P
   shown-stopped P k n g e =
       ap (λ (i : ℕ). result (Stopped i (checkOf k (P .due))) (endsOf E (P .rows)) (P .values) (P .cells)) e

@@ -25,7 +25,7 @@ pub enum Start {
 }
 
 // What is laid out, into the slice that is lent for it.
-fn copy_ends(laid: [u64; 512], ends: &mut [u64])
+pub fn copy_ends(laid: [u64; 512], ends: &mut [u64])
     requires { ⌜ length (now ends) ≡ 512 ⌝ }
     ensures { λ _. ⌜ now (ends .exit) ≡ laid ⌝ }
 {

@@ -53,7 +53,7 @@ with-steps : (T : List ℤ) (h : Sections) (E : Environment) (D : List ℕ) (roo
 with-steps T h E D room s P i = record { has-step = λ e. let z : _≡_ {A = ℕ} 0 1 = cc in omega arith; place = i .place }
 
 -- A statement that is no call, by the status.
-next-kept : (T : List ℤ) (h : Sections) (E : Environment) (D : List ℕ) (room : ℕ) → Setting T h E D room → (callees : List Routine)
+pub next-kept : (T : List ℤ) (h : Sections) (E : Environment) (D : List ℕ) (room : ℕ) → Setting T h E D room → (callees : List Routine)
     → blockFaults E [] callees (tree T h) newState ≡ [] → (P : Point) → Invariant T h E D room [] P
     → ((c : CallSite) → statementAt T h (P .due) ≡ Read (Call c) → ⊥) → (s : Status) → Invariant T h E D room [] (nextPoint T h E D s P)
 unfolding nextPoint
@@ -130,7 +130,7 @@ module _ (rs : List Routine) (D : List ℕ) (room : ℕ) where
           small = s .range .below _;
         }
 
-    resume-kept : (n : ℕ) → n < length rs → (F : Frame) → Waits F → (P : Point) → Invariant (T n) (h n) (E n) D room [] P
+    pub resume-kept : (n : ℕ) → n < length rs → (F : Frame) → Waits F → (P : Point) → Invariant (T n) (h n) (E n) D room [] P
         → Invariant (T (F .routine)) (h (F .routine)) (E (F .routine)) D room [] (resumed rs D F P (resultOf rs D n P))
     unfolding frameStep
     resume-kept n l F w P i =
@@ -184,7 +184,7 @@ module _ (rs : List Routine) (D : List ℕ) (room : ℕ) where
           (i .running) other (P .status)) (i .waits)
 
       -- The caller as it waits.
-      caller-waits : (c : CallSite) → statementAt (T n) (h n) (P .due) ≡ Read (Call c) → Waits (waiting rs D K c)
+      pub caller-waits : (c : CallSite) → statementAt (T n) (h n) (P .due) ≡ Read (Call c) → Waits (waiting rs D K c)
       caller-waits c e =
           record {
             known = i .known;
@@ -198,11 +198,11 @@ module _ (rs : List Routine) (D : List ℕ) (room : ℕ) where
           }
 
       -- The callee as it begins.
-      record Calls (c : CallSite) : Type 0 where
-        below : c .callee < n
-        invariant : Invariant (T (c .callee)) (h (c .callee)) (E (c .callee)) D room [] (begun rs D c P)
+      pub record Calls (c : CallSite) : Type 0 where
+        pub below : c .callee < n
+        pub invariant : Invariant (T (c .callee)) (h (c .callee)) (E (c .callee)) D room [] (begun rs D c P)
 
-      calls : (c : CallSite) → statementAt (T n) (h n) (P .due) ≡ Read (Call c) → Calls c
+      pub calls : (c : CallSite) → statementAt (T n) (h n) (P .due) ≡ Read (Call c) → Calls c
       calls c e = go (somewhere (T n) (h n) (E n) D room [] SK (before n rs) (S .walked n (i .known)) P (i .running))
         where
           go : Somewhere (T n) (h n) (E n) D room [] SK (before n rs) (S .walked n (i .known)) P → Calls c

@@ -1,7 +1,8 @@
 -- Where each routine's part lies in a slice that is lent: the routines' parts one after the other, with a slice of lengths, `kinds` a routine.
 use Prim.Native.Nat.{ℕ, zero, suc, _+_, _-_, _*_, min}
 use mathlib.Core.List.{List}
-use lib.ListN.{take, drop, getD}
+use mathlib.Core.Path.{_≡_}
+use lib.ListN.{length, take, drop, getD}
 use Rattle.parts.specs.declared.Span.{Span}
 
 module _ (lengths : List ℕ) (kinds kind : ℕ) where
@@ -30,3 +31,10 @@ spanOf lengths kinds kind r n = record {
 
 abbrev pub between : {A : Type 0} → Span → List A → List A
 between s xs = window (s .start) (s .end - s .start) xs
+
+-- A list whose elements a to e - 1 were replaced by others, as many.
+pub record Replaced {A : Type 0} (a e : ℕ) (xs new zs : List A) : Type 0 where
+  pub long : length zs ≡ length xs
+  pub front : take a zs ≡ take a xs
+  pub here : window a (length new) zs ≡ new
+  pub back : drop e zs ≡ drop e xs

@@ -67,6 +67,16 @@ module _ (L : List ℕ) (kinds kind : ℕ) where
       → _≡_ {A = Span} (record { start = a; end = b }) (spanOf L kinds kind r n)
   span-made r n s e a b f g x y = ap₂ span (x ∙ ap (λ (m : ℕ). min m n) f) (y ∙ rw (f, g))
 
+-- Parts come one after the other.
+module _ (L : List ℕ) (kinds kind : ℕ) where
+  pub starts-apart : (r d : ℕ) → startAt L kinds kind r + lengthAt L kinds kind r ≤ startAt L kinds kind (r + suc d)
+  unfolding startAt
+  starts-apart r zero = let q : r + 1 ≡ suc r = omega arith in omega (arith, ap (startAt L kinds kind) q)
+  starts-apart r (suc d) = let q : r + suc (suc d) ≡ suc (r + suc d) = omega arith in omega (arith, ap (startAt L kinds kind) q, starts-apart r d)
+
+  pub starts-order : (r k : ℕ) → r < k → startAt L kinds kind r + lengthAt L kinds kind r ≤ startAt L kinds kind k
+  starts-order r k l = let q : r + suc (k - suc r) ≡ k = omega arith in rw q at (starts-apart r (k - suc r))
+
 pub span-within : (n s e a b : ℕ) → s ≤ 2 ^ 36 → a ≡ min s n → b ≡ min (s + e) n → (a ≤ b) × (b ≤ n) × (a ≤ 2 ^ 36)
 span-within n s e a b z x y = (omega arith, omega arith, omega arith)
 

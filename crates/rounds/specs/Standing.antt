@@ -17,7 +17,8 @@ use Rattle.interpreter.specs.BareRun.{Ends, bareRun, SafeRun}
 use Rattle.interpreter.specs.Starts.{Launched}
 use Rattle.turns.specs.Turns.{after, sum, Idle}
 use Rattle.parts.specs.Parts.{partOf, startAt, between}
-use Rattle.seats.specs.Parts.{kinds, valuesKind, Replaced}
+use Rattle.seats.specs.Parts.{kinds, valuesKind}
+use Rattle.parts.specs.Parts.{Replaced}
 use Rattle.seats.specs.Lends.{Lends, lentTo, sectionsAt, countOf}
 use Rattle.rounds.specs.Rounds.{routinesOf, memoryAfter}
 use Rattle.overlaps.specs.Overlaps.{firstOverlap}

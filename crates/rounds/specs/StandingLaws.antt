@@ -21,9 +21,11 @@ use Rattle.interpreter.specs.StartLaws.{admitted}
 use Rattle.turns.specs.Turns.{Routines, Runs, Schedule, granted, after, received}
 use Rattle.turns.specs.TurnsLaws.{by-order, after-received, after-within, after-long, sum-least, sum-within, served-waiting, served-ended}
 use Rattle.parts.specs.Parts.{partOf, startAt, lengthAt, between}
-use Rattle.seats.specs.Parts.{kinds, tableKind, directoryKind, valuesKind, Replaced}
-use Rattle.parts.specs.PartsLaws.{between-part}
-use Rattle.seats.specs.PartsLaws.{part-new, part-other, window-before, window-behind, drop-behind, starts-order}
+use Rattle.seats.specs.Parts.{kinds, tableKind, directoryKind, valuesKind}
+use Rattle.parts.specs.Parts.{Replaced}
+use Rattle.parts.specs.PartsLaws.{between-part, starts-order}
+use Rattle.parts.specs.ReplacedLaws.{window-before, window-behind, drop-behind}
+use Rattle.seats.specs.PartsLaws.{part-new, part-other}
 use Rattle.seats.specs.Lends.{Lends, lentTo, sectionsAt, countOf}
 use Rattle.rounds.specs.Rounds.{routinesOf, isSpent, stepsOf, stepsAfter, nextAfter, goesOn, memoryAfter}
 use Rattle.overlaps.specs.Overlaps.{some}

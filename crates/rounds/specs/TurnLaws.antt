@@ -11,7 +11,7 @@ use Rattle.answers.specs.declared.stops.Outcome.the-variants.{Spent}
 use Rattle.steps.specs.Bare.{Prepared}
 use Rattle.interpreter.specs.BareRun.{Ends, bareRun, SafeRun}
 use Rattle.parts.specs.Parts.{window, between}
-use Rattle.seats.specs.PartsLaws.{put-replaced}
+use Rattle.parts.specs.ReplacedLaws.{put-replaced}
 use Rattle.rounds.specs.Standing.{InPlace, MayGoOn, MayTurn, GoneOn, Turned}
 use Rattle.seats.specs.declared.Seat.{Seat}
 

@@ -23,7 +23,7 @@ use Rattle.turns.specs.TurnsLaws.{by-order}
 use Rattle.parts.specs.Parts.{window, between, spanOf}
 use Rattle.seats.specs.Parts.{kinds}
 use Rattle.parts.specs.PartsLaws.{between-part}
-use Rattle.seats.specs.PartsLaws.{window-before, put-replaced}
+use Rattle.parts.specs.ReplacedLaws.{window-before, put-replaced}
 use Rattle.seats.specs.Lends.{Lends, lentTo, sectionsAt, countOf}
 use Rattle.interpreter.specs.ClaimLaws.{launched-begins}
 use Rattle.seats.specs.SeatAt.{nobody}

@@ -131,7 +131,7 @@ said-first Ts {rs} {v} l n e =
     ∙ ap verdictOf (sym (first-faults Ts l))))
 
 -- A later one has the objects of routine 0.
-member-put : (Ts : List (List ℤ)) (n : ℕ) → (n ≡ 0 → ⊥) → n < length Ts → memberOf Ts n ≡ withObjects (objectWords (getD Ts 0 [])) (getD Ts n [])
+pub member-put : (Ts : List (List ℤ)) (n : ℕ) → (n ≡ 0 → ⊥) → n < length Ts → memberOf Ts n ≡ withObjects (objectWords (getD Ts 0 [])) (getD Ts n [])
 unfolding members
 member-put [] n z l = absurd (omega arith)
 member-put (T ∷ Us) zero z l = absurd (z refl)

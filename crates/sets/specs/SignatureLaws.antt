@@ -98,7 +98,7 @@ module _ {T : List ℤ} {h : Sections} {U : List ℤ} {g : Sections} (s : SameVa
   unfolding integerAt
   integer-same v = ap (kindIs true false false) (kind-same v)
 
-  end-same : (W : List ℤ) (i : ℕ) → endRight T h (endWordsAt W i) ≡ endRight U g (endWordsAt W i)
+  pub end-same : (W : List ℤ) (i : ℕ) → endRight T h (endWordsAt W i) ≡ endRight U g (endWordsAt W i)
   unfolding endRight endWordsAt namesPointer namesIndex namesInteger
   end-same W i = rw (pointer-same (plain (word W i)), integer-same (plain (word W (i + 1)))) refl
 
@@ -167,17 +167,17 @@ module _ (os T : List ℤ) (whole : sectionsOf T .start ≤ length T) where
   unfolding fourPairs
   pairs-same = ap (isNumber 8) (word-kept 0 (λ e. omega arith) (λ e. omega arith) (λ e. omega arith) (λ e. omega arith) (omega (arith, start-least T)))
 
-  variables-same : sectionsOf full .variables ≡ sectionsOf T .variables
+  pub variables-same : sectionsOf full .variables ≡ sectionsOf T .variables
   unfolding sectionsOf
   variables-same =
       ap (λ (w : ℕ). plain w / 8) (word-kept 3 (λ e. omega arith) (λ e. omega arith) (λ e. omega arith) (λ e. omega arith) (omega (arith, start-least T)))
 
-  statements-same : sectionsOf full .statements ≡ sectionsOf T .statements
+  pub statements-same : sectionsOf full .statements ≡ sectionsOf T .statements
   unfolding sectionsOf
   statements-same =
       ap (λ (w : ℕ). plain w / 7) (word-kept 5 (λ e. omega arith) (λ e. omega arith) (λ e. omega arith) (λ e. omega arith) (omega (arith, start-least T)))
 
-  rows-same : sectionsOf full .rows ≡ sectionsOf T .rows
+  pub rows-same : sectionsOf full .rows ≡ sectionsOf T .rows
   unfolding sectionsOf
   rows-same = rw pairs-same (go (fourPairs T) refl)
     where

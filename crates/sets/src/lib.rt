@@ -1,5 +1,5 @@
 // The check of a set of routines: the verdict on each by number, and the first one refused is named.
-mod member; // member.rt: a table with the objects of routine 0 put in
+pub mod member; // member.rt: a table with the objects of routine 0 put in
 
 use answers::refusals::Refusal;
 use checker::sections::check_sections;

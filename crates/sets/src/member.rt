@@ -63,7 +63,7 @@ fn member_word(first: &[i32], own: Sections, table: &[i32], sections: Sections, 
 }
 
 // The table with the objects put in, into the room; how many words it has.
-pub(crate) fn put_objects(first: &[i32], table: &[i32], member: &mut [i32]) -> usize
+pub fn put_objects(first: &[i32], table: &[i32], member: &mut [i32]) -> usize
     requires { ⌜ (headRight (now first) ≡ true) × (headRight (now table) ≡ true) × (sectionsOf (now table) .objects ≡ 0) ×
         (memberWords ≤ length (now member)) ⌝ }
     ensures { λ r. ⌜ Put (now (first .entry)) (now (table .entry)) (now (member .entry)) r (now (member .exit)) ⌝ }

@@ -162,10 +162,13 @@ Operable W D (Store p i k x) vs cs = Accessible W x p i k (storeFailing (declare
 Operable W D (Test c) vs cs = c .offset < 2 ^ 32
 Operable W D (Declare p r) vs cs = (p < 16) × (r < 64) × (length W ≡ 512)
 
--- The statement a reads, and its access is inside.
+-- The statement a reads, and its access is inside. It reads in the table that was checked; the table T that the run has is decoded there as that is: for a
+-- routine of a set (point 14) it need not hold the words of the objects.
 pub record Ready (T : List ℤ) (h : Sections) (W : List ℕ) (a : ℕ) (vs cs : List ℕ) : Type 0 where
+  pub checked : List ℤ
+  pub same : decodedAt T h a ≡ decodedAt checked h a
   pub statement : Statement
-  pub reads : statementAt T h a ≡ Read statement
+  pub reads : statementAt checked h a ≡ Read statement
   pub inside : Inside W statement vs cs
 
 -- The slices are long enough, and the ends small enough that no sum wraps.

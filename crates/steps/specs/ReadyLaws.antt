@@ -29,8 +29,9 @@ use Rattle.checks.specs.declared.Step.{Step}
 use Rattle.checks.specs.declared.Step.the-variants.{Go}
 use Rattle.checks.specs.declared.Step.the-variants as step
 
-module _ (T : List ℤ) (h : Sections) (W D S vs cs : List ℕ) (few : Limits h) (P : Prepared T h W D S vs) where
-  accessible : (x p i k : ℕ) (f : Failing) → AccessTyped T h x p i k → (f ≡ none → InCells (address (declaredIn W) vs p i k) cs) → Accessible W x p i k f vs cs
+-- U is the table that was checked.
+module _ (T U : List ℤ) (h : Sections) (W D S vs cs : List ℕ) (few : Limits h) (P : Prepared T h W D S vs) where
+  accessible : (x p i k : ℕ) (f : Failing) → AccessTyped U h x p i k → (f ≡ none → InCells (address (declaredIn W) vs p i k) cs) → Accessible W x p i k f vs cs
   accessible x p i k f t n =
       record {
         value = omega (arith, t .value .below, P .values);
@@ -42,7 +43,7 @@ module _ (T : List ℤ) (h : Sections) (W D S vs cs : List ℕ) (few : Limits h)
         inside = n;
       }
 
-  operable : (s : Simple) → SimpleTyped T h s → InsideSimple W s vs cs → Operable W D s vs cs
+  operable : (s : Simple) → SimpleTyped U h s → InsideSimple W s vs cs → Operable W D s vs cs
   unfolding failing
   operable (Literal x k) t n = (omega (arith, t .target .below, P .values), omega (arith, t .value))
   operable (AddConstant x y k) t n =
@@ -70,29 +71,29 @@ module _ (T : List ℤ) (h : Sections) (W D S vs cs : List ℕ) (few : Limits h)
 -- A statement that is ready.
 module _ (T : List ℤ) (h : Sections) (W : List ℕ) (a : ℕ) (vs cs : List ℕ) where
   pub ready-below : Ready T h W a vs cs → a < h .statements
-  ready-below r = read-limits T h a (r .statement) (r .reads) .1
+  ready-below r = read-limits (r .checked) h a (r .statement) (r .reads) .1
 
-  ready-reads : (s : Statement) → Ready T h W a vs cs → decodedAt T h a ≡ s → (statementAt T h a ≡ Read s) × Inside W s vs cs
+  ready-reads : (s : Statement) (r : Ready T h W a vs cs) → decodedAt T h a ≡ s → (statementAt (r .checked) h a ≡ Read s) × Inside W s vs cs
   ready-reads s r e =
-      let g : r .statement ≡ s = sym (read-decoded T h a (r .statement) (r .reads)) ∙ e in
+      let g : r .statement ≡ s = sym (read-decoded (r .checked) h a (r .statement) (r .reads)) ∙ (sym (r .same) ∙ e) in
       (r .reads ∙ ap Read g, rw g at (r .inside))
 
   pub ready-if : (c : Condition) (n m : ℕ) → Ready T h W a vs cs → decodedAt T h a ≡ If c n m → c .offset < 2 ^ 32
-  ready-if c n m r e = offset-small (read-typed T h a (If c n m) (ready-reads (If c n m) r e .0) .condition)
+  ready-if c n m r e = offset-small (read-typed (r .checked) h a (If c n m) (ready-reads (If c n m) r e .0) .condition)
 
   -- A kind 14 names a variable.
   pub ready-declare : (p q : ℕ) → Ready T h W a vs cs → decodedAt T h a ≡ Plain (Declare p q) → p < 16
   ready-declare p q r e =
       let g = ready-reads (Plain (Declare p q)) r e in
-      omega (arith, read-typed T h a (Plain (Declare p q)) (g .0) .pointer .below, read-limits T h a (Plain (Declare p q)) (g .0) .0 .variables)
+      omega (arith, read-typed (r .checked) h a (Plain (Declare p q)) (g .0) .pointer .below, read-limits (r .checked) h a (Plain (Declare p q)) (g .0) .0 .variables)
 
   pub ready-while : (c : Condition) (n : ℕ) → Ready T h W a vs cs → decodedAt T h a ≡ While c n → c .offset < 2 ^ 32
-  ready-while c n r e = offset-small (read-typed T h a (While c n) (ready-reads (While c n) r e .0) .condition)
+  ready-while c n r e = offset-small (read-typed (r .checked) h a (While c n) (ready-reads (While c n) r e .0) .condition)
 
 -- The record of a statement that reads lies in the table.
 pub ready-start : {T : List ℤ} {h : Sections} {W D S vs cs : List ℕ} {a : ℕ} → Prepared T h W D S vs → Ready T h W a vs cs → decodeStart h a + 7 ≤ length T
 ready-start {T} {h} {W} {D} {S} {vs} {cs} {a} p r =
-    let l = read-limits T h a (r .statement) (r .reads) in
+    let l = read-limits (r .checked) h a (r .statement) (r .reads) in
     omega (arith, p .table, l .0 .start, l .0 .objects, l .0 .variables, l .0 .statements, l .1)
 
 -- A step whose statement is decoded as s.
@@ -100,7 +101,7 @@ module _ (T : List ℤ) (h : Sections) (W D S : List ℕ) (a : ℕ) (vs cs : Lis
   pub ready-simple : (s : Simple) → Prepared T h W D S vs → Ready T h W a vs cs → decodedAt T h a ≡ Plain s → Operable W D s vs cs
   ready-simple s p r e =
       let g = ready-reads T h W a vs cs (Plain s) r e in
-      operable T h W D S vs cs (read-limits T h a (Plain s) (g .0) .0) p s (read-typed T h a (Plain s) (g .0)) (g .1)
+      operable T (r .checked) h W D S vs cs (read-limits (r .checked) h a (Plain s) (g .0) .0) p s (read-typed (r .checked) h a (Plain s) (g .0)) (g .1)
 
   pub bare-plain : (s : Simple) (n : ℕ) (r : Step) (W′ ws ds : List ℕ) → decodedAt T h a ≡ Plain s → n ≡ getD S (2 * a) 0 →
       Moves (simpleMove W D s a n vs cs) r W′ ws ds → Moves (bareMove T h W D S a vs cs) r W′ ws ds
