@@ -1,0 +1,10 @@
+pub mod StackLaws
+pub mod Levels
+pub mod StretchLaws
+pub mod Lent
+pub mod LentLaws
+pub mod PartLaws
+pub mod PauseLaws
+pub mod RoutineLaws
+pub mod CallLaws
+pub mod LevelLaws
