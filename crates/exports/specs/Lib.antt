@@ -5,3 +5,5 @@ pub mod DispatchWords
 pub mod DispatchLaws
 pub mod EditWords
 pub mod EditWordLaws
+pub mod SetWords
+pub mod SetWordLaws

@@ -1,6 +1,7 @@
 // What C and Rust link: the check and the run on lent slices, with the answer as words in a lent slice (include/mizzengrape.h).
 pub mod dispatch; // dispatch.rt: several routines in turn
 pub mod edit; // edit.rt: a table edited with the verdict alongside
+pub mod set; // set.rt: routines that call each other
 
 use answers::stops::Outcome;
 use answers::stops::check_number;

@@ -106,7 +106,7 @@ spent-steps h (stopped k) steps due n a e = let z : _≡_ {A = ℕ} 0 1 = cc in 
 spent-steps h stuck steps due n a e = let z : _≡_ {A = ℕ} 0 1 = cc in never z
 
 -- What the code's answer at a point reads as.
-reads-shown : (h : Sections) (s : Status) (steps due : ℕ) → ((n : ℕ) → s ≡ stopped n → (1 ≤ n) × (n ≤ 6))
+pub reads-shown : (h : Sections) (s : Status) (steps due : ℕ) → ((n : ℕ) → s ≡ stopped n → (1 ≤ n) × (n ≤ 6))
     → reads (outcomeShown h s steps due) ≡ answerOf h s steps due
 reads-shown h going steps due five = go (ltb due (h .statements))
   where

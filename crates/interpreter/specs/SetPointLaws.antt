@@ -77,7 +77,7 @@ module _ (l : SetLent) (accepted : AllAccepted (l .tables)) (entered : entryFaul
 
   -- ---- the run is begun
 
-  begun : Begun (last .sections) (last .environment) D (l .cells) (l .values) (l .origins)
+  pub begun : Begun (last .sections) (last .environment) D (l .cells) (l .values) (l .origins)
   begun = entry-begun (last .sections) (last .environment) D (l .cells) (l .values) (l .origins)
       (admitted (last .sections) (last .environment) D (l .cells) (l .values) (l .origins) entered) small-values small-cells few
     where
