@@ -29,7 +29,8 @@ use Rattle.answers.specs.declared.stops.Outcome.{Outcome}
 use Rattle.entry.specs.Ends.{endsOf}
 use Rattle.interpreter.specs.StartLaws.{first-due}
 use Rattle.parts.specs.Parts.{window}
-use Rattle.sets.specs.Tables.{tablesIn, length-tables}
+use Rattle.sets.specs.Tables.{tablesIn}
+use Rattle.sets.specs.TableLaws.{length-tables}
 use Rattle.set_runs.specs.Lent.{readIn, sectionsIn, roomOf, flowOf, siteOf, calledValues}
 use Rattle.set_runs.specs.LentLaws.{statements-inside}
 use Rattle.set_runs.specs.Levels.{Stands, Begins, final, HasReturned, HasHalted, Callable, MayCall, Along}
@@ -112,8 +113,19 @@ module _ {W : List ℤ} {L D S : List ℕ} {room : ℕ} (C : Callable W L D S ro
         let h = sections-here C n known in
         let l = limits-here C n known in
         let w : a < sectionsIn W L n .statements = omega (arith, x .within, x .due, ap (λ (g : Sections). g .statements) h) in
-        omega (arith, w, statements-inside W L (C .accepted) n known, l .start, l .objects, l .variables, l .statements, ap (λ (g : Sections). g .start) h,
-        ap (λ (g : Sections). g .objects) h, ap (λ (g : Sections). g .variables) h, ap (λ (g : Sections). g .statements) h)
+        omega (
+          arith,
+          w,
+          statements-inside W L (C .accepted) n known,
+          l .start,
+          l .objects,
+          l .variables,
+          l .statements,
+          ap (λ (g : Sections). g .start) h,
+          ap (λ (g : Sections). g .objects) h,
+          ap (λ (g : Sections). g .variables) h,
+          ap (λ (g : Sections). g .statements) h,
+        )
 
     -- ---- the callee begins
 
@@ -135,8 +147,11 @@ module _ {W : List ℤ} {L D S : List ℕ} {room : ℕ} (C : Callable W L D S ro
         )
         go false e =
             let l : length (tabulate (sectionsOf rs D (siteAt a .callee) .variables) (λ j. getD (q .point .origins) (argument (siteAt a) j) 0)) ≤ p =
-            omega (arith, length-tabulate (sectionsOf rs D (siteAt a .callee) .variables) (λ j. getD (q .point .origins) (argument (siteAt a) j) 0),
-            ltb-false p (sectionsOf rs D (siteAt a .callee) .variables) e) in
+            omega (
+              arith,
+              length-tabulate (sectionsOf rs D (siteAt a .callee) .variables) (λ j. getD (q .point .origins) (argument (siteAt a) j) 0),
+              ltb-false p (sectionsOf rs D (siteAt a .callee) .variables) e,
+            ) in
             omega (arith, List·getD-eq-default (tabulate (sectionsOf rs D (siteAt a .callee) .variables) (λ j. getD (q .point .origins) (argument (siteAt a) j) 0)) 0 l)
 
     begins : Begins rs D room (F ∷ gs) k B (s + 1) (take (countAt a) (calledValues vs c)) cs
@@ -194,6 +209,7 @@ module _ {W : List ℤ} {L D S : List ℕ} {room : ℕ} (C : Callable W L D S ro
       point = y .point;
       state = call-ahead ∙ (y .state ∙ ap (λ (fs : List Frame). stack fs (w .routine) (y .point)) (sym (append-assoc (y .above) (F ∷ []) gs)));
       outcome = y .outcome;
+      numbered = y .numbered;
       values = q .values ∙ sym (last-of rs D (y .above) F (y .point .values));
       cells = y .cells;
     }

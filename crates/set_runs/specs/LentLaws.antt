@@ -29,7 +29,8 @@ use Rattle.rules.specs.declared.Environment.{Environment}
 use Rattle.entry.specs.Ends.{boundsNumber, placeBounds, placeNumber, endsOf}
 use Rattle.parts.specs.Parts.{lengthAt, startAt, window, partOf, spanOf}
 use Rattle.parts.specs.PartsLaws.{between-part, starts-order}
-use Rattle.sets.specs.Tables.{tablesIn, length-tables, table-at}
+use Rattle.sets.specs.Tables.{tablesIn}
+use Rattle.sets.specs.TableLaws.{length-tables, table-at}
 use Rattle.sets.specs.SignatureLaws.{SameVariables, string-same, end-same, read-same, variables-same, statements-same, rows-same}
 use Rattle.sets.specs.JudgedLaws.{member-put}
 use Rattle.set_runs.specs.Lent.{lentOf, sharedObjects, shift, partIn, readIn, sectionsIn}
@@ -141,10 +142,10 @@ module _ (W : List ℤ) (L : List ℕ) (accepted : AllAccepted (tablesIn W L)) (
   first-is : getD Ts 0 [] ≡ lentOf W L 0
   first-is = table-at W L 0 (omega arith)
 
-  right : headRight (lentOf W L n) ≡ true
+  pub right : headRight (lentOf W L n) ≡ true
   right = ap headRight (sym lent-is) ∙ lent-head Ts n (accepted .each n known)
 
-  first-right : headRight (lentOf W L 0) ≡ true
+  pub first-right : headRight (lentOf W L 0) ≡ true
   first-right = ap headRight (sym first-is) ∙ lent-head Ts 0 (accepted .each 0 first)
 
   -- Routine 0 is its own table; one behind it has the objects put in.
@@ -153,13 +154,13 @@ module _ (W : List ℤ) (L : List ℕ) (accepted : AllAccepted (tablesIn W L)) (
   own-table [] = refl
   own-table (T ∷ Us) = refl
 
-  member-first : n ≡ 0 → M ≡ lentOf W L n
+  pub member-first : n ≡ 0 → M ≡ lentOf W L n
   member-first e = rw e (own-table Ts ∙ first-is)
 
-  member-later : (n ≡ 0 → ⊥) → M ≡ withObjects (objectWords (lentOf W L 0)) (lentOf W L n)
+  pub member-later : (n ≡ 0 → ⊥) → M ≡ withObjects (objectWords (lentOf W L 0)) (lentOf W L n)
   member-later z = member-put Ts n z known ∙ ap₂ (λ (F T : List ℤ). withObjects (objectWords F) T) first-is lent-is
 
-  none-listed : (n ≡ 0 → ⊥) → sectionsOf (lentOf W L n) .objects ≡ 0
+  pub none-listed : (n ≡ 0 → ⊥) → sectionsOf (lentOf W L n) .objects ≡ 0
   none-listed z = ap (λ (T : List ℤ). sectionsOf T .objects) (sym lent-is) ∙ lists-none Ts n (accepted .each n known) z
 
   sections-made : (g : Sections) → g .start ≡ sectionsOf (lentOf W L n) .start → g .objects ≡ sharedObjects W L → g .variables ≡ sectionsOf (lentOf W L n) .variables

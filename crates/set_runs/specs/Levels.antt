@@ -9,7 +9,7 @@ use Rattle.rules.specs.BoundsRules.{ownRows}
 use Rattle.blocks.specs.Shape.{entriesAt}
 use Rattle.rules.specs.Calls.{Routine}
 use Rattle.rules.specs.Sets.{routinesOf, AllAccepted}
-use Rattle.machine.specs.Machine.{going, Point, successorsOf}
+use Rattle.machine.specs.Machine.{going, stopped, Point, successorsOf}
 use Rattle.machine.specs.SetMachine.{Frame, Stack, stack, settled, stackAfter, lastValues, tableOf, sectionsOf, environmentOf}
 use Rattle.machine.specs.SetSound.{SetSetting, StackInvariant}
 use Rattle.answers.specs.declared.stops.Outcome.{Outcome}
@@ -63,6 +63,7 @@ module _ (rs : List Routine) (D : List ℕ) (room : ℕ) where
       pub point : Point
       pub state : final gs n P ≡ stack (above ++ gs) (o .routine) point
       pub outcome : o .outcome ≡ outcomeShown (sectionsOf rs D (o .routine)) (point .status) (point .steps) (point .due)
+      pub numbered : (k : ℕ) → point .status ≡ stopped k → (1 ≤ k) × (k ≤ 6)
       pub values : vs ≡ lastValues rs D above (point .values)
       pub cells : cs ≡ point .cells
 

@@ -2,9 +2,14 @@ pub mod StackLaws
 pub mod Levels
 pub mod StretchLaws
 pub mod Lent
+pub mod Prepared
 pub mod LentLaws
 pub mod PartLaws
 pub mod PauseLaws
 pub mod RoutineLaws
 pub mod CallLaws
 pub mod LevelLaws
+pub mod PrepareLaws
+pub mod SetRuns
+pub mod RunLaws
+pub mod JudgedLaws

@@ -45,7 +45,8 @@ use Rattle.interpreter.specs.EndsLaws.{ends-long, ends-small, ends-sizes}
 use Rattle.interpreter.specs.Outcomes.{outcomeShown}
 use Rattle.interpreter.specs.StartLaws.{first-due}
 use Rattle.parts.specs.Parts.{window, Replaced}
-use Rattle.sets.specs.Tables.{tablesIn, length-tables}
+use Rattle.sets.specs.Tables.{tablesIn}
+use Rattle.sets.specs.TableLaws.{length-tables}
 use Rattle.set_runs.specs.Lent.{readIn, sectionsIn, roomOf, flowOf, siteOf, calledValues, halts, pauseOf}
 use Rattle.set_runs.specs.LentLaws.{decoded-same, ends-same, sections-are, words-are, statements-inside}
 use Rattle.set_runs.specs.Levels.{Stands, Begins, final, HasReturned, HasHalted, Leaves, Callable, MayRun, RanOn, Called, MayCall, LevelLeaves, Along}
@@ -165,6 +166,7 @@ module _ {W : List ℤ} {L D S : List ℕ} {room : ℕ} (C : Callable W L D S ro
     pub origins : (p : ℕ) → getD (point .origins) p 0 ≤ h .objects
     pub invariant : StackInvariant rs D room (stack gs n point)
     pub outcome : o ≡ outcomeShown h (point .status) (point .steps) (point .due)
+    pub numbered : (k : ℕ) → point .status ≡ stopped k → (1 ≤ k) × (k ≤ 6)
     pub in-force : roomOf ends n ≡ endsOf E (point .rows)
     pub values : vs ≡ point .values
     pub cells : cs ≡ point .cells
@@ -191,6 +193,7 @@ module _ {W : List ℤ} {L D S : List ℕ} {room : ℕ} (C : Callable W L D S ro
         origins = s .origins;
         invariant = s .invariant;
         outcome = r .run .outcome ∙ ap (λ (x : Result). x .outcome) shown;
+        numbered = s .numbered;
         in-force = here ∙ (r .run .ends ∙ ap (λ (x : Result). x .ends) shown);
         values = r .run .values ∙ ap (λ (x : Result). x .values) shown;
         cells = r .run .cells ∙ ap (λ (x : Result). x .cells) shown;
@@ -220,7 +223,7 @@ module _ {W : List ℤ} {L D S : List ℕ} {room : ℕ} (C : Callable W L D S ro
     -- ---- the level ends
 
     halted : final rs D room limit gs n Q ≡ stack gs n Q → HasHalted rs D room limit gs n P (record { outcome = outcomeShown h (Q .status) (Q .steps) (Q .due); routine = n }) vs cs
-    halted e = record { above = []; point = Q; state = q .ahead ∙ e; outcome = refl; values = q .values; cells = q .cells }
+    halted e = record { above = []; point = Q; state = q .ahead ∙ e; outcome = refl; numbered = q .numbered; values = q .values; cells = q .cells }
 
     returned : Q .status ≡ going → h .statements ≤ Q .due → HasReturned rs D room limit gs n P (Q .steps) vs cs
     returned g d = record {

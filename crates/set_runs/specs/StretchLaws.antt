@@ -24,7 +24,7 @@ use Rattle.blocks.specs.Shape.{entriesAt}
 use Rattle.rules.specs.Calls.{Routine, routineAt}
 use Rattle.rules.specs.Sets.{before}
 use Rattle.rules.specs.declared.Environment.{Environment}
-use Rattle.machine.specs.Machine.{high, Status, going, stopped, stuck, Point, successorsOf, statementStep, nextPoint}
+use Rattle.machine.specs.Machine.{high, Status, going, stopped, stuck, Point, successorsOf, statementStep, nextPoint, pointAfter}
 use Rattle.machine.specs.Soundness.{Sound}
 use Rattle.machine.specs.RunSound.{Invariant}
 use Rattle.machine.specs.SetMachine.{Frame, Stack, stack, settled, stackAfter, tableOf, sectionsOf, environmentOf}
@@ -36,6 +36,7 @@ use Rattle.checks.specs.Checked.{checkOf}
 use Rattle.interpreter.specs.BareRun.{Result, result, follow, bareRun, Onward, SafeRun}
 use Rattle.interpreter.specs.Agreement.{stepShown, moveShown, resultShown}
 use Rattle.interpreter.specs.AgreementLaws.{Stepped, stepped, inside, if-true, spent-or-done, shown-going, shown-stopped}
+use Rattle.interpreter.specs.NumberLaws.{stopped-number}
 use Rattle.interpreter.specs.StepLaws.{next-going}
 use Rattle.set_runs.specs.StackLaws.{later, settled-due, next-own}
 use Rattle.set_runs.specs.Levels.{Stands}
@@ -148,6 +149,7 @@ module _ (rs : List Routine) (D : List ℕ) (room : ℕ) (S : SetSetting rs D ro
       pub origins : (p : ℕ) → getD (point .origins) p 0 ≤ h n .objects
       pub invariant : StackInvariant rs D room (stack gs n point)
       pub shown : o ≡ resultShown (E n) (h n) point
+      pub numbered : (k : ℕ) → point .status ≡ stopped k → (1 ≤ k) × (k ≤ 6)
       pub less : left ≤ l
       pub counted : point .steps + left ≡ P .steps + l
       pub ahead : stackAfter rs D l (settled rs D gs n P) ≡ stackAfter rs D left (settled rs D gs n point)
@@ -163,6 +165,7 @@ module _ (rs : List Routine) (D : List ℕ) (room : ℕ) (S : SetSetting rs D ro
       origins = A .origins;
       invariant = A .invariant;
       shown = e;
+      numbered = λ k g. let z : going ≡ stopped k = sym (A .goes) ∙ g in let y : _≡_ {A = ℕ} 0 1 = cc in absurd (omega arith);
       less = omega arith;
       counted = refl;
       ahead = refl;
@@ -204,6 +207,7 @@ module _ (rs : List Routine) (D : List ℕ) (room : ℕ) (S : SetSetting rs D ro
               origins = r .origins;
               invariant = r .invariant;
               shown = ap (λ (j : ℕ). bareRun X (h n) (endsOf (E n) (Q .rows)) D F l j (Q .due) (Q .values) (Q .cells)) (sym counted-here) ∙ r .shown;
+              numbered = r .numbered;
               less = omega (arith, r .less);
               counted = omega (arith, r .counted, counted-here);
               ahead = step-ahead gs W P A ends due s read other l ∙ r .ahead;
@@ -212,12 +216,14 @@ module _ (rs : List Routine) (D : List ℕ) (room : ℕ) (S : SetSetting rs D ro
 
         -- or a check stops it.
         stops-here : (k : ℕ) → Q .status ≡ stopped k → Stretch (suc l) gs P (result (Stopped (P .steps + 1) (checkOf k (Q .due))) (endsOf (E n) (Q .rows)) (Q .values) (Q .cells))
+        unfolding pointAfter
         stops-here k g = record {
           point = Q;
           left = l;
           origins = step-stepped gs W P A ends due s read other .origins;
           invariant = record { known = A .invariant .known; running = kept gs W P A ends due s read other; waits = A .invariant .waits };
           shown = shown-stopped X (h n) (E n) D F Q k (P .steps + 1) g (sym counted-here);
+          numbered = λ j e. stopped-number (T n) (h n) (E n) D 1 j P (A .goes) e;
           less = omega arith;
           counted = omega (arith, counted-here);
           ahead = step-ahead gs W P A ends due s read other l;

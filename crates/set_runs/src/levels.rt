@@ -112,7 +112,17 @@ pub(crate) fn run_routine(
     let mut steps = made;
     loop {
         let outcome = stretch(
-            tables, lengths, n, at, steps, ends, successors, directory, values, cells, limit,
+            tables,
+            lengths,
+            n,
+            at,
+            steps,
+            ends,
+            successors,
+            directory,
+            values,
+            cells,
+            limit,
         );
         let pause = pause_of(limit, n, outcome);
         match pause {
