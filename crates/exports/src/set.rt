@@ -104,7 +104,16 @@ pub extern "C" fn mizzengrape_run_set(
         return false;
     }
     let ran = set_runs::run_set(
-        tables, lengths, directory, cells, values, origins, limit, member, ends, successors,
+        tables,
+        lengths,
+        directory,
+        cells,
+        values,
+        origins,
+        limit,
+        member,
+        ends,
+        successors,
     );
     let SetRun::Ran(ended) = ran else {
         return false;

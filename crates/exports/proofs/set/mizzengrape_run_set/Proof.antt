@@ -1,0 +1,17 @@
+use mathlib.Core.Path.{_≡_, refl, sym, ap, _∙_}
+use borrow.Author.Needs.{needs}
+use Rattle.exports.specs.SetWordLaws.{no-run, no-run-room, ran-set}
+use Rattle.exports.proofs.set.mizzengrape_run_set.Statement.{statement}
+use Rattle.exports.proofs.set.mizzengrape_run_set.Tie as tie
+
+pub mizzengrape-run-set-spec : {M : Type 1} → statement M
+mizzengrape-run-set-spec =
+    tie.close
+    (tie.spec
+    (λ c. no-run (c .if1 .taken))
+    (λ c κs. search needs) (λ c. search needs) (λ c. search needs) (λ c. search needs) (λ c. search needs) (λ c. search needs)
+    (λ c. search needs) (λ c. search needs)
+    (λ c. no-run-room (c .before .before .before .before .before .before .before .before .before .before .before .run-set .ensures) (c .enum-told .given .1))
+    (λ c κs. search needs) (λ c. search needs) (λ c. search needs) (λ c. search needs) (λ c. search needs) (λ c. search needs)
+    (λ c. search needs)
+    (λ c. ran-set (c .before .before .before .before .before .before .before .before .before .before .before .before .before .before .before .before .before .before .before .before .before .before .if1 .left) (c .before .before .before .before .before .before .before .before .before .before .before .before .before .before .before .before .run-set .ensures) (c .before .before .before .before .before .ran .given .1) (c .before .before .put-set-outcome .ensures)))
