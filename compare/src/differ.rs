@@ -13,6 +13,7 @@ use oracle::answer::{Refusal, RunAnswer, RunInput};
 use oracle::machine;
 use oracle::report::{accept, Accepted};
 use std::fmt::Write;
+use std::slice::from_ref;
 
 /// A case and its runs. The plain form checks the table once, and the buffers are used again at every
 /// limit: each can be 64 MB, and new ones for each run took nearly a third of the time.
@@ -36,7 +37,7 @@ fn lend(buffers: &mut RunInput, input: &RunInput, allowance: u32) {
 impl<'a> Runs<'a> {
     fn new(case: &'a Case) -> Runs<'a> {
         let accepted = accept(&case.table, &case.facts);
-        let pair = accepted.as_ref().ok().and_then(|a| Pair::new(&a.routine, &case.input));
+        let pair = accepted.as_ref().ok().and_then(|a| Pair::new(from_ref(&a.routine), &case.input));
         let [ours, theirs, second] = [(); 3].map(|_| RunInput::default());
         Runs { case, accepted, pair, ours, theirs, second }
     }
@@ -85,13 +86,14 @@ impl<'a> Runs<'a> {
     /// runs of the two have just ended alike.
     fn leak(&mut self, allowance: u32, answer: RunWords, other: &dyn Implementation) -> Option<String> {
         let (Some(pair), Ok(accepted)) = (&self.pair, &self.accepted) else { return None };
-        let first = Ended { answer, after: &self.ours };
+        let first = Ended { answer: &answer, after: &self.ours };
         let plain = |buffers: &mut RunInput| run_words(&machine::run_routine(&accepted.routine, buffers));
         let others = |buffers: &mut RunInput| other.run(&self.case.table, &self.case.facts, buffers);
         let forms: [(&str, Run); 2] = [("plain form", &plain), (other.name(), &others)];
         for (name, run) in forms {
             lend(&mut self.second, &pair.second, allowance);
-            let second = Ended { answer: run(&mut self.second), after: &self.second };
+            let answer = run(&mut self.second);
+            let second = Ended { answer: &answer, after: &self.second };
             if let Some(what) = pair.leak(&self.case.input.cells, first, second) {
                 return Some(format!("{name}: {what}"));
             }

@@ -221,6 +221,22 @@ impl<'a> FastBounds<'a> {
             && below(facts, &behind, &declared.upper, declared.size)
     }
 
+    /// Whether the bounds of a callee's parameter name parameters only and are shown, with the arguments put in
+    /// (point 14). Outside bundles the known bounds are the declared ones.
+    pub fn argument_shown(&self, callee: &Routine, given: &[Var], place: usize, facts: &FastFacts) -> bool {
+        let Some(Bounds { lower, upper }) = callee.bounds[place] else { return true };
+        let put = |end: End| {
+            let node = |v: Var| given.get(usize::from(v)).map(|&v| self.nodes[usize::from(v)]);
+            let integer = end.integer.map_or(Some(self.zero), node)?;
+            Some(Known { pointer: node(end.pointer)?, integer, constant: i64::from(end.constant) })
+        };
+        let (Some(lower), Some(upper)) = (put(lower), put(upper)) else { return false };
+        let p = given[place];
+        let wanted = KnownBounds { size: i64::from(callee.sizes[place]), lower, upper };
+        within(facts, &wanted, &self.known[usize::from(p)], self.zero)
+            || facts.shows(self.node(p), self.zero(), 0)
+    }
+
     /// All declared bounds must be shown and become the known ones.
     #[inline]
     pub fn settle(&mut self, place: usize, facts: &FastFacts) -> CheckAnswer {

@@ -6,7 +6,7 @@ use crate::fast_facts::FastFacts;
 use oracle::answer::{CheckAnswer, Refusal};
 use oracle::facts::{Node, GREATEST, ZERO};
 use oracle::loop_facts::LoopFacts;
-use oracle::table::{decode, Condition, Right, Routine, Statement, Var};
+use oracle::table::{decode, Call, Condition, Kind, Right, Routine, Statement, Var};
 use std::ops::Range;
 
 /// Causes 1 to 9 and 13 of a table without a list.
@@ -16,12 +16,14 @@ pub fn check(words: &[i32]) -> CheckAnswer {
 
 /// Causes 8, 9 and 13 of a decoded routine.
 pub fn check_routine(routine: &Routine) -> CheckAnswer {
+    check_member(routine, &[])
+}
+
+/// Causes 8, 9, 13, 19 and 20 of a routine of a set, where these are the ones before it (point 14).
+pub fn check_member(routine: &Routine, callees: &[Routine]) -> CheckAnswer {
     let (bounds, mut facts) = FastBounds::new(routine, 0);
-    Walker { routine, bounds, list: Vec::new(), report: None, begun: 0 }.block(
-        0,
-        routine.statements.len(),
-        &mut facts,
-    )
+    let mut walker = Walker { routine, callees, bounds, list: Vec::new(), report: None, begun: 0 };
+    walker.block(0, routine.statements.len(), &mut facts)
 }
 
 /// Causes 1 to 9, 13 and 17 of a table with a list of loop facts; the report of an accepted one.
@@ -37,7 +39,7 @@ pub fn report(routine: &Routine, loop_facts: &LoopFacts) -> Result<Vec<u32>, Ref
     let node = |x: Node| if x == ZERO { bounds.zero() } else { bounds.node(x as Var) };
     let entries = loop_facts.entries().iter();
     let list = entries.map(|e| Listed { head: e.head, x: node(e.x), y: node(e.y), k: e.k }).collect();
-    let mut walker = Walker { routine, bounds, list, report: Some(Vec::new()), begun: 0 };
+    let mut walker = Walker { routine, callees: &[], bounds, list, report: Some(Vec::new()), begun: 0 };
     walker.block(0, routine.statements.len(), &mut facts)?;
     Ok(walker.report.unwrap_or_default())
 }
@@ -63,6 +65,7 @@ struct Listed {
 
 struct Walker<'a> {
     routine: &'a Routine,
+    callees: &'a [Routine],
     bounds: FastBounds<'a>,
     /// Sorted by their heads.
     list: Vec<Listed>,
@@ -84,7 +87,7 @@ impl<'a> Resumed<'a> {
         // Every variable has a node, so that facts mean the same whatever statements there are.
         let all = routine.kinds.iter().fold(0, |mask, _| mask << 1 | 1);
         let (bounds, facts) = FastBounds::new(routine, all);
-        let walker = Walker { routine, bounds, list: Vec::new(), report: None, begun: 0 };
+        let walker = Walker { routine, callees: &[], bounds, list: Vec::new(), report: None, begun: 0 };
         Resumed { walker, facts, position: 0 }
     }
 
@@ -176,6 +179,15 @@ impl Walker<'_> {
                     self.bounds.settle(s, facts)?;
                     s = next;
                 }
+                Statement::Call(call) => {
+                    self.call(s, &call, facts)?;
+                    if let Some(x) = call.result {
+                        self.bounds.forget(x);
+                        self.drop(x, facts);
+                    }
+                    self.bounds.settle(s, facts)?;
+                    s += 1;
+                }
                 simple => {
                     self.report_access(s, facts);
                     self.simple(simple, facts);
@@ -185,6 +197,28 @@ impl Walker<'_> {
             }
         }
         Ok(())
+    }
+
+    /// 19 and 20 of the call at s.
+    fn call(&self, s: usize, call: &Call, facts: &FastFacts) -> CheckAnswer {
+        let Some(callee) = usize::try_from(call.callee).ok().and_then(|number| self.callees.get(number))
+        else {
+            return Err(Refusal::at(19, s));
+        };
+        let count = call.arguments.iter().take_while(|argument| argument.is_some()).count();
+        let mut right = call.arguments[count..].iter().all(|argument| argument.is_none())
+            && count <= callee.kinds.len()
+            && callee.kinds.last() == Some(&Kind::Integer);
+        let mut given = [0; 4];
+        for (place, &argument) in call.arguments[..count].iter().flatten().enumerate() {
+            given[place] = argument;
+            right = right && callee.kinds[place] == self.routine.kinds[usize::from(argument)];
+        }
+        let given = &given[..count];
+        if right && (0..count).all(|place| self.bounds.argument_shown(callee, given, place, facts)) {
+            return Ok(());
+        }
+        Err(Refusal::at(20, s))
     }
 
     /// The places in the list of the entries of the loop at s.

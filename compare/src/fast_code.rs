@@ -2,13 +2,15 @@
 //! run goes on, over slots of values.
 
 use crate::fast_bounds::{declared, InForce, AT_ENTRY};
-use oracle::table::{Bounds, Condition, End, Kind, Operator, Right, Routine, Statement, Var};
+use oracle::table::{Bounds, Call, Condition, End, Kind, Operator, Right, Routine, Statement, Var};
 
 /// A value slot: 0 to 15 the variables, `NOTHING` always 0. There is one for
 /// every number a slot can have, so that no index needs a check.
 pub type Slot = u8;
 pub const SLOTS: usize = 256;
 const NOTHING: Slot = 16;
+/// Where a result goes that nobody wants.
+const DISCARDED: Slot = 17;
 
 /// Which of less, equal, greater satisfy each relation, as bits 0, 1, 2.
 const SATISFIED: [u8; 6] = [0b001, 0b110, 0b100, 0b011, 0b010, 0b101];
@@ -118,6 +120,12 @@ pub enum Op {
     },
     /// The head of a bundle, and kind 14: a step that changes nothing here.
     Enter,
+    /// Kind 15: where the callee has ended, `result` takes its last variable.
+    Call {
+        callee: u8,
+        result: Slot,
+        arguments: [Slot; 4],
+    },
     /// Nothing is due.
     Done,
 }
@@ -157,6 +165,18 @@ pub struct FlatBounds {
 pub struct Code {
     pub instructions: Vec<Instruction>,
     pub ends: Vec<FlatBounds>,
+    /// The last variable: what a caller gets.
+    pub result: Slot,
+}
+
+impl Code {
+    /// Where the result of the call at s goes, and where the run goes on.
+    pub fn behind_call(&self, s: usize) -> (Slot, usize) {
+        match self.instructions[s] {
+            Instruction { op: Op::Call { result, .. }, next } => (result, usize::from(next)),
+            Instruction { next, .. } => (DISCARDED, usize::from(next)),
+        }
+    }
 }
 
 fn slot(variable: Option<Var>) -> Slot {
@@ -178,7 +198,7 @@ fn near(p: Var, size: u8, bounds: &Bounds) -> Option<Near> {
 pub fn translate(routine: &Routine, directory: &[u32]) -> Code {
     let end = routine.statements.len();
     let instructions = vec![Instruction { op: Op::Done, next: 0 }; end + 1];
-    let code = Code { instructions, ends: Vec::new() };
+    let code = Code { instructions, ends: Vec::new(), result: routine.kinds.len() as Slot - 1 };
     let mut translator = Translator { routine, directory, in_force: AT_ENTRY, code };
     translator.block(0, end, end);
     translator.code
@@ -286,6 +306,11 @@ impl Translator<'_> {
                 self.in_force[usize::from(p)] = row;
                 Op::Enter
             }
+            Statement::Call(Call { callee, result, arguments }) => Op::Call {
+                callee: callee as u8,
+                result: result.unwrap_or(DISCARDED),
+                arguments: arguments.map(slot),
+            },
             Statement::If { .. } | Statement::While { .. } | Statement::Bundle { .. } => Op::Enter,
         }
     }

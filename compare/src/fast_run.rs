@@ -7,7 +7,7 @@ use crate::fast_code::{translate, Code, FlatBounds, FlatEnd, Near, Op, Slot, SLO
 use oracle::answer::{Check, RunAnswer, RunInput};
 use oracle::entry::check_entry;
 use oracle::loop_facts::LoopFacts;
-use oracle::table::{decode, Routine};
+use oracle::table::{decode, Routine, MAX_VARIABLES};
 
 /// Checks the routine and the entry, then runs it in the lent buffers.
 pub fn run(words: &[i32], input: &mut RunInput) -> RunAnswer {
@@ -39,11 +39,32 @@ pub fn run_routine(routine: &Routine, input: &mut RunInput) -> RunAnswer {
 }
 
 /// The values of all slots.
-struct Values([u32; SLOTS]);
+pub struct Values([u32; SLOTS]);
+
+impl Default for Values {
+    fn default() -> Values {
+        Values([0; SLOTS])
+    }
+}
 
 impl Values {
+    /// Takes the lent values.
+    pub fn put(&mut self, lent: &[u32]) {
+        self.0[..lent.len()].copy_from_slice(lent);
+    }
+
+    pub fn give_back(&self, lent: &mut [u32]) {
+        lent.copy_from_slice(&self.0[..lent.len()]);
+    }
+
+    /// Of a callee: the arguments, then zeros.
+    pub fn call(&mut self, arguments: [u32; 4]) {
+        self.0[..MAX_VARIABLES].fill(0);
+        self.0[..4].copy_from_slice(&arguments);
+    }
+
     #[inline(always)]
-    fn get(&self, slot: Slot) -> u32 {
+    pub fn get(&self, slot: Slot) -> u32 {
         self.0[usize::from(slot)]
     }
 
@@ -53,7 +74,7 @@ impl Values {
     }
 
     #[inline(always)]
-    fn set(&mut self, slot: Slot, value: u32) {
+    pub fn set(&mut self, slot: Slot, value: u32) {
         self.0[usize::from(slot)] = value;
     }
 
@@ -141,54 +162,56 @@ pub struct Begun<'a> {
 }
 
 pub fn begin<'a>(code: &'a Code, lent: &[u32]) -> Begun<'a> {
-    let mut values = Values([0; SLOTS]);
-    values.0[..lent.len()].copy_from_slice(lent);
+    let mut values = Values::default();
+    values.put(lent);
     Begun { code, values, due: 0, steps: 0 }
 }
 
 impl Begun<'_> {
     /// So many more steps at most; the answer counts all that were made.
     pub fn go(&mut self, cells: &mut [u32], more: u32) -> RunAnswer {
-        let mut answer = run_loop(self.code, cells, &mut self.values, self.due, more);
-        let (RunAnswer::Done { steps }
-        | RunAnswer::Spent { steps, .. }
-        | RunAnswer::Stopped { steps, .. }
-        | RunAnswer::Stuck { steps, .. }) = &mut answer
-        else {
-            return answer;
-        };
-        *steps += self.steps;
-        self.steps = *steps;
-        if let RunAnswer::Spent { statement, .. } = answer {
-            self.due = statement as usize;
+        let mut left = more;
+        let exit = run_loop(self.code, cells, &mut self.values, &mut self.due, &mut left);
+        self.steps += u64::from(more - left);
+        let (steps, statement) = (self.steps, self.due as u32);
+        match exit {
+            Exit::Done => RunAnswer::Done { steps },
+            Exit::Spent => RunAnswer::Spent { steps, statement },
+            Exit::Stopped(check) => RunAnswer::Stopped { steps, statement, check },
+            // A routine by itself that is accepted has no call.
+            Exit::Stuck | Exit::Called { .. } => RunAnswer::Stuck { steps, statement },
         }
-        answer
     }
 
     pub fn give_back(&self, lent: &mut [u32]) {
-        lent.copy_from_slice(&self.values.0[..lent.len()]);
+        self.values.give_back(lent);
     }
 }
 
-fn run_loop(
+/// Why the loop is left. `due` is the statement then: of a call the call, which is a step already.
+pub enum Exit {
+    Done,
+    Spent,
+    Stopped(Check),
+    Stuck,
+    Called { callee: u8, arguments: [Slot; 4] },
+}
+
+/// Goes on from the statement due, until no step is left of the allowance.
+pub fn run_loop(
     code: &Code,
     cells: &mut [u32],
     values: &mut Values,
-    mut due: usize,
-    allowance: u32,
-) -> RunAnswer {
+    due_then: &mut usize,
+    left_then: &mut u32,
+) -> Exit {
     let instructions = code.instructions.as_slice();
     let last = instructions.len() - 1;
-    let mut left = allowance;
-    // Leaves the loop with the check that stopped the statement due, or as stuck.
-    let halted = loop {
-        let steps = u64::from(allowance - left);
+    let (mut due, mut left) = (*due_then, *left_then);
+    let exit = loop {
         if left == 0 {
             // Done comes before spent.
-            return match due == last {
-                true => RunAnswer::Done { steps },
-                false => RunAnswer::Spent { steps, statement: due as u32 },
-            };
+            break if due == last { Exit::Done } else { Exit::Spent };
         }
         left -= 1;
         let instruction = &instructions[due];
@@ -201,58 +224,58 @@ fn run_loop(
             Op::Multiply { x, y, z } => values.set(x, values.get(y).wrapping_mul(values.get(z))),
             Op::MovePointer { p, q, k } => match values.advance(q, i64::from(k)) {
                 Ok(address) => values.set(p, address),
-                Err(check) => break Some(check),
+                Err(check) => break Exit::Stopped(check),
             },
             Op::IndexPointer { p, q, i, size } => match values.advance(q, i64::from(size) * values.wide(i)) {
                 Ok(address) => values.set(p, address),
-                Err(check) => break Some(check),
+                Err(check) => break Exit::Stopped(check),
             },
             Op::LoadNear { x, p, i, k, near } => match values.near_access(p, i, k, near) {
                 Ok(address) => match cells.get(address as usize) {
                     Some(&cell) => values.set(x, cell),
-                    None => break None,
+                    None => break Exit::Stuck,
                 },
-                Err(check) => break Some(check),
+                Err(check) => break Exit::Stopped(check),
             },
             Op::StoreNear { x, p, i, k, near } => match values.near_access(p, i, k, near) {
                 Ok(address) => match cells.get_mut(address as usize) {
                     Some(cell) => *cell = values.get(x),
-                    None => break None,
+                    None => break Exit::Stuck,
                 },
-                Err(check) => break Some(check),
+                Err(check) => break Exit::Stopped(check),
             },
             Op::Load { x, p, i, k, ends } => match values.access(p, i, k, &code.ends[usize::from(ends)]) {
                 Ok(address) => match cells.get(address as usize) {
                     Some(&cell) => values.set(x, cell),
-                    None => break None,
+                    None => break Exit::Stuck,
                 },
-                Err(check) => break Some(check),
+                Err(check) => break Exit::Stopped(check),
             },
             Op::Store { x, p, i, k, ends } => match values.access(p, i, k, &code.ends[usize::from(ends)]) {
                 Ok(address) => match cells.get_mut(address as usize) {
                     Some(cell) => *cell = values.get(x),
-                    None => break None,
+                    None => break Exit::Stuck,
                 },
-                Err(check) => break Some(check),
+                Err(check) => break Exit::Stopped(check),
             },
             Op::StoreTerminated { x, p, i, k, ends } => {
                 let number = values.get(x);
                 match values.terminated(p, i, k, &code.ends[usize::from(ends)], number) {
                     Ok(address) => match cells.get_mut(address as usize) {
                         Some(cell) => *cell = number,
-                        None => break None,
+                        None => break Exit::Stuck,
                     },
-                    Err(check) => break Some(check),
+                    Err(check) => break Exit::Stopped(check),
                 }
             }
             Op::CheckVariable { x, y, satisfied } => {
                 if !values.holds(x, values.get(y), satisfied) {
-                    break Some(Check::Dynamic);
+                    break Exit::Stopped(Check::Dynamic);
                 }
             }
             Op::CheckLiteral { x, satisfied, literal } => {
                 if !values.holds(x, literal, satisfied) {
-                    break Some(Check::Dynamic);
+                    break Exit::Stopped(Check::Dynamic);
                 }
             }
             Op::BranchVariable { x, y, satisfied, other } => {
@@ -266,13 +289,14 @@ fn run_loop(
                 }
             }
             Op::Enter => {}
-            Op::Done => return RunAnswer::Done { steps },
+            Op::Call { callee, arguments, .. } => break Exit::Called { callee, arguments },
+            Op::Done => {
+                left += 1;
+                break Exit::Done;
+            }
         }
         due = usize::from(next);
     };
-    let (steps, statement) = (u64::from(allowance - left), due as u32);
-    match halted {
-        Some(check) => RunAnswer::Stopped { steps, statement, check },
-        None => RunAnswer::Stuck { steps, statement },
-    }
+    (*due_then, *left_then) = (due, left);
+    exit
 }

@@ -6,6 +6,7 @@ mod bench_edits;
 mod damaged_edits;
 mod differ;
 mod differ_edits;
+mod differ_sets;
 mod differ_turns;
 mod edits;
 mod fast_bounds;
@@ -14,6 +15,7 @@ mod fast_code;
 mod fast_editor;
 mod fast_facts;
 mod fast_run;
+mod fast_sets;
 mod fast_turns;
 mod generate;
 mod linked;
@@ -23,6 +25,7 @@ mod parallel;
 mod promises;
 mod proved;
 mod rng;
+mod sets;
 mod shrink;
 mod stack;
 mod stats;
@@ -36,7 +39,7 @@ const USAGE: &str = "usage: compare vectors DIR
        compare stats SEED COUNT
        compare differ SEED COUNT [FIRST]
        compare edits SEED COUNT [FIRST]
-       compare show SEED NUMBER [turns|edits]
+       compare show SEED NUMBER [turns|edits|sets]
        compare bench [check|run|rows|sizes|facts|turns|edits]
        compare stack [KIB]";
 
@@ -53,6 +56,7 @@ fn main() -> ExitCode {
         ["show", seed, number] => show(seed, number),
         ["show", seed, number, "turns"] => show_turns(seed, number),
         ["show", seed, number, "edits"] => show_edits(seed, number),
+        ["show", seed, number, "sets"] => show_sets(seed, number),
         ["bench"] => {
             for (_, part) in bench::PARTS {
                 part();
@@ -132,18 +136,21 @@ fn show_stats(seed: &str, count: &str) -> Result<bool, String> {
 /// The first difference from a number on among so many cases of a seed.
 type Search = fn(u64, u64, u64, &dyn proved::Implementation) -> Option<String>;
 
-/// For so many runs of a routine one set of routines in turn.
+/// For so many runs of a routine one set of routines in turn, and one with calls.
 const RUNS_A_SET: u64 = 8;
 
 /// For so many runs of a routine one table that is edited, and one while it is damaged.
 const RUNS_AN_EDITED: u64 = 16;
 
+const SETS: &str = "sets of routines with calls";
+
 /// Compares every implementation behind the seam with the plain form.
 fn search(seed: &str, count: &str, first: &str) -> Result<bool, String> {
     let (seed, count, first) = (number(seed)?, number(count)?, number(first)?);
-    let kinds: [(&str, Search, u64); 2] = [
+    let kinds: [(&str, Search, u64); 3] = [
         ("cases", differ::search, count),
         ("sets of routines in turn", differ_turns::search, count.div_ceil(RUNS_A_SET)),
+        (SETS, differ_sets::search, count.div_ceil(RUNS_A_SET)),
     ];
     let is_same = search_kinds(seed, first, &kinds);
     Ok(edits_agree(seed, count.div_ceil(RUNS_AN_EDITED), first) && is_same)
@@ -178,6 +185,10 @@ fn search_kind(
     (kind, search, count): (&str, Search, u64),
     other: &dyn proved::Implementation,
 ) -> bool {
+    if kind == SETS && other.check_set(&sets::SetParts::default()).is_none() {
+        println!("{}: {kind} are not compared, it has no such calls", other.name());
+        return true;
+    }
     let report = search(seed, first, count, other);
     match &report {
         None => println!("{}: {count} {kind} of seed {seed} from {first}, no difference", other.name()),
@@ -198,5 +209,10 @@ fn show_turns(seed: &str, case: &str) -> Result<bool, String> {
 
 fn show_edits(seed: &str, case: &str) -> Result<bool, String> {
     print!("{}", differ_edits::vector(&generate::edits_case(number(seed)?, number(case)?)));
+    Ok(true)
+}
+
+fn show_sets(seed: &str, case: &str) -> Result<bool, String> {
+    print!("{}", differ_sets::vector(&generate::sets_case(number(seed)?, number(case)?).case()));
     Ok(true)
 }

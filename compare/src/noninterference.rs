@@ -1,7 +1,7 @@
 //! Objects out of reach (point 12): two runs with equal directories, values, origins and allowance, whose memories
 //! differ only in cells of unreachable objects or of no object, must not tell the two memories apart.
 
-use crate::proved::{show_run_words, RunWords};
+use crate::proved::show_words;
 use oracle::answer::RunInput;
 use oracle::entry::check_entry;
 use oracle::reach::cells_out_of_reach;
@@ -17,17 +17,18 @@ pub struct Pair {
 /// A run that has ended: its answer and its buffers then.
 #[derive(Clone, Copy)]
 pub struct Ended<'a> {
-    pub answer: RunWords,
+    pub answer: &'a [u32],
     pub after: &'a RunInput,
 }
 
 impl Pair {
     /// In the second memory every cell out of reach is another one, but for the last cells of terminated objects:
     /// with another number there the second entry would be refused (16). `None` where the entry is refused: of such runs
-    /// nothing is claimed.
-    pub fn new(routine: &Routine, first: &RunInput) -> Option<Pair> {
+    /// nothing is claimed. Of a set (point 14) the run begins in the last routine.
+    pub fn new(routines: &[Routine], first: &RunInput) -> Option<Pair> {
+        let routine = routines.last()?;
         check_entry(routine, first).ok()?;
-        let out_of_reach = cells_out_of_reach(routine, first);
+        let out_of_reach = cells_out_of_reach(routines, first);
         let mut second = first.clone();
         for range in out_of_reach.clone() {
             second.cells[range].iter_mut().for_each(|cell| *cell = !*cell);
@@ -44,7 +45,7 @@ impl Pair {
     /// How two runs tell the memories apart, or that one writes a cell out of reach; `lent` is the first memory.
     pub fn leak(&self, lent: &[u32], first: Ended, second: Ended) -> Option<String> {
         if first.answer != second.answer {
-            let [first, second] = [first, second].map(|run| show_run_words(run.answer));
+            let [first, second] = [first, second].map(|run| show_words(run.answer));
             return Some(format!("the answer tells cells out of reach apart: {first} and {second}"));
         }
         if first.after.values != second.after.values {
@@ -75,7 +76,7 @@ mod tests {
     use crate::differ;
     use crate::edits::{EditCase, Edited};
     use crate::generate::Case;
-    use crate::proved::{run_words, Checked, Fast, Implementation};
+    use crate::proved::{run_words, Checked, Fast, Implementation, RunWords};
     use crate::turns::{Parts, TurnsWords};
     use oracle::draft::*;
     use oracle::machine;
@@ -103,11 +104,11 @@ mod tests {
     /// What the two runs of the club's routine let out.
     fn leak(run: impl Fn(&[i32], &mut RunInput) -> RunWords) -> Option<String> {
         let (table, lent) = club();
-        let pair = Pair::new(&decode(&table).unwrap(), &lent).expect("an entry that is accepted");
+        let pair = Pair::new(&[decode(&table).unwrap()], &lent).expect("an entry that is accepted");
         let (mut first, mut second) = (lent.clone(), pair.second.clone());
         let answers = [run(&table, &mut first), run(&table, &mut second)];
-        let first = Ended { answer: answers[0], after: &first };
-        pair.leak(&lent.cells, first, Ended { answer: answers[1], after: &second })
+        let first = Ended { answer: &answers[0], after: &first };
+        pair.leak(&lent.cells, first, Ended { answer: &answers[1], after: &second })
     }
 
     /// Wrong on purpose: the right run, then something with the buffers and the answer.
@@ -140,7 +141,7 @@ mod tests {
     #[test]
     fn all_cells_out_of_reach_differ_and_no_other() {
         let (table, lent) = club();
-        let pair = Pair::new(&decode(&table).unwrap(), &lent).unwrap();
+        let pair = Pair::new(&[decode(&table).unwrap()], &lent).unwrap();
         let differ = (0..8).filter(|&a| pair.second.cells[a] != lent.cells[a]);
         assert_eq!(differ.collect::<Vec<_>>(), [0, 1, 5, 6, 7]);
     }
@@ -151,7 +152,7 @@ mod tests {
         // The members' numbers end with 0; so do their cells in the second memory.
         table[7] = -2;
         lent.cells[6] = 0;
-        let pair = Pair::new(&decode(&table).unwrap(), &lent).unwrap();
+        let pair = Pair::new(&[decode(&table).unwrap()], &lent).unwrap();
         let differ = (0..8).filter(|&a| pair.second.cells[a] != lent.cells[a]);
         assert_eq!(differ.collect::<Vec<_>>(), [0, 1, 5, 7]);
         assert_eq!(check_entry(&decode(&table).unwrap(), &pair.second), Ok(()));
@@ -169,7 +170,7 @@ mod tests {
     fn a_refused_entry_makes_no_pair() {
         let (table, mut lent) = club();
         lent.values[1] = 4;
-        assert!(Pair::new(&decode(&table).unwrap(), &lent).is_none());
+        assert!(Pair::new(&[decode(&table).unwrap()], &lent).is_none());
     }
 
     #[test]

@@ -4,8 +4,11 @@
 
 use crate::edits::{EditCase, Edited};
 use crate::linked::Proved;
+use crate::sets::{
+    members, set_check_words, set_run_words, show_set_run_words, SetCheckWords, SetParts, SetRunWords,
+};
 use crate::turns::{turns_words, Parts, TurnsWords};
-use crate::{fast_check, fast_editor, fast_run, fast_turns};
+use crate::{fast_check, fast_editor, fast_run, fast_sets, fast_turns};
 use oracle::answer::{Refusal, RunAnswer, RunInput};
 
 /// 0 for accepted, else the number of the refusal; its place; for refusal 8 the
@@ -45,6 +48,15 @@ pub trait Implementation: Sync {
 
     /// A table that is edited.
     fn edits(&self, case: &EditCase) -> Edited;
+
+    /// A set of routines that call each other, where there are such; a run may write `cells` and `values` of the input.
+    fn check_set(&self, _: &SetParts) -> Option<SetCheckWords> {
+        None
+    }
+
+    fn run_set(&self, _: &mut SetParts) -> Option<SetRunWords> {
+        None
+    }
 }
 
 /// The fast form of this crate behind the seam.
@@ -81,6 +93,16 @@ impl Implementation for Fast {
     fn edits(&self, case: &EditCase) -> Edited {
         fast_editor::edits(case)
     }
+
+    fn check_set(&self, parts: &SetParts) -> Option<SetCheckWords> {
+        Some(set_check_words(&fast_sets::check(&parts.members()).map(|_| ())))
+    }
+
+    fn run_set(&self, parts: &mut SetParts) -> Option<SetRunWords> {
+        let SetParts { tables, lengths, input } = parts;
+        let answer = fast_sets::run(&members(tables, lengths), input);
+        Some(set_run_words(&answer))
+    }
 }
 
 /// All implementations to compare with the plain form.
@@ -88,7 +110,7 @@ pub fn implementations() -> Vec<Box<dyn Implementation>> {
     vec![Box::new(Proved), Box::new(Fast)]
 }
 
-fn refusal_words(refusal: &Refusal) -> CheckWords {
+pub fn refusal_words(refusal: &Refusal) -> CheckWords {
     [refusal.cause.into(), refusal.place, refusal.pointer.unwrap_or(0).into()]
 }
 
@@ -133,6 +155,15 @@ pub fn show_check_words([number, place, pointer]: CheckWords) -> String {
         0 => "accepted".to_string(),
         8 => format!("refused 8 {place} {pointer}"),
         _ => format!("refused {number} {place}"),
+    }
+}
+
+/// Words of a run of a routine or of a set as text.
+pub fn show_words(words: &[u32]) -> String {
+    match *words {
+        [a, b, c, d] => show_run_words([a, b, c, d]),
+        [a, b, c, d, e] => show_set_run_words([a, b, c, d, e]),
+        _ => format!("unknown words {words:?}"),
     }
 }
 

@@ -226,7 +226,7 @@ fn smaller_words(word: i64) -> impl Iterator<Item = i64> {
 }
 
 /// The fields of a statement that name variables.
-fn named(record: &Record) -> &'static [usize] {
+pub fn named(record: &Record) -> &'static [usize] {
     match (record[0], record[3]) {
         (1 | 4 | 5, _) => &[1],
         (2 | 6, _) => &[1, 2],
@@ -235,6 +235,7 @@ fn named(record: &Record) -> &'static [usize] {
         (10..=12, 0) => &[1, 4],
         (10..=12, _) => &[1],
         (14, _) => &[1],
+        (15, _) => &[2, 3, 4, 5, 6],
         _ => &[],
     }
 }

@@ -80,13 +80,16 @@ impl Known {
     /// Declared bounds of p are shown when p <= 0 is shown, or known lower <=
     /// declared lower and declared upper <= known upper. An integer has none.
     pub fn shows(&self, routine: &Routine, rows: &Rows, p: Var, facts: &Facts) -> bool {
-        let (Some(known), Some(declared)) = (self.of(usize::from(p)), declared(routine, rows, p)) else {
-            return true;
-        };
-        let size = (known.size == declared.size).then_some(known.size);
+        declared(routine, rows, p).is_none_or(|declared| self.shows_bounds(p, declared, facts))
+    }
+
+    /// Whether bounds of p are shown, as declared ones are.
+    pub fn shows_bounds(&self, p: Var, bounds: KnownBounds, facts: &Facts) -> bool {
+        let Some(known) = self.of(usize::from(p)) else { return true };
+        let size = (known.size == bounds.size).then_some(known.size);
         facts.shows(Node::from(p), ZERO, 0)
-            || end_below(facts, known.lower, declared.lower, size)
-                && end_below(facts, declared.upper, known.upper, size)
+            || end_below(facts, known.lower, bounds.lower, size)
+                && end_below(facts, bounds.upper, known.upper, size)
     }
 }
 

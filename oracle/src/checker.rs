@@ -1,11 +1,12 @@
-//! The checker in its plain form: the walk, refusals 8, 9, 13 and what 17 finds on the way.
+//! The checker in its plain form: the walk, refusals 8, 9, 13, 19, 20 and what 17 finds on the way.
 
 use crate::answer::{CheckAnswer, Refusal};
 pub use crate::bounds::{Known, KnownBounds, KnownEnd, Value};
+use crate::calls::fault;
 use crate::facts::{Facts, Node, GREATEST, ZERO};
 use crate::loop_facts::{Entry, LoopFacts};
 pub use crate::rows::Rows;
-use crate::table::{decode, Condition, Routine, Statement, Var};
+use crate::table::{decode, Call, Condition, Routine, Statement, Var};
 
 /// Causes 1 to 9 and 13 of a table without a list of loop facts.
 pub fn check(words: &[i32]) -> CheckAnswer {
@@ -28,8 +29,23 @@ pub fn watch_with_facts(
     loop_facts: &LoopFacts,
     observer: &mut dyn Observer,
 ) -> Result<Facts, Refusal> {
+    // "a routine by itself is number 0"
+    walk_from_entry(Walker { routine, callees: &[], loop_facts, observer })
+}
+
+/// The walk over a routine of a set, where these are the routines before it.
+pub fn watch_in_set(
+    routine: &Routine,
+    callees: &[Routine],
+    observer: &mut dyn Observer,
+) -> Result<Facts, Refusal> {
+    walk_from_entry(Walker { routine, callees, loop_facts: &LoopFacts::default(), observer })
+}
+
+fn walk_from_entry(mut walker: Walker) -> Result<Facts, Refusal> {
+    let routine = walker.routine;
     let state = State { facts: Facts::new(&routine.kinds), rows: Rows::at_entry(routine) };
-    let end = Walker { routine, loop_facts, observer }.block(0, routine.statements.len(), state)?;
+    let end = walker.block(0, routine.statements.len(), state)?;
     Ok(end.facts)
 }
 
@@ -86,6 +102,8 @@ impl State {
 
 struct Walker<'a> {
     routine: &'a Routine,
+    /// The routines that it may call, by their numbers (point 14).
+    callees: &'a [Routine],
     loop_facts: &'a LoopFacts,
     observer: &'a mut dyn Observer,
 }
@@ -128,6 +146,13 @@ impl Walker<'_> {
                     state
                 }
                 Statement::Bundle { .. } => self.bundle(s + 1, next, state, &mut known)?,
+                Statement::Call(call) => {
+                    // "Both give the statement and come just before the call's own 8, 19 first."
+                    if let Some(fault) = fault(self.routine, self.callees, &call, &state.facts, &known) {
+                        return Err(Refusal::at(fault.cause(), s));
+                    }
+                    self.simple(statement, state, &mut known)
+                }
                 simple => self.simple(simple, state, &mut known),
             };
             self.after(s, &state, &known);
@@ -204,7 +229,7 @@ impl Walker<'_> {
         Ok(state)
     }
 
-    /// Kinds 1 to 10 and 14. A kind 14 changes the row in force alone.
+    /// Kinds 1 to 10, 14 and 15. A kind 14 changes the row in force alone.
     fn simple(&self, statement: Statement, mut state: State, known: &mut Known) -> State {
         if let Statement::Declare { p, row } = statement {
             state.rows.declare(p, row);
@@ -213,7 +238,7 @@ impl Walker<'_> {
         State { facts: self.effect(statement, state.facts, known), ..state }
     }
 
-    /// What kinds 1 to 10 do to facts and known bounds.
+    /// What kinds 1 to 10 and the result of a call do to facts and known bounds.
     fn effect(&self, statement: Statement, facts: Facts, known: &mut Known) -> Facts {
         let not_null = |facts: Facts, p: Var| facts.add(ZERO, Node::from(p), -1);
         match statement {
@@ -233,7 +258,10 @@ impl Walker<'_> {
                     (false, _) => facts.drop(Node::from(x)),
                 }
             }
-            Statement::Operate { x, .. } | Statement::Load { x, .. } => {
+            // "Kinds 3, 8 and any later kind that sets an integer: drop x."
+            Statement::Operate { x, .. }
+            | Statement::Load { x, .. }
+            | Statement::Call(Call { result: Some(x), .. }) => {
                 known.assign(x, None);
                 facts.drop(Node::from(x))
             }
@@ -274,7 +302,8 @@ impl Walker<'_> {
             | Statement::If { .. }
             | Statement::While { .. }
             | Statement::Bundle { .. }
-            | Statement::Declare { .. } => facts,
+            | Statement::Declare { .. }
+            | Statement::Call(Call { result: None, .. }) => facts,
         }
     }
 }

@@ -77,6 +77,13 @@ pub fn declare(p: i32, row: i32) -> Record {
     [14, p, row, 0, 0, 0, 0]
 }
 
+/// Kind 15: the arguments, at most four, then -1.
+pub fn call(callee: i32, result: i32, arguments: &[i32]) -> Record {
+    let mut record = [15, callee, result, -1, -1, -1, -1];
+    record[3..3 + arguments.len()].copy_from_slice(arguments);
+    record
+}
+
 pub fn bundle(inner: Vec<Record>) -> Vec<Record> {
     [vec![[13, inner.len() as i32, 0, 0, 0, 0, 0]], inner].concat()
 }

@@ -3,17 +3,21 @@
 
 pub mod answer;
 pub mod bounds;
+pub mod calls;
 pub mod checker;
+pub mod claim;
 pub mod dispatch;
 pub mod draft;
 pub mod editor;
 pub mod entry;
 pub mod facts;
+pub mod frame;
 pub mod loop_facts;
 pub mod machine;
 pub mod reach;
 pub mod report;
 pub mod rows;
+pub mod set;
 pub mod statements;
 pub mod syntax;
 pub mod table;

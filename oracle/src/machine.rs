@@ -1,13 +1,15 @@
-//! The plain machine with origins: the run by the paper's words, one statement due at a time.
+//! The plain machine with origins: the run by the paper's words, one statement due at a time; of a set the routines
+//! that wait for a callee below the one that runs (point 14).
 
-use crate::answer::{Check, RunAnswer, RunInput};
+use crate::answer::{RunAnswer, RunInput};
+use crate::calls::arguments;
 use crate::checker::check_routine;
-use crate::entry::{check_entry, end_value, object_range};
+use crate::entry::check_entry;
+pub use crate::frame::MODULUS;
+use crate::frame::{Frame, Halt, Next, Plan};
 use crate::report::accept;
 use crate::rows::Rows;
-use crate::table::{decode, Condition, Kind, Operator, Right, Routine, Statement, Var};
-
-pub const MODULUS: i64 = 1 << 32;
+use crate::table::{decode, Call, Routine, Statement};
 
 /// Checks the routine and the entry, then runs it in the lent buffers.
 pub fn run(words: &[i32], input: &mut RunInput) -> RunAnswer {
@@ -34,29 +36,15 @@ pub fn run_routine(routine: &Routine, input: &mut RunInput) -> RunAnswer {
     Machine::new(routine, directory, values, origins).go(cells, u64::from(*allowance))
 }
 
-/// The block a statement stands in: where it ends, and its head.
-#[derive(Clone, Copy)]
-struct Block {
-    end: usize,
-    head: Option<usize>,
-}
-
 /// A run that is begun, on cells that it is lent again for each part of it.
 pub struct Machine<'a> {
-    routine: &'a Routine,
-    blocks: Vec<Block>,
+    plans: Vec<Plan<'a>>,
     directory: &'a [u32],
-    values: &'a mut [u32],
-    origins: Vec<u32>,
-    /// Point 2: whose bounds are the declared ones, "for the access check too".
-    rows: Rows,
-    due: Option<usize>,
+    /// The lent values, those of the routine in which the run began.
+    lent: &'a mut [u32],
+    /// The routine in which the run began, then each callee above its caller; the last one runs.
+    frames: Vec<Frame>,
     steps: u64,
-}
-
-enum Halt {
-    Stopped(Check),
-    Stuck,
 }
 
 impl<'a> Machine<'a> {
@@ -67,59 +55,82 @@ impl<'a> Machine<'a> {
         values: &'a mut [u32],
         origins: &[u32],
     ) -> Machine<'a> {
-        let count = routine.statements.len();
-        let mut blocks = vec![Block { end: count, head: None }; count];
-        for (s, statement) in routine.statements.iter().enumerate() {
-            // Heads come in table order, so an inner block overwrites an outer one.
-            let end = s + statement.size();
-            let middle = match *statement {
-                Statement::If { then_count, .. } => s + 1 + then_count as usize,
-                _ => end,
-            };
-            blocks[s + 1..middle].fill(Block { end: middle, head: Some(s) });
-            blocks[middle..end].fill(Block { end, head: Some(s) });
-        }
-        Machine {
-            routine,
-            blocks,
-            directory,
-            values,
+        Machine::of_set(std::slice::from_ref(routine), directory, values, origins)
+    }
+
+    /// Point 14: "A run begins in the last routine".
+    pub fn of_set(
+        routines: &'a [Routine],
+        directory: &'a [u32],
+        values: &'a mut [u32],
+        origins: &[u32],
+    ) -> Machine<'a> {
+        let plans: Vec<Plan> = routines.iter().map(Plan::new).collect();
+        let last = routines.len() - 1;
+        let begun = Frame {
+            routine: last,
+            values: values.to_vec(),
             origins: origins.to_vec(),
-            rows: Rows::at_entry(routine),
-            due: (count > 0).then_some(0),
-            steps: 0,
-        }
+            rows: Rows::at_entry(&routines[last]),
+            due: plans[last].first(),
+        };
+        Machine { plans, directory, lent: values, frames: vec![begun], steps: 0 }
     }
 
     pub fn steps(&self) -> u64 {
         self.steps
     }
 
-    /// The statement due.
+    /// All routines at work, the one that runs last.
+    pub fn frames(&self) -> &[Frame] {
+        &self.frames
+    }
+
+    /// The routine that runs.
+    pub fn running(&self) -> &Frame {
+        self.frames.last().expect("the routine in which the run began")
+    }
+
+    pub fn plan(&self, frame: &Frame) -> &Plan<'a> {
+        &self.plans[frame.routine]
+    }
+
+    pub fn directory(&self) -> &[u32] {
+        self.directory
+    }
+
+    /// The statement due, of the routine that runs.
     pub fn due(&self) -> Option<usize> {
-        self.due
+        self.running().due
     }
 
+    /// The values of the routine in which the run began.
     pub fn values(&self) -> &[u32] {
-        self.values
+        &self.frames[0].values
     }
 
-    /// The origins of the pointers then.
+    /// The origins of its pointers then.
     pub fn origins(&self) -> &[u32] {
-        &self.origins
+        &self.frames[0].origins
     }
 
     /// Goes on to its end, or until it has made so many steps in all: done before spent, spent before stopped. A run
     /// that is spent can go on with a greater limit.
     pub fn go(&mut self, cells: &mut [u32], limit: u64) -> RunAnswer {
-        while let Some(s) = self.due {
+        let answer = self.steps_to(cells, limit);
+        self.lent.copy_from_slice(&self.frames[0].values);
+        answer
+    }
+
+    fn steps_to(&mut self, cells: &mut [u32], limit: u64) -> RunAnswer {
+        while let Some(s) = self.due() {
             let statement = s as u32;
             if self.steps == limit {
                 return RunAnswer::Spent { steps: self.steps, statement };
             }
             self.steps += 1;
-            match self.step(s, cells) {
-                Ok(due) => self.due = due,
+            match self.step(cells, s) {
+                Ok(()) => {}
                 Err(Halt::Stopped(check)) => {
                     return RunAnswer::Stopped { steps: self.steps, statement, check }
                 }
@@ -129,158 +140,54 @@ impl<'a> Machine<'a> {
         RunAnswer::Done { steps: self.steps }
     }
 
-    /// The statement due once s, with its blocks, is through.
-    fn after(&self, s: usize) -> Option<usize> {
-        let next = s + self.routine.statements[s].size();
-        let block = self.blocks[s];
-        if next < block.end {
-            return Some(next);
+    /// One step of the routine that runs.
+    fn step(&mut self, cells: &mut [u32], s: usize) -> Result<(), Halt> {
+        let frame = self.frames.last_mut().expect("the routine in which the run began");
+        match frame.step(&self.plans[frame.routine], self.directory, cells, s)? {
+            Next::Due(due) => frame.due = due,
+            Next::Called(call) => {
+                let callee = enter(&self.plans, frame, &call);
+                self.frames.push(callee);
+            }
         }
-        let head = block.head?;
-        match self.routine.statements[head] {
-            Statement::While { .. } => Some(head),
-            _ => self.after(head),
-        }
+        self.leave();
+        Ok(())
     }
 
-    /// The first statement of the block from start to end of head, or what follows an empty one.
-    fn enter(&self, head: usize, start: usize, end: usize) -> Option<usize> {
-        if start < end {
-            return Some(start);
-        }
-        match self.routine.statements[head] {
-            Statement::While { .. } => Some(head),
-            _ => self.after(head),
-        }
-    }
-
-    fn value(&self, v: Var) -> i64 {
-        i64::from(self.values[usize::from(v)])
-    }
-
-    fn set(&mut self, x: Var, value: i64) {
-        self.values[usize::from(x)] = value.rem_euclid(MODULUS) as u32;
-    }
-
-    fn set_pointer(&mut self, p: Var, value: u32, origin: u32) {
-        self.values[usize::from(p)] = value;
-        self.origins[usize::from(p)] = origin;
-    }
-
-    /// Conditions compare values, pointers by address.
-    fn holds(&self, condition: Condition) -> bool {
-        let left = self.value(condition.left);
-        let right = match condition.right {
-            Right::Variable(v) => self.value(v),
-            Right::Literal(literal) => i64::from(literal),
-        };
-        condition.relation.holds(left, right)
-    }
-
-    /// Checks 2, 3 and 6 by p's declared ends and the values then, of a read or of a store of this number; the
-    /// cell's number.
-    fn access(&self, p: Var, i: Option<Var>, k: i32, stored: Option<u32>) -> Result<usize, Halt> {
-        if self.value(p) == 0 {
-            return Err(Halt::Stopped(Check::NullAccess));
-        }
-        // Point 10: "an access is at p + s times i + k".
-        let size = self.routine.size(p);
-        let address = self.value(p) + size * i.map_or(0, |i| self.value(i)) + i64::from(k);
-        let bounds = self.rows.declared(self.routine, p).expect("a pointer has bounds");
-        let (lower, upper) =
-            (end_value(bounds.lower, size, self.values), end_value(bounds.upper, size, self.values));
-        // Point 7: "A kind 2 pointer may also read the cell at its upper end and store 0 there".
-        let at_upper = self.routine.kinds[usize::from(p)] == Kind::Terminated && address == upper;
-        if address < lower || address >= upper && !at_upper {
-            return Err(Halt::Stopped(Check::OutOfBounds));
-        }
-        let other_number = stored.is_some_and(|number| number != 0);
-        if at_upper && other_number {
-            return Err(Halt::Stopped(Check::Terminator));
-        }
-        let origin = self.origins[usize::from(p)];
-        if origin == 0 {
-            return Err(Halt::Stuck);
-        }
-        let (low, high) = object_range(self.directory, origin);
-        let terminator = self.routine.objects[origin as usize - 1].terminated && address == high - 1;
-        if address < low || address >= high || terminator && other_number {
-            return Err(Halt::Stuck);
-        }
-        Ok(address as usize)
-    }
-
-    /// Checks 4 and 5 of p := q + offset.
-    fn advance(&mut self, p: Var, q: Var, offset: i64) -> Result<(), Halt> {
-        if self.value(q) == 0 {
-            return Err(Halt::Stopped(Check::NullArithmetic));
-        }
-        match u32::try_from(self.value(q) + offset) {
-            Ok(result) if result > 0 => {
-                self.set_pointer(p, result, self.origins[usize::from(q)]);
-                Ok(())
+    /// "in the step that ends the callee's table (for an empty table the call itself), the caller gets it and what
+    /// follows the call is due": one step may end several tables.
+    fn leave(&mut self) {
+        while self.frames.len() > 1 && self.due().is_none() {
+            let ended = self.frames.pop().expect("a callee");
+            let caller = self.frames.last_mut().expect("its caller");
+            let plan = &self.plans[caller.routine];
+            let call = caller.due.expect("the call is due until it is through");
+            // "The result is the value of its last variable".
+            if let (Statement::Call(Call { result: Some(x), .. }), Some(&value)) =
+                (plan.routine.statements[call], ended.values.last())
+            {
+                caller.set(x, i64::from(value));
             }
-            _ => Err(Halt::Stopped(Check::Result)),
+            caller.due = plan.after(call);
         }
     }
+}
 
-    /// One step; gives the statement due after it.
-    fn step(&mut self, s: usize, cells: &mut [u32]) -> Result<Option<usize>, Halt> {
-        let statement = self.routine.statements[s];
-        let next = s + statement.size();
-        match statement {
-            Statement::Literal { x, literal } => self.set(x, i64::from(literal)),
-            Statement::AddConstant { x, y, k } => self.set(x, self.value(y) + i64::from(k)),
-            Statement::Operate { x, y, z, operator } => {
-                let (y, z) = (self.value(y), self.value(z));
-                match operator {
-                    Operator::Add => self.set(x, y + z),
-                    Operator::Subtract => self.set(x, y - z),
-                    Operator::Multiply => self.set(x, ((y as u64 * z as u64) % MODULUS as u64) as i64),
-                }
-            }
-            Statement::Null { p } => self.set_pointer(p, 0, 0),
-            Statement::Address { p, object } => {
-                let offset = self.directory[2 * usize::from(object)];
-                self.set_pointer(p, offset, u32::from(object) + 1);
-            }
-            Statement::MovePointer { p, q, k: 0 } => {
-                let (value, origin) = (self.values[usize::from(q)], self.origins[usize::from(q)]);
-                self.set_pointer(p, value, origin);
-            }
-            Statement::MovePointer { p, q, k } => self.advance(p, q, i64::from(k))?,
-            // Point 10: "Kind 7 moves by s of q times i".
-            Statement::IndexPointer { p, q, i } => {
-                self.advance(p, q, self.routine.size(q) * self.value(i))?
-            }
-            Statement::Load { x, p, i, k } => {
-                let cell = cells[self.access(p, i, k, None)?];
-                self.set(x, i64::from(cell));
-            }
-            Statement::Store { p, i, k, x } => {
-                let number = self.values[usize::from(x)];
-                let address = self.access(p, i, k, Some(number))?;
-                cells[address] = number;
-            }
-            Statement::Check { condition } => {
-                if !self.holds(condition) {
-                    return Err(Halt::Stopped(Check::Dynamic));
-                }
-            }
-            Statement::If { condition, then_count, .. } => {
-                let middle = s + 1 + then_count as usize;
-                let (start, end) = if self.holds(condition) { (s + 1, middle) } else { (middle, next) };
-                return Ok(self.enter(s, start, end));
-            }
-            Statement::While { condition, .. } => {
-                if self.holds(condition) {
-                    return Ok(self.enter(s, s + 1, next));
-                }
-            }
-            Statement::Bundle { .. } => return Ok(self.enter(s, s + 1, next)),
-            Statement::Declare { p, row } => self.rows.declare(p, row),
-        }
-        Ok(self.after(s))
+/// "The callee's first variables take the arguments ..; its other integers are 0 and its other pointers null."
+fn enter(plans: &[Plan], caller: &Frame, call: &Call) -> Frame {
+    let number = call.callee as usize;
+    let routine = plans[number].routine;
+    let given = arguments(call);
+    let taken = |lent: &[u32]| -> Vec<u32> {
+        let arguments = given.iter().map(|&v| lent[usize::from(v)]);
+        arguments.chain(std::iter::repeat(0)).take(routine.kinds.len()).collect()
+    };
+    Frame {
+        routine: number,
+        values: taken(&caller.values),
+        origins: taken(&caller.origins),
+        rows: Rows::at_entry(routine),
+        due: plans[number].first(),
     }
 }
 

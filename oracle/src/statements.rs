@@ -31,13 +31,14 @@ fn literal(word: i32) -> u32 {
 }
 
 /// How many fields each kind has; kind 0 is none.
-const FIELDS: [usize; 15] = [0, 2, 3, 4, 1, 2, 3, 3, 4, 4, 4, 6, 5, 1, 2];
+const FIELDS: [usize; KINDS] = [0, 2, 3, 4, 1, 2, 3, 3, 4, 4, 4, 6, 5, 1, 2, 6];
+const KINDS: usize = 16;
 
 /// The fields that have to be 0, as masks over their words.
-const UNUSED: [[i32; 6]; 15] = {
-    let mut masks = [[0; 6]; 15];
+const UNUSED: [[i32; 6]; KINDS] = {
+    let mut masks = [[0; 6]; KINDS];
     let mut kind = 0;
-    while kind < 15 {
+    while kind < KINDS {
         let mut field = FIELDS[kind];
         while field < 6 {
             masks[kind][field] = -1;
@@ -60,6 +61,8 @@ pub(crate) struct Names {
     objects: i32,
     terminated_objects: u32,
     rows: i32,
+    /// Whether kind 15 is a statement here.
+    has_calls: bool,
     /// Gathered on the way.
     pub(crate) compared: u16,
 }
@@ -77,8 +80,14 @@ impl Names {
             objects: objects.len() as i32,
             terminated_objects: objects.iter().rev().fold(0, |mask, o| mask << 1 | u32::from(o.terminated)),
             rows: rows as i32,
+            has_calls: false,
             compared: 0,
         }
+    }
+
+    /// Of a routine of a set.
+    pub(crate) fn with_calls(self) -> Names {
+        Names { has_calls: true, ..self }
     }
 
     fn integer(&self, word: i32) -> Option<Var> {
@@ -89,7 +98,7 @@ impl Names {
         in_mask(self.arrays | self.terminated, word).then_some(word as Var)
     }
 
-    /// The index of an access: -1 counts as 0.
+    /// The result of a call, and the index of an access, where it counts as 0: an integer variable or -1.
     fn index(&self, word: i32) -> Option<Option<Var>> {
         if word == -1 {
             return Some(None);
@@ -117,6 +126,14 @@ impl Names {
 
     fn row(&self, word: i32) -> Option<Row> {
         (0..self.rows).contains(&word).then_some(word as Row)
+    }
+
+    /// An argument of a call: any variable or -1.
+    fn argument(&self, word: i32) -> Option<Option<Var>> {
+        if word == -1 {
+            return Some(None);
+        }
+        in_mask(self.integers | self.arrays | self.terminated, word).then_some(Some(word as Var))
     }
 
     /// Form 0: a variable of the same kind. Form 1: a literal, only 0 beside a pointer.
@@ -188,6 +205,12 @@ impl Names {
             12 => Statement::While { condition: self.condition(a, b, c, d)?, count: u32::try_from(e).ok()? },
             13 => Statement::Bundle { count: a },
             14 => Statement::Declare { p: self.pointer(a)?, row: self.row(b)? },
+            15 if self.has_calls => {
+                let arguments =
+                    [self.argument(c)?, self.argument(d)?, self.argument(e)?, self.argument(f)?];
+                self.compared |= arguments.iter().flatten().fold(0, |mask, v| mask | 1 << v);
+                Statement::Call(Call { callee: a, result: self.index(b)?, arguments })
+            }
             _ => return None,
         })
     }
@@ -224,7 +247,7 @@ pub(crate) fn check_block(
             Statement::While { .. } => check_block(statements, s + 1, next, depth + 1)?,
             Statement::Bundle { count } => {
                 let right_count = (1..=MAX_BUNDLE as i32).contains(&count);
-                if !right_count || statements[s + 1..next].iter().any(Statement::is_head) {
+                if !right_count || !statements[s + 1..next].iter().all(Statement::fits_bundle) {
                     return Err(s);
                 }
             }

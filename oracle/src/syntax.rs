@@ -181,10 +181,21 @@ pub enum Statement {
         p: Var,
         row: Row,
     },
+    /// Kind 15 (point 14): "kind 15 calls one".
+    Call(Call),
+}
+
+/// Point 14: "fields callee, integer result variable or -1, then four argument variables, unused ones -1 at the end".
+/// The callee's number and the order of the arguments are the walk's to judge.
+#[derive(Clone, Copy, Debug, PartialEq, Eq)]
+pub struct Call {
+    pub callee: i32,
+    pub result: Option<Var>,
+    pub arguments: [Option<Var>; 4],
 }
 
 impl Statement {
-    /// The variable that kinds 1 to 8 assign.
+    /// The variable that kinds 1 to 8 and the result of a call assign.
     pub fn target(&self) -> Option<Var> {
         match *self {
             Statement::Literal { x, .. }
@@ -195,6 +206,7 @@ impl Statement {
             | Statement::Address { p, .. }
             | Statement::MovePointer { p, .. }
             | Statement::IndexPointer { p, .. } => Some(p),
+            Statement::Call(call) => call.result,
             _ => None,
         }
     }
@@ -212,11 +224,17 @@ impl Statement {
     pub fn is_head(&self) -> bool {
         matches!(self, Statement::If { .. } | Statement::While { .. } | Statement::Bundle { .. })
     }
+
+    /// "A bundle holds kinds 1 to 10 only", and by point 2 kind 14.
+    pub fn fits_bundle(&self) -> bool {
+        !self.is_head() && !matches!(self, Statement::Call(_))
+    }
 }
 
 /// A routine that none of the causes 1 to 6 refuses.
 #[derive(Clone, Debug)]
 pub struct Routine {
+    /// In a set those of routine 0 (point 14).
     pub objects: Vec<Object>,
     pub kinds: Vec<Kind>,
     /// The variables' own bounds; `None` for an integer.
@@ -226,7 +244,7 @@ pub struct Routine {
     /// The bounds rows (point 2).
     pub rows: Vec<Bounds>,
     pub statements: Vec<Statement>,
-    /// Bit v for each variable that a condition or the right side of kind 2 reads.
+    /// Bit v for each variable that a condition or the right side of kind 2 reads, or that is an argument of a call.
     pub compared: u16,
 }
 

@@ -22,8 +22,22 @@ pub const VARIABLE_WORDS: usize = 8;
 pub const STATEMENT_WORDS: usize = 7;
 pub const ROW_WORDS: usize = 6;
 
-/// Decodes a table, or gives the first refusal of causes 1 to 6.
+/// Decodes the table of a routine by itself, or gives the first refusal of causes 1 to 6.
 pub fn decode(words: &[i32]) -> Result<Routine, Refusal> {
+    read(words, Role::Alone)
+}
+
+/// The same of a routine of a set (point 14), which has the objects of routine 0, unless it is that one.
+pub fn decode_member(words: &[i32], objects: Option<&[Object]>) -> Result<Routine, Refusal> {
+    read(words, Role::Member { objects })
+}
+
+enum Role<'a> {
+    Alone,
+    Member { objects: Option<&'a [Object]> },
+}
+
+fn read(words: &[i32], role: Role) -> Result<Routine, Refusal> {
     // Point 2: "A first offset of 8 means a fourth pair and section"; every other table keeps its limit.
     let (pairs, most) = if words.first() == Some(&8) { (4, MAX_WORDS_WITH_ROWS) } else { (3, MAX_WORDS) };
     if words.len() < 6 || words.len() > most {
@@ -32,11 +46,17 @@ pub fn decode(words: &[i32]) -> Result<Routine, Refusal> {
     let Some([objects, variables, statements, rows]) = sections(words, pairs) else {
         return Err(Refusal::at(2, 0));
     };
-    let objects = read_objects(objects)?;
+    let objects = match role {
+        // "Only routine 0 lists objects, for all (else 3, place 0)".
+        Role::Member { objects: Some(_) } if !objects.is_empty() => return Err(Refusal::at(3, 0)),
+        Role::Member { objects: Some(of_all) } => of_all.to_vec(),
+        _ => read_objects(objects)?,
+    };
     let ends = Ends::new(variables);
     let (kinds, bounds, sizes) = read_variables(variables, &ends)?;
     let rows = read_rows(rows, kinds.len(), &ends)?;
-    let mut names = Names::new(&kinds, &objects, rows.len());
+    let names = Names::new(&kinds, &objects, rows.len());
+    let mut names = if let Role::Member { .. } = role { names.with_calls() } else { names };
     let statements = read_statements(statements, &mut names)?;
     check_block(&statements, 0, statements.len(), 0).map_err(|place| Refusal::at(6, place))?;
     Ok(Routine { objects, kinds, bounds, sizes, rows, statements, compared: names.compared })

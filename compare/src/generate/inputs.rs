@@ -21,14 +21,22 @@ pub fn choose(rng: &mut Rng, table: &[i32], accepted: bool) -> RunInput {
             allowance: rng.pick(&[0, 10, u32::MAX]),
         };
     };
-    let mut input = lend(rng, &routine);
-    let entered = entered(rng, &routine);
+    for_routine(rng, &routine, accepted, &|input| machine::run_routine(&routine, input))
+}
+
+/// What a run tries with an input.
+type Trial<'a> = &'a dyn Fn(&mut RunInput) -> RunAnswer;
+
+/// For a routine that is accepted with its list or in its set, or not.
+pub fn for_routine(rng: &mut Rng, routine: &Routine, accepted: bool, trial: Trial) -> RunInput {
+    let mut input = lend(rng, routine);
+    let entered = entered(rng, routine);
     // Of some entries take the one that goes furthest: dynamic checks stop most.
     let mut furthest = None;
     for _ in 0..rng.pick(&[1, 3, 6]) {
-        fill_values(rng, &routine, &entered, &mut input);
-        make_true(&routine, &mut input);
-        let progress = if accepted { progress(&routine, &input) } else { 0 };
+        fill_values(rng, routine, &entered, &mut input);
+        make_true(routine, &mut input);
+        let progress = if accepted { progress(trial, &input) } else { 0 };
         if furthest.as_ref().is_none_or(|(most, _, _)| progress > *most) {
             furthest = Some((progress, input.values.clone(), input.origins.clone()));
         }
@@ -39,21 +47,21 @@ pub fn choose(rng: &mut Rng, table: &[i32], accepted: bool) -> RunInput {
     match rng.below(100) {
         0..=5 => break_directory(rng, &mut input),
         6..=8 => break_lengths(rng, &mut input),
-        9..=22 => break_entry(rng, &routine, &mut input),
-        23..=27 => break_name(rng, &routine, &mut input),
+        9..=22 => break_entry(rng, routine, &mut input),
+        23..=27 => break_name(rng, routine, &mut input),
         _ => {}
     }
-    input.allowance = allowance(rng, &routine, &input, accepted);
+    input.allowance = allowance(rng, trial, &input, accepted);
     input
 }
 
 /// How far a short run of an accepted routine goes; to its end counts most.
-fn progress(routine: &Routine, input: &RunInput) -> u64 {
+fn progress(run: Trial, input: &RunInput) -> u64 {
     if input.cells.len() > 2_000 {
         return 0;
     }
     let mut trial = RunInput { allowance: 300, ..input.clone() };
-    match machine::run_routine(routine, &mut trial) {
+    match run(&mut trial) {
         RunAnswer::Done { steps } => 1_000 + steps,
         RunAnswer::Spent { steps, .. } | RunAnswer::Stopped { steps, .. } => steps,
         _ => 0,
@@ -235,7 +243,7 @@ fn break_name(rng: &mut Rng, routine: &Routine, input: &mut RunInput) {
 }
 
 /// None, few, just enough, or plenty of steps.
-fn allowance(rng: &mut Rng, routine: &Routine, input: &RunInput, accepted: bool) -> u32 {
+fn allowance(rng: &mut Rng, run: Trial, input: &RunInput, accepted: bool) -> u32 {
     match rng.below(20) {
         0 => return 0,
         1..=3 => return rng.range(1, 30) as u32,
@@ -246,7 +254,7 @@ fn allowance(rng: &mut Rng, routine: &Routine, input: &RunInput, accepted: bool)
         return rng.pick(&[100, LONG]);
     }
     let mut trial = RunInput { allowance: LONG, ..input.clone() };
-    let steps = match machine::run_routine(routine, &mut trial) {
+    let steps = match run(&mut trial) {
         RunAnswer::Done { steps } | RunAnswer::Stopped { steps, .. } => steps as u32,
         _ => return rng.pick(&[100, 1_000, LONG]),
     };

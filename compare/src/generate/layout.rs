@@ -29,6 +29,16 @@ pub struct Layout {
     pub rows: Vec<LaidRow>,
     /// Whether there are loops that a list of loop facts says something of.
     pub loops: bool,
+    /// The routines of the set that may be called (point 14).
+    pub callees: Vec<Callee>,
+}
+
+/// A routine before this one: its variables, of which so many are meant to take arguments.
+#[derive(Clone, Debug)]
+pub struct Callee {
+    pub number: i32,
+    pub variables: Vec<[i32; VARIABLE_WORDS]>,
+    pub parameters: usize,
 }
 
 #[derive(Clone, Copy, Debug)]
@@ -71,6 +81,19 @@ fn object_length(rng: &mut Rng) -> i32 {
 pub fn choose(rng: &mut Rng, draft: &mut Draft) -> Layout {
     let object_count = rng.pick(&[0, 1, 1, 2, 2, 2, 3, 3, 4, 16]);
     draft.objects = (0..object_count).map(|_| object_length(rng)).collect();
+    choose_variables(rng, draft)
+}
+
+/// The same over objects that another routine lists.
+pub fn over_objects(rng: &mut Rng, draft: &mut Draft, objects: &[i32]) -> Layout {
+    draft.objects = objects.to_vec();
+    let mut layout = choose_variables(rng, draft);
+    draft.objects = objects.to_vec();
+    classify(draft, &mut layout);
+    layout
+}
+
+fn choose_variables(rng: &mut Rng, draft: &mut Draft) -> Layout {
     let variables = match rng.below(10) {
         0 => rng.pick(&[15, 16]),
         1 => rng.pick(&[1, 2]),

@@ -8,6 +8,7 @@ mod kinds;
 mod layout;
 mod lists;
 mod routine;
+mod sets;
 mod turns;
 
 use crate::fast_check;
@@ -19,6 +20,7 @@ use oracle::checker;
 use oracle::draft::{without_statements, Draft, Listed};
 use oracle::table::{decode, Routine, MAX_STATEMENTS};
 use routine::Writer;
+pub use sets::sets_case;
 pub use turns::turns_case;
 
 /// A table with its list of loop facts, and what a run of it is lent.

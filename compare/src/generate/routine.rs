@@ -24,6 +24,9 @@ impl Writer<'_> {
     }
 
     fn chunk(&mut self, depth: usize) -> Chunk {
+        if !self.layout.callees.is_empty() && self.rng.chance(35) {
+            return self.calls().unwrap_or_else(|| vec![self.check()]);
+        }
         if !self.layout.rows.is_empty() && self.rng.chance(40) {
             return self.with_rows(depth).unwrap_or_else(|| vec![self.check()]);
         }
@@ -372,6 +375,8 @@ impl Writer<'_> {
     }
 }
 
+#[path = "calls.rs"]
+mod calls;
 #[path = "dead.rs"]
 mod dead;
 #[path = "loops.rs"]

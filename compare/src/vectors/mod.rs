@@ -2,6 +2,7 @@
 
 pub mod edit;
 pub mod run;
+pub mod set;
 pub mod turns;
 
 use crate::proved::Implementation;
@@ -12,6 +13,7 @@ use std::path::Path;
 pub enum Vector {
     Run(run::Vector),
     Edit(edit::Vector),
+    Set(set::Vector),
     Turns(turns::Vector),
 }
 
@@ -21,6 +23,7 @@ impl Vector {
         match self {
             Vector::Run(vector) => run::differences(vector),
             Vector::Edit(vector) => edit::differences(vector),
+            Vector::Set(vector) => set::differences(vector),
             Vector::Turns(vector) => turns::differences(vector),
         }
     }
@@ -30,6 +33,7 @@ impl Vector {
         let (name, what) = match self {
             Vector::Run(vector) => (&vector.name, run::difference(vector, other)),
             Vector::Edit(vector) => (&vector.name, edit::difference(vector, other)),
+            Vector::Set(vector) => (&vector.name, set::difference(vector, other)),
             Vector::Turns(vector) => (&vector.name, turns::difference(vector, other)),
         };
         what.map(|what| format!("{name} ({}): {what}", other.name()))
@@ -99,6 +103,7 @@ fn read_case(text: &str, number: usize) -> Result<Vector, String> {
     match lines.get("kind") {
         None | Some("run") => run::read(&lines).map(Vector::Run),
         Some("edit") => edit::read(&lines, text).map(Vector::Edit),
+        Some("set") => set::read(&lines, text).map(Vector::Set),
         Some("dispatch") => turns::read(&lines, text).map(Vector::Turns),
         Some(kind) => Err(format!("case {number}: no such kind: {kind}")),
     }
