@@ -4,7 +4,7 @@ use crate::generate::{accepted, accepted_with_rows, accepted_with_sizes};
 use crate::linked::Proved;
 use crate::proved::{Fast, Implementation};
 use crate::turns::Parts;
-use crate::{bench_edits, fast_check, fast_run};
+use crate::{bench_calls, bench_edits, fast_check, fast_run};
 use oracle::answer::{RunAnswer, RunInput};
 use oracle::dispatch::{Member, Turns};
 use oracle::draft::*;
@@ -16,7 +16,7 @@ use std::time::Instant;
 const STATEMENTS: usize = 1_024;
 
 /// The parts of the benchmark, in their order.
-pub const PARTS: [(&str, fn()); 7] = [
+pub const PARTS: [(&str, fn()); 8] = [
     ("check", check),
     ("run", run),
     ("rows", rows),
@@ -24,11 +24,12 @@ pub const PARTS: [(&str, fn()); 7] = [
     ("facts", facts),
     ("turns", turns),
     ("edits", bench_edits::edits),
+    ("calls", bench_calls::calls),
 ];
 
 /// Nanoseconds for one call: the best of many short rounds, as other work on
 /// the machine only ever adds to a round.
-fn best(rounds: usize, mut call: impl FnMut()) -> f64 {
+pub fn best(rounds: usize, mut call: impl FnMut()) -> f64 {
     (0..rounds)
         .map(|_| {
             let start = Instant::now();

@@ -2,6 +2,7 @@
 //! generated cases; a fast form of the second one; measurements.
 
 mod bench;
+mod bench_calls;
 mod bench_edits;
 mod damaged_edits;
 mod differ;
@@ -40,7 +41,7 @@ const USAGE: &str = "usage: compare vectors DIR
        compare differ SEED COUNT [FIRST]
        compare edits SEED COUNT [FIRST]
        compare show SEED NUMBER [turns|edits|sets]
-       compare bench [check|run|rows|sizes|facts|turns|edits]
+       compare bench [check|run|rows|sizes|facts|turns|edits|calls]
        compare stack [KIB]";
 
 fn main() -> ExitCode {

@@ -4,6 +4,7 @@
 use crate::edits::{EditCase, Written};
 use crate::linked::Proved;
 use crate::proved::Implementation;
+use crate::sets::{SetCase, SetParts};
 use crate::turns::Parts;
 use oracle::answer::RunInput;
 use oracle::dispatch::{Member, Turns};
@@ -65,10 +66,25 @@ fn edited(table: &Draft) -> EditCase {
     EditCase { length: buffer.len(), buffer, places: 1, keep: vec![], edits: vec![written; 2] }
 }
 
+/// Eight routines, each with a call of the one before at the greatest depth; the first one stores.
+fn calling() -> SetParts {
+    let condition = with_literal(1, GREATER, 0);
+    let table = |r: i32| {
+        let inner = if r == 0 { store(0, -1, 0, 1) } else { call(r - 1, -1, &[0, 1]) };
+        let statements = (0..MAX_DEPTH).fold(vec![inner], |inner, _| if_else(condition, inner, vec![]));
+        let objects = if r == 0 { vec![3] } else { vec![] };
+        let variables = vec![[1, 0, 0, -1, 0, 0, 1, 0], [0; 8]];
+        Draft { objects, variables, statements, rows: None }.words()
+    };
+    SetParts::of(&SetCase { tables: (0..8).map(table).collect(), input: input() })
+}
+
 /// All calls for each table on a thread with a stack of so many KiB.
 pub fn probe(kib: usize) {
     let calls = || {
         let turns = Proved.dispatch(&mut in_turn())[0];
+        let checked = Proved.check_set(&calling()).unwrap_or_default()[0];
+        let ran = Proved.run_set(&mut calling()).unwrap_or_default()[0];
         let alone = deepest().map(|(table, list)| {
             let edits: u32 = Proved.edits(&edited(&table)).iter().map(|answer| answer.words[0]).sum();
             let table = table.words();
@@ -77,11 +93,11 @@ pub fn probe(kib: usize) {
                 [Proved.run_alone(&table, &mut input())[0], Proved.run(&table, &list, &mut input())[0]];
             (checks, runs, edits)
         });
-        (turns, alone)
+        ([turns, checked, ran], alone)
     };
     let thread = thread::Builder::new().stack_size(kib * KIB).spawn(calls).expect("a thread");
     let answers = thread.join().expect("all calls return");
-    assert_eq!(answers, (0, [([0; 2], [0; 2], 0); 3]), "ran, accepted and done");
+    assert_eq!(answers, ([0; 3], [([0; 2], [0; 2], 0); 3]), "ran, accepted and done");
 }
 
 fn survives(kib: usize) -> bool {
@@ -112,6 +128,7 @@ pub fn least() -> Option<usize> {
 mod tests {
     use super::*;
     use crate::edits::plain;
+    use crate::proved::Fast;
     use crate::turns::turns_words;
     use mizzengrape::STACK_BYTES;
     use oracle::dispatch::dispatch;
@@ -139,5 +156,7 @@ mod tests {
         }
         let words = turns_words(&dispatch(&mut in_turn().turns()));
         assert!(words.len() == 17 && words[5..].chunks(4).all(|words| words[0] == 0), "{words:?}");
+        let mut parts = calling();
+        assert_eq!(Fast.run_set(&mut parts), Some([0, 8 * (1 + MAX_DEPTH as u32), 0, 0, 0]));
     }
 }
