@@ -14,6 +14,7 @@ pub const MAX_SIZE: i32 = 8;
 pub const MAX_DEPTH: usize = 6;
 pub const MAX_BUNDLE: i32 = 16;
 pub const MAX_ENTRIES: usize = 256;
+pub const MAX_ROUTINES: usize = 8;
 
 pub const SECTIONS: [&str; 4] = ["objects", "variables", "statements", "bounds rows"];
 

@@ -1,5 +1,6 @@
 //! The proved library, called with what the tool holds: a set of tables and a list of loop facts.
 
+use crate::table::Table;
 use std::fmt;
 
 pub use mizzengrape::{dispatch, Check, Edit, Outcome, Routine, Turns};
@@ -11,6 +12,14 @@ pub struct Refusal {
     pub number: u32,
     pub place: usize,
     pub pointer: Option<usize>,
+}
+
+impl Refusal {
+    /// A wrong number of routines, 15, is no routine's.
+    pub fn of_set(routine: usize, refusal: mizzengrape::Refusal) -> Refusal {
+        let routine = (refusal.number != 15).then_some(routine);
+        Refusal { routine, ..Refusal::from(refusal) }
+    }
 }
 
 impl From<mizzengrape::Refusal> for Refusal {
@@ -76,6 +85,34 @@ pub struct Lent {
     pub allowance: u32,
 }
 
+/// How a run ended, and of a set the routine that is meant: of a spent or stopped run the one whose statement is due, of a refused one the
+/// routine refused.
+#[derive(Clone, Copy, Debug, PartialEq, Eq)]
+pub struct Ended {
+    pub outcome: Outcome,
+    pub routine: Option<usize>,
+}
+
+impl From<Outcome> for Ended {
+    fn from(outcome: Outcome) -> Ended {
+        Ended { outcome, routine: None }
+    }
+}
+
+impl fmt::Display for Ended {
+    fn fmt(&self, f: &mut fmt::Formatter) -> fmt::Result {
+        let Some(routine) = self.routine else { return self.outcome.fmt(f) };
+        match self.outcome {
+            Outcome::Done { .. } => self.outcome.fmt(f),
+            Outcome::Spent { steps, statement } => write!(f, "spent {steps} {routine} {statement}"),
+            Outcome::Stopped { steps, statement, check } => {
+                write!(f, "stopped {steps} {routine} {statement} {}", check.number())
+            }
+            Outcome::Refused(refusal) => Refusal::of_set(routine, refusal).fmt(f),
+        }
+    }
+}
+
 /// The steps of a run; a refused one has none.
 pub fn steps(outcome: &Outcome) -> u32 {
     match *outcome {
@@ -87,15 +124,17 @@ pub fn steps(outcome: &Outcome) -> u32 {
 /// What this library cannot be asked, in words.
 pub type Asked<T> = Result<T, &'static str>;
 
-fn single(tables: &[Vec<i32>]) -> Asked<&[i32]> {
+pub fn check(tables: &[Vec<i32>], facts: &[i32]) -> Asked<Checked> {
     match tables {
-        [table] => Ok(table),
-        _ => Err("this library has no sets of routines"),
+        [table] => Ok(check_table(table, facts)),
+        tables => Ok(Checked { verdict: check_set(tables)?, safe: Vec::new() }),
     }
 }
 
-pub fn check(tables: &[Vec<i32>], facts: &[i32]) -> Asked<Checked> {
-    single(tables).map(|table| check_table(table, facts))
+const NO_SETS: &str = "this library has no sets of routines";
+
+fn check_set(_: &[Vec<i32>]) -> Asked<Verdict> {
+    Err(NO_SETS)
 }
 
 /// The check of one routine with its list of loop facts.
@@ -126,26 +165,46 @@ impl Editor {
 
 /// The first refusal by causes 1 to 6: where there is none, the tables have a text.
 pub fn form_refusal(tables: &[Vec<i32>]) -> Option<Refusal> {
-    let refusal = |(number, table): (usize, &Vec<i32>)| match mizzengrape::check(table) {
-        mizzengrape::Verdict::Refused(refusal) if refusal.number <= 6 => {
-            let routine = (tables.len() > 1).then_some(number);
-            Some(Refusal { routine, ..Refusal::from(refusal) })
+    let refusal = |(number, table): (usize, &Vec<i32>)| {
+        let routine = (tables.len() > 1).then_some(number);
+        let alone = refused_form(table).map(|refusal| Refusal { routine, ..refusal });
+        if number == 0 || alone.is_some_and(|refusal| refusal.number <= 2) {
+            return alone;
         }
-        _ => None,
+        // Behind routine 0 a table has that one's objects, and lists none.
+        let (Ok(first), Ok(own)) = (Table::split(&tables[0]), Table::split(table)) else { return alone };
+        if !own.objects.is_empty() {
+            return Some(Refusal { routine, number: 3, place: 0, pointer: None });
+        }
+        let whole = Table { objects: first.objects, ..own };
+        refused_form(&whole.words()).map(|refusal| Refusal { routine, ..refusal })
     };
     tables.iter().enumerate().find_map(refusal)
 }
 
+/// The refusal of one table by causes 1 to 6.
+fn refused_form(table: &[i32]) -> Option<Refusal> {
+    match mizzengrape::check(table) {
+        mizzengrape::Verdict::Refused(refusal) if refusal.number <= 6 => Some(refusal.into()),
+        _ => None,
+    }
+}
+
 /// A run; cells and values then hold what it left.
-pub fn run(tables: &[Vec<i32>], facts: &[i32], lent: &mut Lent) -> Asked<Outcome> {
-    let table = single(tables)?;
+pub fn run(tables: &[Vec<i32>], facts: &[i32], lent: &mut Lent) -> Asked<Ended> {
+    let [table] = tables else { return run_set(tables, lent) };
     let Lent { directory, cells, values, origins, allowance } = lent;
-    Ok(mizzengrape::run_with_facts(table, facts, directory, cells, values, origins, *allowance))
+    let run = mizzengrape::run_with_facts(table, facts, directory, cells, values, origins, *allowance);
+    Ok(run.into())
+}
+
+fn run_set(_: &[Vec<i32>], _: &mut Lent) -> Asked<Ended> {
+    Err(NO_SETS)
 }
 
 /// A routine of several that run in turn: what it is lent beside the memory. Its values then hold what its turns left.
 pub fn routine<'a>(tables: &'a [Vec<i32>], facts: &'a [i32], lent: &'a mut Lent) -> Asked<Routine<'a>> {
-    let table = single(tables)?;
+    let [table] = tables else { return Err("a set has no turns: routines in turn are each by themselves") };
     let Lent { directory, values, origins, .. } = lent;
     Ok(Routine { table, facts, directory, values, origins })
 }

@@ -235,7 +235,10 @@ fn wrong_calls_end_with_2() {
         "error: --facts is for one routine; a .words file has its list in it\n",
     );
     ends(&[&routine, &image, &routine, &wrong], "wrong.img:1:9: error: expected `;`, found end of text\n");
-    ends(&[&routine, &image, &set, &image], "set.c:7:6: error: this library has no sets of routines\n");
+    ends(
+        &[&routine, &image, &set, &image],
+        "set.c:7:6: error: a set has no turns: routines in turn are each by themselves\n",
+    );
     ends(
         &[&routine, &image, "--quantum", "x"],
         "error: --quantum wants a number from 0 to 4294967295, not x\n",

@@ -5,6 +5,7 @@ use crate::library::{Lent, Outcome};
 use crate::memory::Memory;
 use crate::printer::Printer;
 use crate::rows::InForce;
+use oracle::frame::Frame;
 
 /// So many neighbouring cells are told as one.
 const LEAST_RANGE: usize = 4;
@@ -26,6 +27,11 @@ pub struct Point<'a> {
 impl<'a> Point<'a> {
     pub fn start(lent: &'a Lent) -> Point<'a> {
         Point { values: &lent.values, cells: &lent.cells, origins: Some(&lent.origins), due: 0 }
+    }
+
+    /// What a routine at work has, the cells left aside.
+    pub fn of(frame: &'a Frame) -> Point<'a> {
+        Point { values: &frame.values, cells: &[], origins: Some(&frame.origins), due: 0 }
     }
 
     fn value(&self, memory: &Memory, variable: usize) -> String {

@@ -57,7 +57,7 @@ fn at_line(arguments: &Arguments, line: Option<&str>) -> Result<Output, String> 
             let head = loop_of(&program, refusal.place);
             (0, head.ok_or_else(|| wrong(format!("{refusal}: no statement was looked at")))?)
         }
-        (None, Verdict::Refused(refusal)) if refusal.number >= 7 => {
+        (None, Verdict::Refused(refusal)) if refusal.number >= 7 && refusal.number != 15 => {
             (refusal.routine.unwrap_or(0), refusal.place)
         }
         (None, Verdict::Refused(refusal)) => {

@@ -1,27 +1,40 @@
-//! `asm --c-header`: a routine for a C program, its table with the names of what is in it.
+//! `asm --c-header`: a routine or a set for a C program, its table with the names of what is in it.
 
 use crate::program::{Program, Text};
 use crate::table::Table;
 
-/// The header of a routine: its table, its list, numbers for its variables and objects, the objects' lengths, the lines of its statements.
+/// The header of a routine: its table, its list, numbers for its variables and objects, the objects' lengths, the lines of its statements. Of a
+/// set all tables one behind the other with their lengths, and numbers for its routines and for the last one's variables.
 pub fn header(program: &Program, text: &Text) -> Result<String, String> {
-    let ([words], [table], [routine]) = (&program.tables[..], &text.parts[..], &text.names.routines[..])
-    else {
-        return Err(format!("{}: error: a header holds one routine\n", program.name));
+    let (Some(routine), Some(first)) = (text.names.routines.last(), text.parts.first()) else {
+        return Err(format!("{}: error: a header holds a routine\n", program.name));
     };
     let name = &routine.name;
     let guard = format!("{}_TABLE_H", name.to_uppercase());
     let mut lines = format!("/* {name}: made by mizzengrape asm --c-header. */\n#ifndef {guard}\n#define {guard}\n\n#include <stdint.h>\n\n");
-    lines.push_str(&array("int32_t", &format!("{name}_table"), words.iter()));
-    lines.push_str(&array("int32_t", &format!("{name}_facts"), program.facts.iter()));
+    match &program.tables[..] {
+        [words] => {
+            lines.push_str(&array("int32_t", &format!("{name}_table"), words.iter()));
+            lines.push_str(&array("int32_t", &format!("{name}_facts"), program.facts.iter()));
+        }
+        tables => {
+            lines.push_str(&array("int32_t", &format!("{name}_tables"), tables.iter().flatten()));
+            let words: Vec<usize> = tables.iter().map(Vec::len).collect();
+            lines.push_str(&array("uint32_t", &format!("{name}_table_lengths"), words.iter()));
+            let routines: Vec<String> =
+                text.names.routines.iter().map(|routine| routine.name.clone()).collect();
+            lines.push_str(&numbers(name, "routine", &routines));
+        }
+    }
     lines.push_str(&numbers(name, "variable", &routine.variables));
     lines.push_str(&numbers(name, "object", &text.names.objects));
     lines.push_str("/* The cells of each object: the second word of its pair in the directory. */\n");
-    lines.push_str(&array("uint32_t", &format!("{name}_lengths"), lengths(table).iter()));
-    lines.push_str("/* The line of each statement in the text. */\n");
-    let positions = text.map.routines.first().map_or(&[][..], |map| &map.statements[..]);
-    let places: Vec<u32> = positions.iter().map(|at| at.line).collect();
-    lines.push_str(&array("uint32_t", &format!("{name}_lines"), places.iter()));
+    lines.push_str(&array("uint32_t", &format!("{name}_lengths"), lengths(first).iter()));
+    for (routine, map) in text.names.routines.iter().zip(&text.map.routines) {
+        lines.push_str("/* The line of each statement in the text. */\n");
+        let places = map.statements.iter().map(|at| at.line);
+        lines.push_str(&array("uint32_t", &format!("{}_lines", routine.name), places));
+    }
     lines.push_str(&format!("#endif /* {guard} */\n"));
     Ok(lines)
 }

@@ -178,7 +178,7 @@ impl Round {
                 });
                 told(overlap(&seats.collect::<Vec<_>>(), routine))
             }
-            10..=12 | 16 => session.ended(&Outcome::Refused(refusal), &session.image.lent, None)?,
+            10..=12 | 16 => session.ended(&Outcome::Refused(refusal).into(), &session.image.lent, &[])?,
             _ => super::check::verdict(&session.program, short)?,
         };
         Ok(Output { out, ..output })
@@ -211,8 +211,8 @@ impl Round {
         let values = left.values[routine].clone();
         let own = Lent { cells: self.own_cells(session, &left.cells), values, ..lent.clone() };
         let Program { tables, facts, name, .. } = &session.program;
-        let second = second_run((&tables[0], facts), &lent, outcome, &own);
-        let ended = session.ended(outcome, &own, second.origins.as_deref())?;
+        let second = second_run((tables, facts), &lent, &(*outcome).into(), &own);
+        let ended = session.ended(&(*outcome).into(), &own, &second.frames)?;
         if !ended.err.is_empty() && !self.asked.short {
             output.err.push_str(&format!("{name}: in routine {routine}, lent {}:\n", session.image_path));
         }
@@ -224,7 +224,7 @@ impl Round {
         let end = match self.asked.short {
             true => format!("routine {routine}: {outcome}\nvalues:{}\n", listed(&own.values)),
             false => {
-                let told = told(session, &lent, &own, outcome, second.origins.as_deref())?;
+                let told = told(session, &lent, &own, &(*outcome).into(), &second.frames)?;
                 format!("routine {routine}, {name} lent {}: {told}", session.image_path)
             }
         };

@@ -6,9 +6,10 @@ use super::in_turn::in_turn;
 use super::session::{end_line, open, read, Session, Wanted};
 use super::trace::traced_whole;
 use super::Output;
-use crate::explain::{second_run, SecondRun};
-use crate::library::{Lent, Outcome};
+use crate::explain::second_run;
+use crate::library::{Ended, Lent, Outcome};
 use crate::program::Program;
+use oracle::frame::Frame;
 
 pub const USAGE: Usage = Usage {
     help: "\
@@ -72,24 +73,21 @@ pub fn listed(words: &[u32]) -> String {
 
 /// The run as `run` prints it.
 fn whole(session: &Session) -> Result<Output, String> {
-    let (left, outcome) = session.run(u32::MAX)?;
+    let (left, ended) = session.run(u32::MAX)?;
     let lent = &session.image.lent;
-    let second = match &session.program.tables[..] {
-        [table] => second_run((table, &session.program.facts), lent, &outcome, &left),
-        _ => SecondRun::default(),
-    };
-    let mut output = session.ended(&outcome, &left, second.origins.as_deref())?;
+    let second = second_run((&session.program.tables, &session.program.facts), lent, &ended, &left);
+    let mut output = session.ended(&ended, &left, &second.frames)?;
     if let Some(other) = second.other {
         output.at_odds(&session.program, &other);
     }
-    if matches!(outcome, Outcome::Refused(_)) {
+    if matches!(ended.outcome, Outcome::Refused(_)) {
         return Ok(output);
     }
     if session.short {
-        output.out = format!("{outcome}\nvalues:{}\ncells:{}\n", listed(&left.values), listed(&left.cells));
+        output.out = format!("{ended}\nvalues:{}\ncells:{}\n", listed(&left.values), listed(&left.cells));
         return Ok(output);
     }
-    output.out = told(session, lent, &left, &outcome, second.origins.as_deref())?;
+    output.out = told(session, lent, &left, &ended, &second.frames)?;
     Ok(output)
 }
 
@@ -98,14 +96,24 @@ pub fn told(
     session: &Session,
     lent: &Lent,
     left: &Lent,
-    outcome: &Outcome,
-    origins: Option<&[u32]>,
+    ended: &Ended,
+    frames: &[Frame],
 ) -> Result<String, String> {
     let memory = session.memory()?;
-    let due = due(&memory.printer, outcome);
+    // While a callee runs, the call is due in the routine in which the run began.
+    let waits = frames.first().filter(|_| frames.len() > 1).and_then(|first| first.due);
+    let is_own = ended.routine.is_none_or(|routine| routine == session.last());
+    let due = match waits {
+        Some(call) => call,
+        None if is_own || matches!(ended.outcome, Outcome::Done { .. }) => {
+            due(&memory.printer, &ended.outcome)
+        }
+        None => 0,
+    };
+    let origins = frames.first().map(|first| &first.origins[..]);
     let end = Point { values: &left.values, cells: &left.cells, origins, due };
     let changes = changes(&memory, Point::start(lent), end);
     let nothing = if changes.is_empty() { "; nothing changed" } else { "" };
     let lines: String = changes.iter().map(|change| format!("{change}\n")).collect();
-    Ok(format!("{}{nothing}\n{lines}", end_line(outcome)))
+    Ok(format!("{}{nothing}\n{lines}", end_line(&ended.outcome)))
 }

@@ -7,11 +7,12 @@ use crate::explain::drawing::{drawing, Scene};
 use crate::explain::{self, bundle, stops, Place};
 use crate::files::{read_text, IMAGE};
 use crate::image::{read_image, Image};
-use crate::library::{self, Lent, Outcome, Refusal};
+use crate::library::{self, Ended, Lent, Outcome, Refusal};
 use crate::memory::{Memory, Neighbour};
 use crate::names::read_names;
 use crate::printer::Printer;
 use crate::program::{Program, Text};
+use oracle::frame::Frame;
 
 pub struct Session {
     pub program: Program,
@@ -78,50 +79,73 @@ pub fn end_line(outcome: &Outcome) -> String {
 
 impl Session {
     /// The proved run with so many steps at most, or with the image's allowance.
-    pub fn run(&self, steps: u32) -> Result<(Lent, Outcome), String> {
+    pub fn run(&self, steps: u32) -> Result<(Lent, Ended), String> {
         let mut lent = self.image.lent.clone();
         lent.allowance = lent.allowance.min(steps);
         let asked = library::run(&self.program.tables, &self.program.facts, &mut lent);
-        let outcome = asked.map_err(|lack| self.program.lacking(lack, self.short))?;
-        Ok((lent, outcome))
+        let ended = asked.map_err(|lack| self.program.lacking(lack, self.short))?;
+        Ok((lent, ended))
     }
 
     pub fn text(&self) -> Result<&Text, String> {
         text_of(&self.program)
     }
 
-    pub fn printer(&self) -> Result<Printer<'_>, String> {
+    /// The routine in which a run begins.
+    pub fn last(&self) -> usize {
+        self.program.tables.len() - 1
+    }
+
+    fn printer(&self, routine: usize) -> Result<Printer<'_>, String> {
         let text = self.text()?;
-        Ok(Printer::new(&text.parts, &self.program.facts, &text.names, text.parts.len() - 1))
+        Ok(Printer::new(&text.parts, &self.program.facts, &text.names, routine))
     }
 
+    /// The memory as the routine in which the run begins sees it.
     pub fn memory(&self) -> Result<Memory<'_>, String> {
-        Ok(Memory::new(self.printer()?, self.text()?, &self.image.lent.directory, &self.others))
+        self.memory_of(self.last())
     }
 
+    /// The memory as a routine sees it.
+    pub fn memory_of(&self, routine: usize) -> Result<Memory<'_>, String> {
+        Ok(Memory::new(self.printer(routine)?, self.text()?, &self.image.lent.directory, &self.others))
+    }
+
+    /// Where a statement of the routine in which the run begins stands.
     pub fn position(&self, statement: usize) -> Result<Pos, String> {
-        let routine = self.text()?.map.routines.last();
+        self.position_in(self.last(), statement)
+    }
+
+    pub fn position_in(&self, routine: usize, statement: usize) -> Result<Pos, String> {
+        let routine = self.text()?.map.routines.get(routine);
         let position = routine.and_then(|map| map.statements.get(statement));
         position.copied().ok_or(format!("{}: error: no statement {statement}\n", self.program.name))
     }
 
-    /// The sentence of the end at its line, and the status. Where the origins of the pointers are known, the blocks of a stop are drawn.
-    pub fn ended(&self, outcome: &Outcome, lent: &Lent, origins: Option<&[u32]>) -> Result<Output, String> {
+    /// The sentence of the end at its line, and the status. Where the second implementation tells what each routine at work had then, the
+    /// blocks of a stop are drawn, and callers are named.
+    pub fn ended(&self, ended: &Ended, lent: &Lent, frames: &[Frame]) -> Result<Output, String> {
         let short = self.short;
         let mut output = Output { err: self.program.warnings(short), ..Output::default() };
-        let (statement, sentence) = match *outcome {
+        let routine = ended.routine.unwrap_or(self.last());
+        // The library gives back the values of the routine in which the run began; those of a callee are the second implementation's.
+        let values = match frames {
+            [_, .., running] if running.routine == routine => Some(&running.values[..]),
+            _ => Some(&lent.values[..]).filter(|_| routine == self.last()),
+        };
+        let (statement, sentence) = match ended.outcome {
             Outcome::Done { .. } => return Ok(output),
             Outcome::Refused(refusal) => {
-                let refusal = Refusal::from(refusal);
-                let explanation = explain::refused_entry(self.text()?, &self.image, &refusal);
+                let explanation = explain::refused_entry(self.text()?, &self.image, &Refusal::from(refusal));
                 let source = Source { name: &self.image_path, text: &self.image_text };
                 output.err.push_str(&explanation.show_in(&self.image_path, Some(source), short));
-                output.out = format!("{refusal}\n");
+                output.out = format!("{ended}\n");
                 output.status = REFUSED;
                 return Ok(output);
             }
             Outcome::Spent { statement, .. } => {
-                let (line, allowance) = (self.position(statement as usize)?.line, self.image.lent.allowance);
+                let line = self.position_in(routine, statement as usize)?.line;
+                let allowance = self.image.lent.allowance;
                 output.status = SPENT;
                 let sentence =
                     format!("spent: the allowance of {allowance} steps is used; line {line} is next");
@@ -129,25 +153,44 @@ impl Session {
             }
             Outcome::Stopped { statement, check, .. } => {
                 let statement = statement as usize;
-                let reason = stops::sentence(&self.printer()?, statement, check, &lent.values);
                 output.status = STOPPED;
+                let printer = self.printer(routine)?;
+                let reason = values.map_or_else(
+                    || printer.statement(statement),
+                    |values| stops::sentence(&printer, statement, check, values),
+                );
                 (statement, format!("stopped at check {}: {reason}", check.number()))
             }
         };
         if let Some(source) = self.program.source() {
-            output.err.push_str(&source.show(self.position(statement)?, &sentence, short));
+            output.err.push_str(&source.show(self.position_in(routine, statement)?, &sentence, short));
         }
-        if let Some(origins) = origins.filter(|_| !short) {
-            let (values, cells) = (&lent.values[..], &lent.cells[..]);
-            let scene = Scene { memory: self.memory()?, statement, values, origins, cells };
-            let is_stop = matches!(outcome, Outcome::Stopped { .. });
+        if let (Some(running), Some(values), false) = (frames.last(), values, short) {
+            let (origins, cells) = (&running.origins[..], &lent.cells[..]);
+            let scene = Scene { memory: self.memory_of(routine)?, statement, values, origins, cells };
+            let is_stop = matches!(ended.outcome, Outcome::Stopped { .. });
             let drawn = if is_stop { drawing(&scene) } else { Vec::new() };
             drawn.iter().for_each(|line| output.err.push_str(&format!("{}\n", line.trim_end())));
-            let routine = self.program.tables.len() - 1;
             let place = Place::new(&self.program, self.text()?, routine);
             let note = place.and_then(|place| bundle::note(&place, &scene));
             output.err.extend(note.map(|note| format!("note: {note}\n")));
+            output.err.push_str(&self.callers(frames)?);
         }
         Ok(output)
+    }
+
+    /// `FILE:14:5: note: called here, in score: r = handicap(t, h)`, the innermost call first.
+    fn callers(&self, frames: &[Frame]) -> Result<String, String> {
+        let callers = frames.iter().rev().skip(1);
+        let mut notes = String::new();
+        for (caller, call) in callers.filter_map(|frame| Some((frame.routine, frame.due?))) {
+            let (at, name) = (self.position_in(caller, call)?, &self.program.name);
+            let (printer, routine) = (self.printer(caller)?, &self.text()?.names.routines[caller].name);
+            notes.push_str(&format!(
+                "{name}:{at}: note: called here, in {routine}: {}\n",
+                printer.statement(call)
+            ));
+        }
+        Ok(notes)
     }
 }

@@ -18,9 +18,8 @@ const MOST_CHANGES: usize = 8;
 /// `#1 routine 0: 4 steps, line 12 is next; row: block + 2 -> block + 3`. Nothing where the second implementation refuses a routine: it is
 /// at odds with the library then.
 pub fn listing(sessions: &[Session], mut cells: Vec<u32>, mut order: Order) -> Result<String, String> {
-    let replay = |Session { program, image, .. }: &Session| {
-        Replay::new(&program.tables[0], &program.facts, &image.lent)
-    };
+    let replay =
+        |Session { program, image, .. }: &Session| Replay::new(&program.tables, &program.facts, &image.lent);
     let Some(mut replays) = sessions.iter().map(replay).collect::<Option<Vec<_>>>() else {
         return Ok(String::new());
     };

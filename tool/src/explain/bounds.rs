@@ -164,7 +164,7 @@ impl Side {
         format!("{below} <= {above}")
     }
 
-    fn variables(&self) -> Vec<i32> {
+    pub(super) fn variables(&self) -> Vec<i32> {
         let of = |value: Value| [Some(value.pointer), value.integer];
         let ends = [Some(self.declared), self.known].into_iter().flatten().flat_map(of);
         ends.flatten().map(i32::from).collect()
@@ -174,14 +174,27 @@ impl Side {
         let which = if self.upper { "upper" } else { "lower" };
         let by = moment.changed[pointer][usize::from(self.upper)];
         let (size, known_size) = (self.size, self.known_size);
-        let gap = match gap {
-            Gap::Lost => {
-                return match by {
-                    Some(s) => format!("the known {which} end was lost at {}", lost(place, s, self.upper)),
-                    None => format!("the known {which} end is unknown"),
-                }
-            }
+        if let Gap::Lost = gap {
+            return match by {
+                Some(s) => format!("the known {which} end was lost at {}", lost(place, s, self.upper)),
+                None => format!("the known {which} end is unknown"),
+            };
+        }
+        let gap = self.gap_words(gap);
+        let declared = format!("declared {which} end {}", place.end(self.declared, size));
+        let known = self.known.map_or(String::new(), |known| place.end(known, known_size));
+        let known = format!("known {which} end {known}");
+        let (below, above) = if self.upper { (declared, known) } else { (known, declared) };
+        let by = by.map_or(String::new(), |s| format!(" ({}{})", place.line_and_text(s), kept(place, s)));
+        format!("not shown: {below} <= {above}: {gap}{by}")
+    }
+
+    /// How far an inequality is from being shown.
+    pub(super) fn gap_words(&self, gap: &Gap) -> String {
+        match gap {
+            Gap::Lost => "the known end is unknown".to_string(),
             Gap::Sizes => {
+                let (size, known_size) = (self.size, self.known_size);
                 let is_declared = self.declared.integer.is_some();
                 let (with, other) = if is_declared { (size, known_size) } else { (known_size, size) };
                 let element = counted(with);
@@ -190,15 +203,9 @@ impl Side {
                 )
             }
             Gap::Short(cells) if *cells > UNRELATED => "nothing relates them".to_string(),
-            Gap::Short(cells) if size > 1 => format!("short by {}", counted(*cells)),
+            Gap::Short(cells) if self.size > 1 => format!("short by {}", counted(*cells)),
             Gap::Short(cells) => format!("short by {cells}"),
-        };
-        let declared = format!("declared {which} end {}", place.end(self.declared, size));
-        let known = self.known.map_or(String::new(), |known| place.end(known, known_size));
-        let known = format!("known {which} end {known}");
-        let (below, above) = if self.upper { (declared, known) } else { (known, declared) };
-        let by = by.map_or(String::new(), |s| format!(" ({}{})", place.line_and_text(s), kept(place, s)));
-        format!("not shown: {below} <= {above}: {gap}{by}")
+        }
     }
 }
 

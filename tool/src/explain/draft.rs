@@ -1,5 +1,6 @@
 //! A routine that is changed to try advice out: its table with its list of loop facts, whose entries move with their loops.
 
+use super::context::Context;
 use super::walk::{walk, Walk};
 use super::Place;
 use crate::table::{Table, STATEMENT_WORDS};
@@ -8,16 +9,18 @@ use crate::table::{Table, STATEMENT_WORDS};
 pub struct Draft {
     pub table: Table,
     pub facts: Vec<i32>,
+    pub context: Context,
 }
 
 impl Draft {
     pub fn of(place: &Place) -> Draft {
-        Draft { table: place.printer.table.clone(), facts: place.printer.facts.to_vec() }
+        let (table, facts) = (place.printer.table.clone(), place.printer.facts.to_vec());
+        Draft { table, facts, context: place.context.clone() }
     }
 
     /// With one more statement before another, in its block.
     pub fn with_before(&self, statement: usize, record: [i32; STATEMENT_WORDS]) -> Draft {
-        Draft { table: self.table.with_before(statement, record), facts: self.moved_from(statement) }
+        self.changed(self.table.with_before(statement, record), self.moved_from(statement))
     }
 
     /// With checks before a statement.
@@ -31,12 +34,16 @@ impl Draft {
     pub fn with_last(&self, head: usize, field: usize, record: [i32; STATEMENT_WORDS]) -> Draft {
         let before = self.table.statements[head][5..=field].iter().sum::<i32>() as usize;
         let facts = self.moved_from(head + 1 + before);
-        Draft { table: self.table.with_last(head, field, record), facts }
+        self.changed(self.table.with_last(head, field, record), facts)
     }
 
     /// With so many plain statements of one block in a bundle, whose head has the number of the first one.
     pub fn with_bundle(&self, first: usize, count: usize) -> Draft {
-        Draft { table: self.table.with_bundle(first, count), facts: self.moved_from(first) }
+        self.changed(self.table.with_bundle(first, count), self.moved_from(first))
+    }
+
+    fn changed(&self, table: Table, facts: Vec<i32>) -> Draft {
+        Draft { table, facts, context: self.context.clone() }
     }
 
     /// The list where the loops from a statement on have moved by one.
@@ -49,6 +56,6 @@ impl Draft {
     }
 
     pub fn walk(&self, asked: Option<usize>) -> Walk {
-        walk(&self.table.words(), &self.facts, asked)
+        walk(&self.context, &self.table.words(), &self.facts, asked)
     }
 }

@@ -2,7 +2,9 @@
 
 use super::{Explanation, Note};
 use crate::diagnostics::Pos;
-use crate::form::{directory_reason, max_words, Form, MAX_OBJECTS, MAX_ROWS, MAX_STATEMENTS, MAX_VARIABLES};
+use crate::form::{
+    directory_reason, max_words, Form, MAX_OBJECTS, MAX_ROUTINES, MAX_ROWS, MAX_STATEMENTS, MAX_VARIABLES,
+};
 use crate::library::Refusal;
 use crate::map::{Map, RoutineMap};
 use crate::names::Names;
@@ -38,6 +40,13 @@ pub fn explain(program: &Program, refusal: &Refusal) -> Explanation {
     let of_words = program.of_words && !record.is_empty();
     let note = || Note::new(format!("the words of the record are {}", listed(&record)));
     Explanation { notes: of_words.then(note).into_iter().collect(), ..Explanation::new(at, sentence) }
+}
+
+/// Refusal 15 of a set, at the ninth routine.
+pub fn too_many_routines(program: &Program) -> Explanation {
+    let ninth = program.text.as_ref().and_then(|text| text.map.routines.get(MAX_ROUTINES));
+    let sentence = format!("the set has {} routines; 1 to {MAX_ROUTINES} are allowed", program.tables.len());
+    Explanation::new(ninth.map(|routine| routine.name), sentence)
 }
 
 /// A table of a text is too long by its statements.

@@ -1,6 +1,7 @@
 //! Refusal 17: why an entry of the list of loop facts is not taken.
 
 use super::bounds::UNRELATED;
+use super::draft::Draft;
 use super::lost::{self, lost_at, Fact};
 use super::walk::{Unshown, Walk};
 use super::{facts, Explanation, Note, Place};
@@ -45,7 +46,7 @@ pub fn not_shown(place: &Place, seen: &Walk, refusal: &Refusal) -> Option<Explan
         notes.push(Note::new(format!("best: {}", printer.fact(x, y, best))));
     } else {
         let fact = Fact { x: entry.x, y: entry.y, k: entry.k };
-        let lost = lost_at(&printer.table.words(), printer.facts, fact);
+        let lost = lost_at(&Draft::of(place), fact);
         notes.extend(lost.map(|s| Note::new(lost::note(place, s))));
     }
     notes.push(facts::note(printer, known, &[x, y]));

@@ -1,10 +1,10 @@
 //! Which statement lost a fact: the last one after which it was not known any more.
 
+use super::draft::Draft;
 use super::Place;
-use oracle::checker::{watch_with_facts, Known, Observer, Rows};
+use oracle::checker::{Known, Observer, Rows};
 use oracle::facts::{Facts, Node};
 use oracle::loop_facts::LoopFacts;
-use oracle::table::decode;
 
 /// x <= y + k.
 #[derive(Clone, Copy, Debug)]
@@ -16,12 +16,12 @@ pub struct Fact {
 
 /// The statement of a routine that lost a fact, by the walk up to its end or its refusal; none where the fact was never known or is
 /// known at the end.
-pub fn lost_at(words: &[i32], facts: &[i32], fact: Fact) -> Option<usize> {
-    let routine = decode(words).ok()?;
-    let loop_facts = LoopFacts::read(&routine, facts).ok()?;
+pub fn lost_at(draft: &Draft, fact: Fact) -> Option<usize> {
+    let routine = draft.context.decode(&draft.table.words()).ok()?;
+    let loop_facts = LoopFacts::read(&routine, &draft.facts).ok()?;
     let sizes = routine.statements.iter().map(|statement| statement.size()).collect();
     let mut watcher = Watcher { fact, sizes, is_known: false, last: 0, lost: None };
-    let _ = watch_with_facts(&routine, &loop_facts, &mut watcher);
+    let _ = draft.context.watch(&routine, &loop_facts, &mut watcher);
     watcher.lost.filter(|_| !watcher.is_known)
 }
 

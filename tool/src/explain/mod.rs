@@ -3,6 +3,8 @@
 mod advice;
 mod bounds;
 pub mod bundle;
+mod calls;
+mod context;
 mod draft;
 pub mod drawing;
 mod entry;
@@ -16,6 +18,7 @@ pub mod pages;
 mod replay;
 mod report;
 mod rows;
+mod second;
 mod state;
 pub mod stops;
 mod trial;
@@ -26,21 +29,23 @@ mod ways;
 
 use crate::diagnostics::{Pos, Source};
 use crate::image::Image;
-use crate::library::{self, steps, Asked, Lent, Outcome, Refusal, Verdict};
+use crate::library::{self, steps, Asked, Ended, Lent, Outcome, Refusal, Verdict};
 use crate::map::RoutineMap;
 use crate::printer::Printer;
 use crate::program::{Program, Text};
 use crate::repair::Repair;
 use crate::rows::InForce;
+use context::Context;
 use draft::Draft;
 pub use narrow::declare_known;
-use oracle::answer::{CheckAnswer, RunInput};
+use oracle::answer::RunInput;
 use oracle::checker::Value;
-pub use replay::{same_end, Replay};
+use oracle::frame::Frame;
+pub use replay::{said, same_end, Replay};
 pub use report::{access, report};
+use second::Second;
 pub use state::state;
 pub use trial::progress;
-use walk::Walk;
 
 /// A refusal in words.
 #[derive(Debug, Default)]
@@ -119,15 +124,17 @@ impl Explanation {
 pub struct Place<'a> {
     pub printer: Printer<'a>,
     map: &'a RoutineMap,
+    context: Context,
 }
 
 impl<'a> Place<'a> {
     pub fn new(program: &'a Program, text: &'a Text, routine: usize) -> Option<Place<'a>> {
         let map = text.map.routines.get(routine)?;
-        Some(Place { printer: Printer::new(&text.parts, &program.facts, &text.names, routine), map })
+        let context = Context::of(program, routine)?;
+        Some(Place { printer: Printer::new(&text.parts, &program.facts, &text.names, routine), map, context })
     }
 
-    fn statement(&self, s: usize) -> Option<Pos> {
+    pub fn statement(&self, s: usize) -> Option<Pos> {
         self.map.statements.get(s).copied()
     }
 
@@ -224,6 +231,7 @@ pub fn help(program: &Program, refusal: &Refusal) -> Vec<Help> {
         }
         13 => rows::help(program, &place, refusal),
         17 => advice::for_entry(&place, refusal.place),
+        20 => calls::help(program, &place, refusal),
         _ => None,
     };
     help.map(advice::saying_stops).into_iter().collect()
@@ -250,70 +258,6 @@ fn for_bounds(program: &Program, place: &Place, refusal: &Refusal) -> Option<Hel
         .or_else(declared)
 }
 
-/// The second implementation's view of a program: its verdict, and what it saw on the way to a refusal.
-struct Second {
-    routine: usize,
-    /// None where it cannot be asked: for sets.
-    seen: Option<Walk>,
-    /// The accesses that it reports.
-    safe: Vec<u32>,
-}
-
-impl Second {
-    /// Walks the routine that the library refuses, or the only one.
-    fn of(program: &Program, verdict: &Verdict) -> Second {
-        let routine = match verdict {
-            Verdict::Refused(refusal) => refusal.routine.unwrap_or(0),
-            Verdict::Accepted => 0,
-        };
-        let [table] = &program.tables[..] else { return Second { routine, seen: None, safe: Vec::new() } };
-        // One walk is enough: an accepted routine's report is compared, a refused one's reason is looked for.
-        let (seen, safe) = match verdict {
-            Verdict::Accepted => match oracle::report::accept(table, &program.facts) {
-                Ok(accepted) => (Walk::unseen(Ok(())), accepted.report),
-                Err(refusal) => (Walk::unseen(Err(refusal)), Vec::new()),
-            },
-            Verdict::Refused(_) => (walk::walk(table, &program.facts, None), Vec::new()),
-        };
-        Second { routine, seen: Some(seen), safe }
-    }
-
-    /// Its verdict and report, where they are others than the proved ones.
-    fn other_verdict(&self, verdict: &Verdict, safe: Option<&[u32]>) -> Option<String> {
-        let answer = &self.seen.as_ref()?.answer;
-        let same = agree(verdict, answer) && safe.is_none_or(|safe| safe == self.safe);
-        (!same).then(|| format!("{}, safe: {:?}", oracle::answer::show_check(answer), self.safe))
-    }
-
-    /// The reason for a refusal.
-    fn explain(&self, program: &Program, refusal: &Refusal) -> Explanation {
-        let explanation = match refusal.number {
-            1..=6 => form::explain(program, refusal),
-            17 if self.seen.as_ref().is_none_or(|seen| seen.unshown.is_none()) => {
-                listed::form(program, refusal).unwrap_or_default()
-            }
-            _ => self.walked(program, refusal).unwrap_or_default(),
-        };
-        explanation.numbered(refusal)
-    }
-
-    /// Refusals that the walk finds.
-    fn walked(&self, program: &Program, refusal: &Refusal) -> Option<Explanation> {
-        let place = Place::new(program, program.text.as_ref()?, self.routine)?;
-        let seen = self.seen.as_ref()?;
-        Some(match refusal.number {
-            8 => bounds::not_shown(&place, seen, refusal),
-            9 => bounds::not_shown_for_access(&place, seen, refusal),
-            13 => rows::differ(&place, refusal),
-            17 => listed::not_shown(&place, seen, refusal)?,
-            number => {
-                let sentence = format!("`mizzengrape explain {number}` tells what it means");
-                Explanation::new(place.statement(refusal.place), sentence)
-            }
-        })
-    }
-}
-
 /// The reason for a refusal by the form of a table, which takes no walk.
 pub fn refused_form(program: &Program, refusal: &Refusal) -> Explanation {
     form::explain(program, refusal).numbered(refusal)
@@ -324,71 +268,58 @@ pub fn refused_entry(text: &Text, image: &Image, refusal: &Refusal) -> Explanati
     entry::explain(text, image, refusal).numbered(refusal)
 }
 
-fn agree(verdict: &Verdict, answer: &CheckAnswer) -> bool {
-    match (verdict, answer) {
-        (Verdict::Accepted, Ok(())) => true,
-        (Verdict::Refused(ours), Err(other)) => {
-            let (number, place) = (u32::from(other.cause), other.place as usize);
-            (ours.number, ours.place, ours.pointer) == (number, place, other.pointer.map(usize::from))
-        }
-        _ => false,
-    }
-}
-
 /// Longer runs are not run a second time.
 const MOST_COMPARED: u32 = 10_000_000;
 
 /// A run as the second implementation makes it.
-#[derive(Debug, Default, PartialEq, Eq)]
+#[derive(Debug, Default)]
 pub struct SecondRun {
     /// How it ends, where that is another end than the proved one or leaves other values or cells.
     pub other: Option<String>,
-    /// Where the pointers belong at its end; none where it was not made.
-    pub origins: Option<Vec<u32>>,
+    /// The routines at work at its end, the last one running: their values, and where their pointers belong. None where it was not made.
+    pub frames: Vec<Frame>,
 }
 
 pub fn second_run(
-    (table, facts): (&[i32], &[i32]),
+    (tables, facts): (&[Vec<i32>], &[i32]),
     lent: &Lent,
-    outcome: &Outcome,
+    ended: &Ended,
     left: &Lent,
 ) -> SecondRun {
-    if steps(outcome) > MOST_COMPARED {
+    if steps(&ended.outcome) > MOST_COMPARED {
         return SecondRun::default();
     }
-    let replay = Replay::new(table, facts, lent).filter(|_| !matches!(outcome, Outcome::Refused(_)));
+    let replay = Replay::new(tables, facts, lent).filter(|_| !matches!(ended.outcome, Outcome::Refused(_)));
     let Some(mut replay) = replay else {
         let Lent { directory, cells, values, origins, allowance } = lent.clone();
         let mut input = RunInput { directory, cells, values, origins, allowance };
-        let answer = oracle::machine::run_with_facts(table, facts, &mut input).to_string();
-        return SecondRun { other: (answer != outcome.to_string()).then_some(answer), origins: None };
+        let answer = match tables {
+            [table] => oracle::machine::run_with_facts(table, facts, &mut input).to_string(),
+            tables => oracle::set::run(tables, &mut input).to_string(),
+        };
+        return SecondRun { other: (answer != ended.to_string()).then_some(answer), frames: Vec::new() };
     };
     let (mut machine, cells) = replay.begin();
     let answer = machine.go(cells, u64::from(lent.allowance));
-    let same = same_end(&answer, machine.values(), cells, outcome, left);
-    SecondRun { other: (!same).then(|| answer.to_string()), origins: Some(machine.origins().to_vec()) }
+    let said = said(&machine, answer, tables.len() > 1);
+    let same = same_end(&said, machine.values(), cells, ended, left);
+    SecondRun { other: (!same).then_some(said), frames: machine.frames().to_vec() }
 }
 
 #[cfg(test)]
 mod tests {
     use super::*;
-    use oracle::answer;
 
-    /// A library that answers something else than the second implementation is found out.
+    /// A library that ends a run otherwise than the second implementation is found out.
     #[test]
     fn differences_are_seen() {
-        let refused =
-            |number, place, pointer| Verdict::Refused(Refusal { routine: None, number, place, pointer });
-        let lost = Err(answer::Refusal::bounds(3, 1));
-        assert!(agree(&refused(8, 3, Some(1)), &lost) && !agree(&refused(8, 3, Some(0)), &lost));
-        assert!(!agree(&refused(8, 2, Some(1)), &lost));
-        assert!(!agree(&refused(9, 3, None), &lost) && !agree(&Verdict::Accepted, &lost));
-        assert!(agree(&Verdict::Accepted, &Ok(())) && !agree(&refused(7, 0, None), &Ok(())));
         let table = [6, 0, 6, 8, 14, 7, 0, 0, 0, 0, 0, 0, 0, 0, 1, 0, 5, 0, 0, 0, 0];
         let lent =
             Lent { cells: vec![0], values: vec![1], origins: vec![0], allowance: 9, ..Lent::default() };
         let left = Lent { values: vec![5], ..lent.clone() };
-        let other = |steps, left| second_run((&table, &[]), &lent, &Outcome::Done { steps }, left).other;
+        let tables = [table.to_vec()];
+        let done = |steps| Ended { outcome: Outcome::Done { steps }, routine: None };
+        let other = |steps, left| second_run((&tables, &[]), &lent, &done(steps), left).other;
         assert_eq!(other(1, &left), None);
         assert_eq!(other(1, &lent), Some("done 1".to_string()));
         assert_eq!(other(2, &left), Some("done 1".to_string()));

@@ -10,8 +10,12 @@ use oracle::facts::{Facts, Node, ZERO};
 use oracle::loop_facts::LoopFacts;
 use oracle::table::decode;
 
-/// A line for each access: `FILE:7:9: safe: x = row[i]`, `FILE:8:9: may stop: x = row[j]: j < rows is not known`.
+/// A line for each access: `FILE:7:9: safe: x = row[i]`, `FILE:8:9: may stop: x = row[j]: j < rows is not known`. The library makes no
+/// report of a set.
 pub fn report(program: &Program, safe: &[u32]) -> String {
+    if program.tables.len() > 1 {
+        return String::new();
+    }
     let place = program.text.as_ref().and_then(|text| Place::new(program, text, 0));
     let Some(place) = place else { return String::new() };
     let mut accesses = Accesses { place: &place, name: &program.name, safe, lines: String::new() };

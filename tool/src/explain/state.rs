@@ -11,7 +11,7 @@ pub fn state(program: &Program, (routine, statement): (usize, usize), short: boo
     let (Some(place), Some(source)) = (place, program.source()) else {
         return Err("this table has no text".to_string());
     };
-    let seen = walk(&program.tables[routine], &program.facts, Some(statement));
+    let seen = walk(&place.context, &program.tables[routine], &program.facts, Some(statement));
     let (Some(at), Some(moment)) = (place.statement(statement), seen.asked) else {
         return Err(match seen.answer {
             Err(refusal) => format!("{refusal}: the check ended before this statement"),

@@ -1,12 +1,12 @@
 //! The second implementation's walk over a routine, looked on: what is known where it ends, and which statement moved or lost each end.
 
+use super::context::Context;
 use crate::rows::InForce;
 use crate::table::Table;
 use oracle::answer::CheckAnswer;
-use oracle::checker::{watch_with_facts, Asked, Known, KnownBounds, KnownEnd, Observer, Rows};
+use oracle::checker::{Asked, Known, KnownBounds, KnownEnd, Observer, Rows};
 use oracle::facts::Facts;
 use oracle::loop_facts::{Entry, LoopFacts};
-use oracle::table::decode;
 
 /// What is known before or after a statement.
 #[derive(Clone, Debug)]
@@ -59,9 +59,9 @@ pub struct Unshown {
     pub facts: Facts,
 }
 
-/// Walks a table with its list; `asked` is a statement of interest.
-pub fn walk(words: &[i32], facts: &[i32], asked: Option<usize>) -> Walk {
-    let read = decode(words).and_then(|routine| Ok((LoopFacts::read(&routine, facts)?, routine)));
+/// Walks a table with its list, by itself or in its set; `asked` is a statement of interest.
+pub fn walk(context: &Context, words: &[i32], facts: &[i32], asked: Option<usize>) -> Walk {
+    let read = context.decode(words).and_then(|routine| Ok((LoopFacts::read(&routine, facts)?, routine)));
     let (loop_facts, routine) = match read {
         Ok(read) => read,
         Err(refusal) => return Walk::unseen(Err(refusal)),
@@ -78,7 +78,7 @@ pub fn walk(words: &[i32], facts: &[i32], asked: Option<usize>) -> Walk {
         asked: None,
         unshown: None,
     };
-    let answer = watch_with_facts(&routine, &loop_facts, &mut recorder).map(|_| ());
+    let answer = context.watch(&routine, &loop_facts, &mut recorder);
     let Recorder { before, after, asked, unshown, .. } = recorder;
     Walk { answer, before, after, asked, unshown }
 }

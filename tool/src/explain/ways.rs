@@ -180,10 +180,9 @@ impl Kept {
 pub fn lost_by_loop(place: &Place, refused: usize) -> Vec<Kept> {
     let routine = Draft::of(place);
     let seen = routine.walk(None);
-    let words = routine.table.words();
     let lost = |entry: [i32; 3]| {
         let fact = Fact { x: node(entry[0]), y: node(entry[1]), k: i64::from(entry[2]) };
-        let head = lost_at(&words, &routine.facts, fact)?;
+        let head = lost_at(&routine, fact)?;
         (routine.table.statements[head][0] == 12).then_some(Kept { head, entry })
     };
     let facts = seen.after.as_ref().map(|moment| &moment.facts);

@@ -22,7 +22,7 @@ pub fn json(finding: &Finding) -> Json {
     let help = |(message, edits): &(String, Vec<Edit>)| {
         Json::object([("message", message.as_str().into()), ("edits", Json::array(edits.iter().map(edit)))])
     };
-    Json::object([
+    let mut json = Json::object([
         ("file", finding.file.as_str().into()),
         ("line", line),
         ("column", column),
@@ -34,7 +34,12 @@ pub fn json(finding: &Finding) -> Json {
         ("message", finding.message.as_str().into()),
         ("notes", Json::array(finding.notes.iter().map(note))),
         ("help", Json::array(finding.helps.iter().map(help))),
-    ])
+    ]);
+    // Of a set also the routine that is refused.
+    if let Some(routine) = refusal.and_then(|refusal| refusal.routine) {
+        json = json.with("routine", (routine as u32).into());
+    }
+    json
 }
 
 fn placed(at: Pos) -> Json {

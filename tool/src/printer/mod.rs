@@ -124,6 +124,11 @@ impl<'a> Printer<'a> {
         &self.names.routines[self.routine].variables[variable as usize]
     }
 
+    /// How many variables stand in the parentheses.
+    pub fn parameters(&self) -> usize {
+        self.names.routines[self.routine].parameters
+    }
+
     /// The lengths of the objects, below 0 for terminated ones: those of routine 0.
     pub fn objects(&self) -> &'a [i32] {
         &self.tables[0].objects
