@@ -47,7 +47,7 @@ fn held(mut before: Lent, lent: &mut Lent, call: impl Fn(&mut Lent) -> EditWords
     if !lent.is_whole() {
         return Some(format!("words beside buffer or store are written, answer {words:?}"));
     }
-    if number > 18 || is_made > 1 || pointer > 15 || walked > 1_024 || length as usize > lent.buffer().len() {
+    if number > 19 || is_made > 1 || pointer > 15 || walked > 1_024 || length as usize > lent.buffer().len() {
         return Some(format!("answer {words:?}"));
     }
     let is_same = lent.buffer() == before.buffer() && lent.store() == before.store();

@@ -297,7 +297,7 @@ mod tests {
         assert!(stats.differences.is_empty(), "{:?}", stats.differences);
         let percent = 100 * stats.accepted / stats.cases;
         assert!((30..=60).contains(&percent), "{percent} percent accepted");
-        for cause in (1..=6).chain(8..=9).chain([13, 17]) {
+        for cause in (1..=6).chain(8..=9).chain([13, 17, 19]) {
             assert!(stats.check.contains_key(&format!("refused {cause:2}")), "cause {cause}");
         }
         for class in ["done", "spent", "refused 10", "refused 11", "refused 12", "refused 16"] {

@@ -299,3 +299,15 @@ fn not_equal_tells_in_every_place() {
         assert!(answer(&[order(), assigned]).starts_with("refused 8"));
     }
 }
+
+#[test]
+fn a_routine_by_itself_has_nobody_to_call() {
+    for callee in [0, 1, -1] {
+        assert_eq!(answer(&[vec![set(X, 1), call(callee, X, &[N])]]), "refused 19 1");
+    }
+    // In the walk: what is refused before it comes first, and it comes before its own 8.
+    assert_eq!(answer(&[vec![set(N, 1), call(0, X, &[])]]), "refused 8 0 0");
+    assert_eq!(answer(&[vec![call(0, N, &[])]]), "refused 19 0");
+    assert_eq!(answer(&[bundle(vec![call(0, X, &[])])]), "refused 6 0");
+    assert_eq!(answer(&[vec![call(0, P, &[])]]), "refused 5 0");
+}

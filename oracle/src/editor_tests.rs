@@ -150,3 +150,11 @@ fn rows_move_with_the_statements() {
     assert_eq!(one.table(), draft.words());
     assert_eq!(one.buffer[one.length..], [7_777; 7]);
 }
+
+#[test]
+fn a_call_in_a_text_is_19_in_the_verdict() {
+    let (mut one, _) = editor(four(), 14, 1, &[]);
+    let called = call(0, N, &[]);
+    assert_eq!(edit(&mut one, INSERT, 4, &[called], &[]), "refused 19 4 walked 5, stored {}");
+    assert_eq!(edit(&mut one, REPLACE, 4, &bundle(vec![called]), &[]), "not edited 6 4, stored {}");
+}

@@ -61,8 +61,6 @@ pub(crate) struct Names {
     objects: i32,
     terminated_objects: u32,
     rows: i32,
-    /// Whether kind 15 is a statement here.
-    has_calls: bool,
     /// Gathered on the way.
     pub(crate) compared: u16,
 }
@@ -80,14 +78,8 @@ impl Names {
             objects: objects.len() as i32,
             terminated_objects: objects.iter().rev().fold(0, |mask, o| mask << 1 | u32::from(o.terminated)),
             rows: rows as i32,
-            has_calls: false,
             compared: 0,
         }
-    }
-
-    /// Of a routine of a set.
-    pub(crate) fn with_calls(self) -> Names {
-        Names { has_calls: true, ..self }
     }
 
     fn integer(&self, word: i32) -> Option<Var> {
@@ -205,9 +197,8 @@ impl Names {
             12 => Statement::While { condition: self.condition(a, b, c, d)?, count: u32::try_from(e).ok()? },
             13 => Statement::Bundle { count: a },
             14 => Statement::Declare { p: self.pointer(a)?, row: self.row(b)? },
-            15 if self.has_calls => {
-                let arguments =
-                    [self.argument(c)?, self.argument(d)?, self.argument(e)?, self.argument(f)?];
+            15 => {
+                let arguments = [self.argument(c)?, self.argument(d)?, self.argument(e)?, self.argument(f)?];
                 self.compared |= arguments.iter().flatten().fold(0, |mask, v| mask | 1 << v);
                 Statement::Call(Call { callee: a, result: self.index(b)?, arguments })
             }

@@ -24,20 +24,11 @@ pub const ROW_WORDS: usize = 6;
 
 /// Decodes the table of a routine by itself, or gives the first refusal of causes 1 to 6.
 pub fn decode(words: &[i32]) -> Result<Routine, Refusal> {
-    read(words, Role::Alone)
+    decode_member(words, None)
 }
 
 /// The same of a routine of a set (point 14), which has the objects of routine 0, unless it is that one.
-pub fn decode_member(words: &[i32], objects: Option<&[Object]>) -> Result<Routine, Refusal> {
-    read(words, Role::Member { objects })
-}
-
-enum Role<'a> {
-    Alone,
-    Member { objects: Option<&'a [Object]> },
-}
-
-fn read(words: &[i32], role: Role) -> Result<Routine, Refusal> {
+pub fn decode_member(words: &[i32], of_all: Option<&[Object]>) -> Result<Routine, Refusal> {
     // Point 2: "A first offset of 8 means a fourth pair and section"; every other table keeps its limit.
     let (pairs, most) = if words.first() == Some(&8) { (4, MAX_WORDS_WITH_ROWS) } else { (3, MAX_WORDS) };
     if words.len() < 6 || words.len() > most {
@@ -46,17 +37,16 @@ fn read(words: &[i32], role: Role) -> Result<Routine, Refusal> {
     let Some([objects, variables, statements, rows]) = sections(words, pairs) else {
         return Err(Refusal::at(2, 0));
     };
-    let objects = match role {
+    let objects = match of_all {
         // "Only routine 0 lists objects, for all (else 3, place 0)".
-        Role::Member { objects: Some(_) } if !objects.is_empty() => return Err(Refusal::at(3, 0)),
-        Role::Member { objects: Some(of_all) } => of_all.to_vec(),
-        _ => read_objects(objects)?,
+        Some(_) if !objects.is_empty() => return Err(Refusal::at(3, 0)),
+        Some(of_all) => of_all.to_vec(),
+        None => read_objects(objects)?,
     };
     let ends = Ends::new(variables);
     let (kinds, bounds, sizes) = read_variables(variables, &ends)?;
     let rows = read_rows(rows, kinds.len(), &ends)?;
-    let names = Names::new(&kinds, &objects, rows.len());
-    let mut names = if let Role::Member { .. } = role { names.with_calls() } else { names };
+    let mut names = Names::new(&kinds, &objects, rows.len());
     let statements = read_statements(statements, &mut names)?;
     check_block(&statements, 0, statements.len(), 0).map_err(|place| Refusal::at(6, place))?;
     Ok(Routine { objects, kinds, bounds, sizes, rows, statements, compared: names.compared })

@@ -87,7 +87,7 @@ pub fn fill(draft: &mut Draft) {
 
 /// Breaks one rule of causes 2 to 6 in the records; a later one may break it again.
 pub fn break_record(rng: &mut Rng, draft: &mut Draft) {
-    match rng.below(13) {
+    match rng.below(15) {
         0 => draft.objects.resize(17, 1),
         1 => draft.variables.resize(rng.pick(&[0, 17]), [0; VARIABLE_WORDS]),
         2 => draft.statements.resize(rng.pick(&[1_024, 1_025]), [4, 0, 0, 0, 0, 0, 0]),
@@ -118,6 +118,7 @@ pub fn break_record(rng: &mut Rng, draft: &mut Draft) {
         }
         7 | 8 => break_row(rng, draft),
         9 => break_declaration(rng, draft),
+        13 | 14 => put_call(rng, draft),
         _ => break_head(rng, draft),
     }
 }
@@ -145,6 +146,17 @@ fn break_declaration(rng: &mut Rng, draft: &mut Draft) {
         0 => draft.statements[s][rng.range(3, 6) as usize] = 1,
         1 => draft.statements[s][1] = rng.range(-1, draft.variables.len() as i32),
         _ => draft.statements[s][2] = rng.pick(&[-1, rows - 1, rows, rows + 1]),
+    }
+}
+
+/// A call where another statement stood: of a routine by itself it reads, and is 19 (point 14).
+fn put_call(rng: &mut Rng, draft: &mut Draft) {
+    let word = |rng: &mut Rng| if rng.chance(60) { -1 } else { rng.range(-1, 16) };
+    let record = [15, rng.range(-1, 1), word(rng), word(rng), word(rng), word(rng), word(rng)];
+    let s = rng.below(draft.statements.len());
+    match draft.statements.get_mut(s) {
+        Some(statement) if statement[0] < 11 => *statement = record,
+        _ => draft.statements.push(record),
     }
 }
 
