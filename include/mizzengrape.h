@@ -4,6 +4,7 @@
    rules accept it; mizzengrape_run runs an accepted one on memory that the caller lends. With a list of loop facts beside the table they are
    mizzengrape_check_with_facts, which also reports the accesses that cannot fail, and mizzengrape_run_with_facts. mizzengrape_dispatch runs several in turn.
    mizzengrape_edit_start and mizzengrape_edit change a table one statement at a time and give its verdict each time.
+   mizzengrape_check_set and mizzengrape_run_set are for routines that call each other.
 
    Tables. A table begins with pairs of offset and length: objects, variables, statements; the first offset is 6, and the table has at most 7,318 words.
    - A first offset of 8 means a fourth pair and section, bounds rows of six words behind the statements: bounds that statements of kind 14 declare for a
@@ -19,9 +20,9 @@
    Then they are known in the body and after the loop; else the list is refused with 17. Nobody has to trust who wrote the list.
 
    Calls. Every slice is a pointer and a length in elements. Nothing is kept after a call, and nothing is allocated. There are two ways in:
-   - mizzengrape_check, mizzengrape_run, the same .._with_facts, mizzengrape_dispatch, mizzengrape_edit_start and mizzengrape_edit are the proved functions.
-     Their caller promises of each slice that its pointer is not null (also where the length is 0), is aligned to four bytes (one of uint64_t to the
-     alignment of that type, mostly eight) and has that many elements of memory behind it; and that a slice that is written overlaps no other.
+   - mizzengrape_check, mizzengrape_run, the same .._with_facts and .._set, mizzengrape_dispatch, mizzengrape_edit_start and mizzengrape_edit are the proved
+     functions. Their caller promises of each slice that its pointer is not null (also where the length is 0), is aligned to four bytes (one of uint64_t to
+     the alignment of that type, mostly eight) and has that many elements of memory behind it; and that a slice that is written overlaps no other.
    - mizzengrape_try_check and so on, the same names with try_, below, ask for less: they look at null, alignment and overlap first, and answer what is wrong
      without calling. What no program can see is left to the caller: that a pointer has that many elements behind it, and that no other thread writes them.
 
@@ -68,9 +69,17 @@
    - An edit drops the places behind its position, and walks from the last one at or before it, else from the start. So a position kept at each 16th statement
      lets an edit near the end walk little more than the end. An edit writes the statements' part of the table, the pairs of its directory that name their
      length and the rows' offset, and the rows behind them; the words of the buffer behind the new table stay.
-   - An edit that is refused (18; 5 or 6 for its text) changes neither table nor store. An edit whose verdict is a refusal (8, 9, 13) is made all the same.
+   - An edit that is refused (18; 5 or 6 for its text) changes neither table nor store. An edit whose verdict is a refusal (8, 9, 13, 19) is made all the same.
    - Between the calls nobody else may write the table or the store, else the verdict says nothing; the calls end and answer all the same, and write nothing
-     but table, store and answer. To begin anew call mizzengrape_edit_start. */
+     but table, store and answer. To begin anew call mizzengrape_edit_start.
+
+   Routines that call each other. A set is 1 to 8 tables, numbered in their order; a statement of kind 15 calls a routine with a lower number than its own: its
+   words are 15, the callee, the integer variable that takes the result or -1, then four argument variables, unused ones -1 at the end. The callee's first
+   variables take the arguments; its other integers are 0 and its other pointers null, anew at each call. The result is the value of its last variable, which
+   has to be an integer. Only table 0 lists objects, and all routines name those; the other tables have none. The bounds of a variable that takes an argument
+   may name only variables that take one too, and have to be shown for the arguments at the call; else it is refused with 20. A run begins in the last
+   routine, and values and origins are that routine's. A step in a callee is a step of the run, and the step that ends the callee's table hands the result
+   over. In a routine by itself, for every other call here, a statement of kind 15 is refused with 19. */
 #ifndef MIZZENGRAPE_H
 #define MIZZENGRAPE_H
 
@@ -105,6 +114,11 @@
 /* The words of the answer of an editing call. */
 #define MIZZENGRAPE_EDIT_ANSWER_WORDS 6
 
+/* The room that the calls for sets are lent, in elements. */
+#define MIZZENGRAPE_SET_MEMBER_WORDS 7720
+#define MIZZENGRAPE_SET_ENDS MIZZENGRAPE_DISPATCH_ENDS
+#define MIZZENGRAPE_SET_SUCCESSORS MIZZENGRAPE_DISPATCH_SUCCESSORS
+
 #ifdef __cplusplus
 extern "C" {
 #endif
@@ -117,7 +131,7 @@ typedef enum mizzengrape_refusal {
     MIZZENGRAPE_ACCEPTED = 0,
     MIZZENGRAPE_REFUSED_LENGTH = 1,      /* [0] the table has fewer than 6 or more than 7,318 words; 7,704 where its first word is 8 */
     MIZZENGRAPE_REFUSED_DIRECTORY = 2,   /* [0] its sections do not lie one behind the other, or hold too many or too few records */
-    MIZZENGRAPE_REFUSED_OBJECT = 3,      /* [object] its length, without its sign, is not 1 to 1,000,000 */
+    MIZZENGRAPE_REFUSED_OBJECT = 3,      /* [object] its length, without its sign, is not 1 to 1,000,000; [0] a routine of a set but the first lists one */
     MIZZENGRAPE_REFUSED_VARIABLE = 4,    /* [variable, or number of variables plus row] its record is wrong */
     MIZZENGRAPE_REFUSED_STATEMENT = 5,   /* [statement] its record is wrong: kind, a field, what a field names */
     MIZZENGRAPE_REFUSED_BLOCK = 6,       /* [statement] a block past its parent's end, too deep, or a bundle's count or contents */
@@ -130,12 +144,15 @@ typedef enum mizzengrape_refusal {
     MIZZENGRAPE_REFUSED_ENTRY = 12,      /* [variable] an origin is wrong, or the bounds are untrue at entry */
     MIZZENGRAPE_REFUSED_ROWS = 13,       /* [if or while] its two sides, or head and end of its body, leave different rows in force */
     MIZZENGRAPE_REFUSED_OVERLAP = 14,    /* [routine] of a dispatch: the first that has an object with a cell in common with an earlier routine's */
-    MIZZENGRAPE_REFUSED_TURNS = 15,      /* [0] of a dispatch: not 1 to 8 routines, or turns of other than 1 to 1,000 steps */
+    MIZZENGRAPE_REFUSED_TURNS = 15,      /* [0] of a dispatch or a set: not 1 to 8 routines, or turns of other than 1 to 1,000 steps */
     MIZZENGRAPE_REFUSED_TERMINATOR = 16, /* [object] the last cell of a terminated object is not 0 at entry */
     MIZZENGRAPE_REFUSED_FACT = 17,       /* [entry] of the list of loop facts: it is cut short, unsorted or names wrongly, or its fact is not shown before
                                             the loop or at the body's end; 256 where there are more entries */
-    MIZZENGRAPE_REFUSED_EDIT = 18        /* [position] of an edit: no statement outside of all blocks has it (an insertion may follow the last), the table
+    MIZZENGRAPE_REFUSED_EDIT = 18,       /* [position] of an edit: no statement outside of all blocks has it (an insertion may follow the last), the table
                                             would have more than 1,024 statements or more words than its buffer, or no such operation */
+    MIZZENGRAPE_REFUSED_CALLEE = 19,     /* [statement] a call of a routine whose number is not below its caller's; a routine by itself has none to call */
+    MIZZENGRAPE_REFUSED_ARGUMENTS = 20   /* [statement] a call whose arguments do not fit the callee's first variables or are not shown in their bounds, or
+                                            of a callee whose last variable is no integer */
 } mizzengrape_refusal;
 
 /* What mizzengrape_edit does at a position, the number of a statement in the table. */
@@ -185,6 +202,8 @@ static inline const char *mizzengrape_refusal_text(uint32_t number)
     case MIZZENGRAPE_REFUSED_TERMINATOR: return "the last cell of a terminated object is not 0";
     case MIZZENGRAPE_REFUSED_FACT: return "a loop fact that is not shown or does not fit";
     case MIZZENGRAPE_REFUSED_EDIT: return "an edit that has no such place, or no room";
+    case MIZZENGRAPE_REFUSED_CALLEE: return "a call of a routine that is not before its caller";
+    case MIZZENGRAPE_REFUSED_ARGUMENTS: return "the arguments of a call do not fit the routine it calls";
     default: return "refused";
     }
 }
@@ -204,7 +223,7 @@ static inline const char *mizzengrape_stop_text(uint32_t number)
 }
 
 /* Checks a routine table. The answer's words, the others stay:
-     answer[0]  0 accepted, else the number of the refusal, 1 to 9 (7 is unused) or 13
+     answer[0]  0 accepted, else the number of the refusal, 1 to 9 (7 is unused), 13 or 19
      answer[1]  0 accepted, else the refusal's place
      answer[2]  for refusal 8 the lowest pointer variable whose declared bounds are not shown there, of a kind 14 its own; else 0
    True; or false, and nothing written, where answer_len is below 3. */
@@ -212,7 +231,7 @@ bool mizzengrape_check(const int32_t *table, size_t table_len, uint32_t *answer,
 
 /* Runs a routine table on lent cells and values, limit steps at most. The answer's words, the others stay:
      answer[0]       0 done    1 spent     2 stopped    3 refused
-     answer[1]       steps     steps       steps        number of the refusal, 1 to 13 or 16
+     answer[1]       steps     steps       steps        number of the refusal, 1 to 13, 16 or 19
      answer[2]       0         statement   statement    its place
      answer[3]       0         0           check 1..6   for refusal 8 the pointer variable as for a check, else 0
    Each statement begun is a step; a while is one at each test, a bundle's head is one, and so is a statement that stops the run. The statement of a spent
@@ -273,7 +292,7 @@ bool mizzengrape_dispatch(const int32_t *tables, size_t tables_len, const int32_
 /* Takes the table of length words at the beginning of a buffer of table_len words (a length beyond the buffer counts as the buffer's), so that it can be
    edited there, and walks all of it. What the store held is dropped; the positions of keep are stored as the walk comes to them. The buffer is only read.
    The answer's words, the others stay:
-     answer[0]  0 accepted, else the number of the verdict's refusal, 8, 9 or 13; or 1 to 6, and the table is not taken
+     answer[0]  0 accepted, else the number of the verdict's refusal, 8, 9, 13 or 19; or 1 to 6, and the table is not taken
      answer[1]  0 accepted, else the refusal's place
      answer[2]  for refusal 8 the pointer as for a check, else 0
      answer[3]  statements walked, those of blocks too, up to the last begun; 0 where the table is not taken
@@ -286,7 +305,7 @@ bool mizzengrape_edit_start(const int32_t *table, size_t table_len, size_t lengt
 /* Edits the table in the buffer at a position; its length is read from its directory. The text is the new statement with its blocks, seven words a record.
    Store and keep as above; the store is the one that the call before left. The answer's words, the others stay:
                  edited                                       not edited: table and store stay
-     answer[0]   verdict on the new table: 0, 8, 9 or 13      18; or of a text 5 (a record is wrong) or 6 (not one statement with its blocks)
+     answer[0]   verdict on the new table: 0, 8, 9, 13 or 19  18; or of a text 5 (a record is wrong) or 6 (not one statement with its blocks)
      answer[1]   0 accepted, else the refusal's place         position
      answer[2]   for refusal 8 the pointer, else 0            0
      answer[3]   statements walked                            0
@@ -297,10 +316,39 @@ bool mizzengrape_edit_start(const int32_t *table, size_t table_len, size_t lengt
 bool mizzengrape_edit(int32_t *table, size_t table_len, uint32_t operation, uint32_t position, const int32_t *text, size_t text_len, uint64_t *store,
                       size_t store_len, const uint32_t *keep, size_t keep_len, uint32_t *answer, size_t answer_len);
 
+/* The room that the calls for sets work in, 127 KB, as one object: a check needs member alone. Nobody has to set its contents, and nobody may rely on them. */
+typedef struct mizzengrape_set_room {
+    uint64_t ends[MIZZENGRAPE_SET_ENDS];
+    uint32_t successors[MIZZENGRAPE_SET_SUCCESSORS];
+    int32_t member[MIZZENGRAPE_SET_MEMBER_WORDS];
+} mizzengrape_set_room;
+
+/* Checks a set of routines. Their tables lie one behind the other in tables; lengths has one word a routine, the length of its table. A table that reaches past
+   the slice is cut there, and judged by what is left of it. The answer's words, the others stay:
+     answer[0]  0 accepted, else the number of the refusal: as for a check, 19 or 20, of the first routine that is refused; or 15, which comes before all else
+     answer[1]  0 accepted, else the refusal's place
+     answer[2]  for refusal 8 the pointer variable as for a check, else 0
+     answer[3]  the routine that is refused; of 15 and where accepted 0
+   True; or false, and nothing written, where answer_len is below 4 or member_len below MIZZENGRAPE_SET_MEMBER_WORDS. */
+bool mizzengrape_check_set(const int32_t *tables, size_t tables_len, const uint32_t *lengths, size_t lengths_len, int32_t *member, size_t member_len,
+                           uint32_t *answer, size_t answer_len);
+
+/* Runs a set of routines from its last one on, limit steps at most; directory is of table 0's objects, values and origins are of the last routine's
+   variables. The answer's words, the others stay:
+     answer[0..3]  as mizzengrape_run answers them, of the routine that runs then
+     answer[4]     the routine of a spent, stopped or refused run (of 10, 11, 12 and 16 the last one); 0 where it is done or refused with 15
+   values holds the last routine's variables then, also where a callee is running.
+   True; or false, and nothing written, where answer_len is below 5, member_len below MIZZENGRAPE_SET_MEMBER_WORDS, ends_len below MIZZENGRAPE_SET_ENDS or
+   successors_len below MIZZENGRAPE_SET_SUCCESSORS. */
+bool mizzengrape_run_set(const int32_t *tables, size_t tables_len, const uint32_t *lengths, size_t lengths_len, const uint32_t *directory,
+                         size_t directory_len, uint32_t *cells, size_t cells_len, uint32_t *values, size_t values_len, const uint32_t *origins,
+                         size_t origins_len, uint32_t limit, int32_t *member, size_t member_len, uint64_t *ends, size_t ends_len,
+                         uint32_t *successors, size_t successors_len, uint32_t *answer, size_t answer_len);
+
 /* What a guarded call says. Unless it says ANSWERED nothing has been written. */
 typedef enum mizzengrape_call {
     MIZZENGRAPE_ANSWERED = 0,
-    MIZZENGRAPE_NO_ROOM = 1,   /* the answer, the report or the room of a dispatch has too few elements */
+    MIZZENGRAPE_NO_ROOM = 1,   /* the answer, the report or the lent room has too few elements */
     MIZZENGRAPE_BAD_SLICE = 2, /* null with a length above 0, not aligned as its elements are, or past the end of the address space */
     MIZZENGRAPE_OVERLAP = 3    /* a slice that is written overlaps another */
 } mizzengrape_call;
@@ -472,6 +520,45 @@ static inline mizzengrape_call mizzengrape_try_edit(int32_t *table, size_t table
     mizzengrape_edit((int32_t *)mizzengrape_start(table, table_len), table_len, operation, position, (const int32_t *)mizzengrape_start(text, text_len),
                      text_len, (uint64_t *)mizzengrape_start(store, store_len), store_len, (const uint32_t *)mizzengrape_start(keep, keep_len), keep_len,
                      answer, answer_len);
+    return MIZZENGRAPE_ANSWERED;
+}
+
+/* mizzengrape_check_set, guarded. */
+static inline mizzengrape_call mizzengrape_try_check_set(const int32_t *tables, size_t tables_len, const uint32_t *lengths, size_t lengths_len,
+                                                         int32_t *member, size_t member_len, uint32_t *answer, size_t answer_len)
+{
+    const void *const start[4] = {answer, member, tables, lengths};
+    const size_t len[4] = {answer_len, member_len, tables_len, lengths_len};
+    const mizzengrape_call call = mizzengrape_guard(start, len, 4, 2);
+    if (call != MIZZENGRAPE_ANSWERED)
+        return call;
+    if (answer_len < 4 || member_len < MIZZENGRAPE_SET_MEMBER_WORDS)
+        return MIZZENGRAPE_NO_ROOM;
+    mizzengrape_check_set((const int32_t *)mizzengrape_start(tables, tables_len), tables_len, (const uint32_t *)mizzengrape_start(lengths, lengths_len),
+                          lengths_len, member, member_len, answer, answer_len);
+    return MIZZENGRAPE_ANSWERED;
+}
+
+/* mizzengrape_run_set, guarded. */
+static inline mizzengrape_call mizzengrape_try_run_set(const int32_t *tables, size_t tables_len, const uint32_t *lengths, size_t lengths_len,
+                                                       const uint32_t *directory, size_t directory_len, uint32_t *cells, size_t cells_len,
+                                                       uint32_t *values, size_t values_len, const uint32_t *origins, size_t origins_len,
+                                                       uint32_t limit, int32_t *member, size_t member_len, uint64_t *ends, size_t ends_len,
+                                                       uint32_t *successors, size_t successors_len, uint32_t *answer, size_t answer_len)
+{
+    const void *const start[10] = {answer, cells, values, member, ends, successors, tables, lengths, directory, origins};
+    const size_t len[10] = {answer_len,     cells_len,  values_len,  member_len,    mizzengrape_words_of_64(ends_len),
+                            successors_len, tables_len, lengths_len, directory_len, origins_len};
+    const mizzengrape_call call = mizzengrape_is_aligned_64(ends) ? mizzengrape_guard(start, len, 10, 6) : MIZZENGRAPE_BAD_SLICE;
+    if (call != MIZZENGRAPE_ANSWERED)
+        return call;
+    if (answer_len < 5 || member_len < MIZZENGRAPE_SET_MEMBER_WORDS || ends_len < MIZZENGRAPE_SET_ENDS || successors_len < MIZZENGRAPE_SET_SUCCESSORS)
+        return MIZZENGRAPE_NO_ROOM;
+    mizzengrape_run_set((const int32_t *)mizzengrape_start(tables, tables_len), tables_len, (const uint32_t *)mizzengrape_start(lengths, lengths_len),
+                        lengths_len, (const uint32_t *)mizzengrape_start(directory, directory_len), directory_len,
+                        (uint32_t *)mizzengrape_start(cells, cells_len), cells_len, (uint32_t *)mizzengrape_start(values, values_len), values_len,
+                        (const uint32_t *)mizzengrape_start(origins, origins_len), origins_len, limit, member, member_len, ends, ends_len, successors,
+                        successors_len, answer, answer_len);
     return MIZZENGRAPE_ANSWERED;
 }
 

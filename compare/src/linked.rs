@@ -3,8 +3,9 @@
 use crate::edits::{EditCase, Edited};
 use crate::linked_editor;
 use crate::proved::{CheckWords, Checked, Implementation, RunWords};
+use crate::sets::{SetCheckWords, SetParts, SetRunWords};
 use crate::turns::{Parts, TurnsWords};
-use mizzengrape::{Outcome, Refusal, Room, Turns, Verdict};
+use mizzengrape::{Lent, Outcome, Refusal, Room, Set, SetRoom, SetVerdict, Turns, Verdict};
 use oracle::answer::RunInput;
 
 pub struct Proved;
@@ -76,5 +77,25 @@ impl Implementation for Proved {
 
     fn edits(&self, case: &EditCase) -> Edited {
         linked_editor::edits(case)
+    }
+
+    fn check_set(&self, parts: &SetParts) -> Option<SetCheckWords> {
+        let set = Set { tables: &parts.tables, lengths: &parts.lengths };
+        Some(match mizzengrape::check_set_parts(set, &mut SetRoom::default()) {
+            SetVerdict::Accepted => [0; 4],
+            SetVerdict::Refused { routine, refusal } => {
+                let [number, place, pointer] = refusal_words(refusal);
+                [number, place, pointer, routine]
+            }
+        })
+    }
+
+    fn run_set(&self, parts: &mut SetParts) -> Option<SetRunWords> {
+        let set = Set { tables: &parts.tables, lengths: &parts.lengths };
+        let RunInput { directory, cells, values, origins, allowance } = &mut parts.input;
+        let mut lent = Lent { directory, cells, values, origins };
+        let ended = mizzengrape::run_set_parts(set, &mut lent, *allowance, &mut SetRoom::default());
+        let [a, b, c, d] = outcome_words(ended.outcome);
+        Some([a, b, c, d, ended.routine])
     }
 }

@@ -1,5 +1,5 @@
 /* Embedding in C: checks a routine for late entries, runs it for three boats, shows what wrong arguments are answered, and what a list of loop facts adds;
-   then runs both laptops' routines in turn, and edits the routine with the verdict alongside.
+   then runs both laptops' routines in turn, edits the routine with the verdict alongside, and runs a scoring routine that calls the handicap formula.
    The memory: cell 0 is in no object, cells 1 and 2 are one laptop's block, cells 3 and 4 the other's. */
 #include <stdio.h>
 
@@ -75,6 +75,25 @@ static const int32_t i_below_rows[] = {2, 2, 1, -1};  /* i <= rows - 1, which is
     2, 3, 3, -1, 0, 0, 0        /* 7:   boats := boats - 1 */
 static const int32_t laptops[] = {LAPTOP, LAPTOP};
 static const uint32_t laptop_lengths[] = {95, 0, 2, 4, 4, 95, 0, 2, 4, 4};
+
+/* The handicap formula, and a routine that calls it for a row of its block: two tables, of which the first lists the objects of both. */
+static const int32_t scored[] = {
+    6, 1, 7, 24, 31, 7,
+    2,                          /* object 0: a block of 2 cells, time and corrected time */
+    0, 0, 0, 0, 0, 0, 0, 0,     /* variable 0: time */
+    0, 0, 0, 0, 0, 0, 0, 0,     /* variable 1: factor */
+    0, 0, 0, 0, 0, 0, 0, 0,     /* variable 2: corrected, the result */
+    3, 2, 0, 1, 2, 0, 0,        /* 0: corrected := time * factor */
+
+    6, 0, 6, 24, 30, 21,
+    1, 0, 0, -1, 0, 0, -1, 2,   /* variable 0: row, array_ptr with count(2) */
+    0, 0, 0, 0, 0, 0, 0, 0,     /* variable 1: factor */
+    0, 0, 0, 0, 0, 0, 0, 0,     /* variable 2: time */
+    8, 2, 0, -1, 0, 0, 0,       /* 0: time := row[0] */
+    15, 0, 2, 2, 1, -1, -1,     /* 1: time := routine 0 of time and factor */
+    9, 0, -1, 1, 2, 0, 0,       /* 2: row[1] := time */
+};
+static const uint32_t scored_lengths[] = {38, 51};
 
 static const uint32_t directory[] = {1, 2, 3, 2};
 static const uint32_t origins[] = {1, 0, 0};
@@ -276,6 +295,39 @@ static void editing(void)
     printf(" answer %u\n", (unsigned)answer[0]);
 }
 
+/* The scoring routine on a block of its own, with these lengths of what is lent and so many steps. */
+static void score(const char *what, size_t lengths_len, size_t values_len, uint32_t limit, size_t member_len)
+{
+    static mizzengrape_set_room room;
+    static const uint32_t of_block[] = {1, 0, 0}, block[] = {1, 2};
+    uint32_t memory[] = {0, 700, 0}, entry[] = {1, 3, 0}, answer[5];
+    mizzengrape_call call = mizzengrape_try_check_set(scored, LENGTH(scored), scored_lengths, lengths_len, room.member, member_len, answer, 4);
+    if (call != MIZZENGRAPE_ANSWERED) {
+        printf("%s: call %d\n", what, (int)call);
+        return;
+    }
+    printf("%s: checked %u %u %u %u", what, (unsigned)answer[0], (unsigned)answer[1], (unsigned)answer[2], (unsigned)answer[3]);
+    call = mizzengrape_try_run_set(scored, LENGTH(scored), scored_lengths, lengths_len, block, 2, memory, LENGTH(memory), entry, values_len, of_block, 3,
+                                   limit, room.member, member_len, room.ends, LENGTH(room.ends), room.successors, LENGTH(room.successors), answer, 5);
+    if (call != MIZZENGRAPE_ANSWERED) {
+        printf(", call %d\n", (int)call);
+        return;
+    }
+    printf(", ran %u %u %u %u of routine %u, cells %u %u %u\n", (unsigned)answer[0], (unsigned)answer[1], (unsigned)answer[2], (unsigned)answer[3],
+           (unsigned)answer[4], (unsigned)memory[0], (unsigned)memory[1], (unsigned)memory[2]);
+}
+
+static void sets(void)
+{
+    score("a score", 2, 3, 100, MIZZENGRAPE_SET_MEMBER_WORDS);
+    score("two steps", 2, 3, 2, MIZZENGRAPE_SET_MEMBER_WORDS);
+    score("two values for three", 2, 2, 100, MIZZENGRAPE_SET_MEMBER_WORDS);
+    score("the formula alone", 1, 3, 100, MIZZENGRAPE_SET_MEMBER_WORDS);
+    score("no routine", 0, 3, 100, MIZZENGRAPE_SET_MEMBER_WORDS);
+    score("a member one word short", 2, 3, 100, MIZZENGRAPE_SET_MEMBER_WORDS - 1);
+    check("a call in a routine alone", scored + 38, 51, 3);
+}
+
 static void wrong_pointers(void)
 {
     uint32_t answer[4];
@@ -327,5 +379,6 @@ int main(void)
     turns();
     wrong_room();
     editing();
+    sets();
     return 0;
 }

@@ -1,5 +1,5 @@
-/* All calls, for the deepest tables, eight of them in turn and each edited, on a thread whose stack has exactly MIZZENGRAPE_STACK_BYTES and a page below it
-   that ends the program. */
+/* All calls, for the deepest tables, eight of them in turn, each edited, and eight that call each other, on a thread whose stack has exactly
+   MIZZENGRAPE_STACK_BYTES and a page below it that ends the program. */
 #define _DEFAULT_SOURCE
 #include <pthread.h>
 #include <stdio.h>
@@ -152,6 +152,38 @@ static int dispatched(size_t facts_len)
     return 1;
 }
 
+/* Eight routines, each of them ifs within ifs to the greatest depth, and there a call of the one before with row and rows: accepted, and done. */
+static int called(void)
+{
+    static int32_t tables[ROUTINES * WORDS];
+    static mizzengrape_set_room room;
+    static const uint32_t directory[] = {1, 3}, origins[] = {1, 0};
+    uint32_t cells[4] = {0}, values[] = {1, 3}, lengths[ROUTINES], answer[5];
+    size_t tables_len = 0;
+    for (int32_t r = 0; r < ROUTINES; r++) {
+        const int32_t objects = r == 0, statements = DEPTH + 1;
+        const int32_t pairs[] = {6, objects, 6 + objects, 16, 22 + objects, 7 * statements};
+        table_len = 0;
+        put(pairs, 6);
+        put(declared + 1 - objects, (size_t)(16 + objects));
+        for (int32_t depth = DEPTH - 1; depth >= 0; depth--)
+            statement(11, 1, 2, 1, 0, 1 + depth, 0); /* if (rows > 0) */
+        if (r == 0)
+            statement(9, 0, -1, 0, 1, 0, 0); /* row[0] = rows */
+        else
+            statement(15, r - 1, -1, 0, 1, -1, -1); /* the routine before, of row and rows */
+        memcpy(tables + tables_len, table, table_len * sizeof *table);
+        tables_len += table_len;
+        lengths[r] = (uint32_t)table_len;
+    }
+    return mizzengrape_try_check_set(tables, tables_len, lengths, ROUTINES, room.member, MIZZENGRAPE_SET_MEMBER_WORDS, answer, 4) == MIZZENGRAPE_ANSWERED
+           && answer[0] == 0
+           && mizzengrape_try_run_set(tables, tables_len, lengths, ROUTINES, directory, 2, cells, 4, values, 2, origins, 2, 1000, room.member,
+                                      MIZZENGRAPE_SET_MEMBER_WORDS, room.ends, MIZZENGRAPE_SET_ENDS, room.successors, MIZZENGRAPE_SET_SUCCESSORS, answer, 5)
+                  == MIZZENGRAPE_ANSWERED
+           && answer[0] == 0 && answer[1] == ROUTINES * (DEPTH + 1) && cells[1] == 3;
+}
+
 static void *calls(void *wrong)
 {
     for (int with_row = 0; with_row < 2; with_row++) {
@@ -160,6 +192,7 @@ static void *calls(void *wrong)
     }
     deepest_loops();
     *(int *)wrong |= !answers(4 * ENTRIES) || !dispatched(4 * ENTRIES) || !edited(1, (size_t)table[5] / 7 - 1);
+    *(int *)wrong |= !called();
     return NULL;
 }
 

@@ -41,3 +41,16 @@ for position, text in ((3, [1, 2, 0, 0, 0, 0, 0]), (0, [2, 3, 3, 1, 0, 0, 0])):
         editor.replace(position, text)
     except mizzengrape.Refused as refused:
         print(refused, editor.kept)
+
+# The handicap formula, and a routine that calls it for a row of its block, as in examples/c/main.c.
+FORMULA = [6, 1, 7, 24, 31, 7, 2] + [0] * 24 + [3, 2, 0, 1, 2, 0, 0]
+SCORE = [6, 0, 6, 24, 30, 21, 1, 0, 0, -1, 0, 0, -1, 2] + [0] * 16 + [8, 2, 0, -1, 0, 0, 0, 15, 0, 2, 2, 1, -1, -1, 9, 0, -1, 1, 2, 0, 0]
+mizzengrape.check_set([FORMULA, SCORE])
+for limit in (100, 2):
+    run = mizzengrape.run_set([FORMULA, SCORE], [1, 2], [0, 700, 0], [1, 3, 0], [1, 0, 0], limit)
+    print("score", run.outcome, run.steps, run.routine, run.statement, run.cells)
+for wrong in ([SCORE, FORMULA], []):
+    try:
+        mizzengrape.check_set(wrong)
+    except mizzengrape.Refused as refused:
+        print(refused, refused.routine)

@@ -6,6 +6,8 @@
     run.outcome, run.steps, run.values, run.cells           # "done", 5, [..], [..]
     editor = mizzengrape.Editor(routine.table, places=64)   # takes a table to change it a statement at a time
     editor.insert(0, [1, 1, 5, 0, 0, 0, 0]).refusal         # None where the table is accepted as it then is
+    mizzengrape.check_set(tables)                           # routines that call each other
+    run = mizzengrape.run_set(tables, directory, cells, values, origins)
 
 The library is found by the variable MIZZENGRAPE_LIBRARY, beside this file, in the folder `lib` above it, or by the system.
 """
@@ -36,6 +38,8 @@ REFUSALS = {
     16: "the last cell of a terminated object is not 0",
     17: "a loop fact that is not shown or does not fit",
     18: "an edit that has no such place, or no room",
+    19: "a call of a routine that is not before its caller",
+    20: "the arguments of a call do not fit the routine it calls",
 }
 STOPS = {
     1: "a dynamic check is false",
@@ -48,16 +52,19 @@ STOPS = {
 REPORT_WORDS = 1024
 PLACE_WORDS = 307
 TABLE_WORDS = 7704
+SET_MEMBER_WORDS, SET_ENDS, SET_SUCCESSORS = 7720, 4096, 16384
 
 
 class Refused(Exception):
-    """A routine or a run that is refused: its number, its place, for 8 the pointer, what the number means."""
+    """A routine or a run that is refused: its number, its place, for 8 the pointer, what the number means; of a set the routine."""
 
-    def __init__(self, number: int, place: int, pointer: int):
+    def __init__(self, number: int, place: int, pointer: int, routine: Optional[int] = None):
         self.number, self.place = number, place
         self.pointer = pointer if number == 8 else None
+        self.routine = routine if number != 15 else None
         self.text = REFUSALS.get(number, "refused")
-        super().__init__(f"refused {number} {place}: {self.text}")
+        of_set = "" if self.routine is None else f"routine {self.routine} "
+        super().__init__(f"refused {of_set}{number} {place}: {self.text}")
 
 
 class Stopped(Exception):
@@ -79,6 +86,7 @@ class Run:
     check: Optional[int]
     values: List[int]
     cells: List[int]
+    routine: Optional[int] = None  # of a set, where it is spent or stopped
 
 
 def _load() -> ctypes.CDLL:
@@ -92,8 +100,8 @@ def _load() -> ctypes.CDLL:
 
 
 _library = _load()
-for _name in ("mizzengrape_check_with_facts", "mizzengrape_run_with_facts", "mizzengrape_edit_start", "mizzengrape_edit"):
-    getattr(_library, _name).restype = ctypes.c_bool
+for _name in ("check_with_facts", "run_with_facts", "edit_start", "edit", "check_set", "run_set"):
+    getattr(_library, f"mizzengrape_{_name}").restype = ctypes.c_bool
 _library.mizzengrape_version.restype = ctypes.c_uint32
 
 
@@ -141,20 +149,53 @@ def run(table, directory, cells, values, origins, limit=1_000_000, facts=(), rai
         ctypes.c_uint32(_limit(limit)),
         *_slices((answer, 4)),
     )
-    outcome, first, second, third = answer
+    return _ended(answer, list(variables)[: len(values)], list(memory)[: len(cells)], None, raise_stop)
+
+
+def _ended(answer, values, cells, routine, raise_stop) -> Run:
+    outcome, first, second, third = answer[:4]
     if outcome == 3:
-        raise Refused(first, second, third)
+        raise Refused(first, second, third, routine)
     ended = Run(
         outcome=("done", "spent", "stopped")[outcome],
         steps=first,
         statement=second if outcome != 0 else None,
         check=third if outcome == 2 else None,
-        values=list(variables)[: len(values)],
-        cells=list(memory)[: len(cells)],
+        values=values,
+        cells=cells,
+        routine=routine if outcome != 0 else None,
     )
     if raise_stop and outcome == 2:
         raise Stopped(ended)
     return ended
+
+
+def _set(tables):
+    """The tables one behind the other, and their lengths."""
+    words, lengths = [word for table in tables for word in table], [len(table) for table in tables]
+    return _slices((_signed(words), len(words)), (_unsigned(lengths), len(lengths)))
+
+
+def check_set(tables: Sequence[Sequence[int]]) -> None:
+    """Checks routines of which later ones call earlier ones; raises Refused with the routine."""
+    member, answer = (ctypes.c_int32 * SET_MEMBER_WORDS)(), (ctypes.c_uint32 * 4)()
+    _library.mizzengrape_check_set(*_set(tables), *_slices((member, SET_MEMBER_WORDS), (answer, 4)))
+    number, place, pointer, routine = answer
+    if number != 0:
+        raise Refused(number, place, pointer, routine)
+
+
+def run_set(tables, directory, cells, values, origins, limit=1_000_000, raise_stop=False) -> Run:
+    """Runs a set from its last routine on, with that routine's values; as `run`."""
+    answer, memory, variables = (ctypes.c_uint32 * 5)(), _unsigned(cells), _unsigned(values)
+    member, ends, successors = (ctypes.c_int32 * SET_MEMBER_WORDS)(), (ctypes.c_uint64 * SET_ENDS)(), (ctypes.c_uint32 * SET_SUCCESSORS)()
+    _library.mizzengrape_run_set(
+        *_set(tables),
+        *_slices((_unsigned(directory), len(directory)), (memory, len(cells)), (variables, len(values)), (_unsigned(origins), len(origins))),
+        ctypes.c_uint32(_limit(limit)),
+        *_slices((member, SET_MEMBER_WORDS), (ends, SET_ENDS), (successors, SET_SUCCESSORS), (answer, 5)),
+    )
+    return _ended(list(answer), list(variables)[: len(values)], list(memory)[: len(cells)], answer[4], raise_stop)
 
 
 def _limit(limit: int) -> int:

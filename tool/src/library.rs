@@ -1,6 +1,7 @@
 //! The proved library, called with what the tool holds: a set of tables and a list of loop facts.
 
 use crate::table::Table;
+use mizzengrape::{SetOutcome, SetVerdict};
 use std::fmt;
 
 pub use mizzengrape::{dispatch, Check, Edit, Outcome, Routine, Turns};
@@ -131,10 +132,18 @@ pub fn check(tables: &[Vec<i32>], facts: &[i32]) -> Asked<Checked> {
     }
 }
 
-const NO_SETS: &str = "this library has no sets of routines";
+/// The check of a set, which has no loop facts and no report.
+fn check_set(tables: &[Vec<i32>]) -> Asked<Verdict> {
+    Ok(match mizzengrape::check_set(&slices(tables)) {
+        SetVerdict::Accepted => Verdict::Accepted,
+        SetVerdict::Refused { routine, refusal } => {
+            Verdict::Refused(Refusal::of_set(routine as usize, refusal))
+        }
+    })
+}
 
-fn check_set(_: &[Vec<i32>]) -> Asked<Verdict> {
-    Err(NO_SETS)
+fn slices(tables: &[Vec<i32>]) -> Vec<&[i32]> {
+    tables.iter().map(Vec::as_slice).collect()
 }
 
 /// The check of one routine with its list of loop facts.
@@ -198,8 +207,12 @@ pub fn run(tables: &[Vec<i32>], facts: &[i32], lent: &mut Lent) -> Asked<Ended> 
     Ok(run.into())
 }
 
-fn run_set(_: &[Vec<i32>], _: &mut Lent) -> Asked<Ended> {
-    Err(NO_SETS)
+/// A run of a set, which begins in its last routine.
+fn run_set(tables: &[Vec<i32>], lent: &mut Lent) -> Asked<Ended> {
+    let Lent { directory, cells, values, origins, allowance } = lent;
+    let mut lent = mizzengrape::Lent { directory, cells, values, origins };
+    let SetOutcome { routine, outcome } = mizzengrape::run_set(&slices(tables), &mut lent, *allowance);
+    Ok(Ended { outcome, routine: Some(routine as usize) })
 }
 
 /// A routine of several that run in turn: what it is lent beside the memory. Its values then hold what its turns left.

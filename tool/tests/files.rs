@@ -216,14 +216,6 @@ fn files_that_are_something_else() {
 }
 
 #[test]
-fn what_the_library_lacks_has_its_line() {
-    let folder = Folder::new("lacks");
-    let two = folder.write("two.c", "void g(unsigned n)\n{\n}\nvoid f(unsigned n)\n{\n    g(n);\n}\n");
-    let line = "two.c:4:6: error: this library has no sets of routines\nvoid f(unsigned n)\n     ^\n";
-    assert_eq!(folder.command(&["check", &two]), Output::wrong(line.to_string()));
-}
-
-#[test]
 fn lost_comments_are_told() {
     let folder = Folder::new("comments");
     let text = folder.write("c.c", "void f(unsigned n)\n{\n    n = 1; // one\n}\n");

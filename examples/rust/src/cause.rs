@@ -23,11 +23,13 @@ pub enum Cause {
     Terminator,
     Fact,
     Edit,
+    Callee,
+    Arguments,
     Other(u32),
 }
 
 /// Each cause with its number and what it means, in a line.
-const CAUSES: [(Cause, u32, &str); 17] = [
+const CAUSES: [(Cause, u32, &str); 19] = [
     (Cause::Length, 1, "the table has too few or too many words"),
     (Cause::Directory, 2, "its sections do not fit, or hold too many or too few records"),
     (Cause::Object, 3, "an object's length is not 1 to 1,000,000 cells"),
@@ -45,6 +47,8 @@ const CAUSES: [(Cause, u32, &str); 17] = [
     (Cause::Terminator, 16, "the last cell of a terminated object is not 0"),
     (Cause::Fact, 17, "a loop fact that is not shown or does not fit"),
     (Cause::Edit, 18, "an edit that has no such place, or no room"),
+    (Cause::Callee, 19, "a call of a routine that is not before its caller"),
+    (Cause::Arguments, 20, "the arguments of a call do not fit the routine it calls"),
 ];
 
 impl From<u32> for Cause {

@@ -3,10 +3,14 @@
 mod cause;
 mod editor;
 mod extern_c;
+mod sets;
 mod turns;
 
 pub use cause::Cause;
 pub use editor::{edit, edit_start, kept, store_words, Edit, Edited, Editor, Walked};
+pub use sets::{
+    check_set, check_set_parts, run_set, run_set_parts, Lent, Set, SetOutcome, SetRoom, SetVerdict,
+};
 use std::fmt;
 pub use turns::{dispatch, dispatch_parts, Parts, Room, Routine, Turns};
 
@@ -16,7 +20,7 @@ pub const STACK_BYTES: usize = 131_072;
 /// Why a routine, or a run of it, is refused.
 #[derive(Clone, Copy, Debug, PartialEq, Eq)]
 pub struct Refusal {
-    /// The paper's number, 1 to 18.
+    /// The paper's number, 1 to 20.
     pub number: u32,
     /// Object, variable (a bounds row counts on behind the variables), statement, pair, entry of a list or position of an edit, by the number; 0
     /// where there is none.
