@@ -195,6 +195,7 @@ mod tests {
     use super::*;
     use crate::edits::{EditCase, Edited};
     use crate::proved::{Checked, Fast};
+    use crate::sets::{SetCheckWords, SetParts, SetRunWords};
     use crate::turns::{Parts, TurnsWords};
     use crate::vectors;
 
@@ -224,6 +225,14 @@ mod tests {
 
         fn edits(&self, case: &EditCase) -> Edited {
             Fast.edits(case)
+        }
+
+        fn check_set(&self, parts: &SetParts) -> SetCheckWords {
+            Fast.check_set(parts)
+        }
+
+        fn run_set(&self, parts: &mut SetParts) -> SetRunWords {
+            Fast.run_set(parts)
         }
     }
 

@@ -105,6 +105,7 @@ pub fn answer_lines(edited: &Edited) -> Vec<String> {
 mod tests {
     use super::*;
     use crate::proved::{Checked, Fast, RunWords};
+    use crate::sets::{SetCheckWords, SetParts, SetRunWords};
     use crate::turns::{Parts, TurnsWords};
     use crate::vectors;
     use oracle::answer::RunInput;
@@ -170,6 +171,14 @@ mod tests {
                 answer.stored.push(u32::MAX);
             }
             edited
+        }
+
+        fn check_set(&self, parts: &SetParts) -> SetCheckWords {
+            Fast.check_set(parts)
+        }
+
+        fn run_set(&self, parts: &mut SetParts) -> SetRunWords {
+            Fast.run_set(parts)
         }
     }
 

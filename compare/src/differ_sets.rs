@@ -41,9 +41,9 @@ fn claimed(routines: &[Routine], input: &mut RunInput) -> Result<SetAnswer, Stri
     unreachable!("the allowance is the last limit")
 }
 
-/// What differs on a set, in words; `None` where all agrees, or the other has no sets.
+/// What differs on a set, in words; `None` where all agrees.
 pub fn difference(parts: &SetParts, other: &dyn Implementation) -> Option<String> {
-    Compared::new(parts, other)?.difference(parts.input.allowance)
+    Compared::new(parts, other).difference(parts.input.allowance)
 }
 
 /// How many limits are tried on a set, and on how many of the generated ones.
@@ -52,7 +52,7 @@ const SAMPLE: u64 = 16;
 
 /// What differs on a set where its run is given each limit from 0 to its end.
 pub fn at_every_limit(parts: &SetParts, other: &dyn Implementation) -> Option<String> {
-    let compared = Compared::new(parts, other)?;
+    let compared = Compared::new(parts, other);
     (0..=parts.input.allowance.min(LIMITS)).find_map(|limit| {
         let what = compared.difference(limit)?;
         Some(format!("with the limit {limit}: {what}"))
@@ -70,11 +70,11 @@ struct Compared<'a> {
 }
 
 impl<'a> Compared<'a> {
-    fn new(parts: &'a SetParts, other: &'a dyn Implementation) -> Option<Compared<'a>> {
-        let words = other.check_set(parts)?;
+    fn new(parts: &'a SetParts, other: &'a dyn Implementation) -> Compared<'a> {
+        let words = other.check_set(parts);
         let accepted = set::accept(&parts.members());
         let pair = accepted.as_ref().ok().and_then(|routines| Pair::new(routines, &parts.input));
-        Some(Compared { parts, other, accepted, words, pair })
+        Compared { parts, other, accepted, words, pair }
     }
 
     fn lent(&self, input: &RunInput, allowance: u32) -> SetParts {
@@ -98,7 +98,7 @@ impl<'a> Compared<'a> {
                 Ok(answer) => answer,
             },
         };
-        let words = self.other.run_set(&mut theirs)?;
+        let words = self.other.run_set(&mut theirs);
         if !set_run_agrees(&right, words) {
             return Some(format!("run: {right} and {}", show_set_run_words(words)));
         }
@@ -115,14 +115,14 @@ impl<'a> Compared<'a> {
         let pair = self.pair.as_ref()?;
         let plain = |parts: &mut SetParts| {
             let SetParts { tables, lengths, input } = parts;
-            Some(set_run_words(&set::run(&members(tables, lengths), input)))
+            set_run_words(&set::run(&members(tables, lengths), input))
         };
         let others = |parts: &mut SetParts| self.other.run_set(parts);
-        type Run<'a> = &'a dyn Fn(&mut SetParts) -> Option<SetRunWords>;
+        type Run<'a> = &'a dyn Fn(&mut SetParts) -> SetRunWords;
         let forms: [(&str, Run); 2] = [("plain form", &plain), (self.other.name(), &others)];
         for (name, run) in forms {
             let mut second = self.lent(&pair.second, after.allowance);
-            let answer = run(&mut second)?;
+            let answer = run(&mut second);
             let (first, second) =
                 (Ended { answer: &words, after }, Ended { answer: &answer, after: &second.input });
             if let Some(what) = pair.leak(&self.parts.input.cells, first, second) {
@@ -296,13 +296,13 @@ mod tests {
             Fast.edits(case)
         }
 
-        fn check_set(&self, parts: &SetParts) -> Option<SetCheckWords> {
-            Fast.check_set(parts).map(self.check)
+        fn check_set(&self, parts: &SetParts) -> SetCheckWords {
+            (self.check)(Fast.check_set(parts))
         }
 
-        fn run_set(&self, parts: &mut SetParts) -> Option<SetRunWords> {
-            let words = Fast.run_set(parts)?;
-            Some((self.run)(words, parts))
+        fn run_set(&self, parts: &mut SetParts) -> SetRunWords {
+            let words = Fast.run_set(parts);
+            (self.run)(words, parts)
         }
     }
 

@@ -184,6 +184,7 @@ mod tests {
     use super::*;
     use crate::edits::{EditCase, Edited};
     use crate::proved::{Checked, Fast, RunWords};
+    use crate::sets::{SetCheckWords, SetParts, SetRunWords};
     use crate::turns::TurnsWords;
     use crate::vectors;
 
@@ -217,6 +218,14 @@ mod tests {
 
         fn edits(&self, case: &EditCase) -> Edited {
             Fast.edits(case)
+        }
+
+        fn check_set(&self, parts: &SetParts) -> SetCheckWords {
+            Fast.check_set(parts)
+        }
+
+        fn run_set(&self, parts: &mut SetParts) -> SetRunWords {
+            Fast.run_set(parts)
         }
     }
 

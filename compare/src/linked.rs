@@ -79,23 +79,23 @@ impl Implementation for Proved {
         linked_editor::edits(case)
     }
 
-    fn check_set(&self, parts: &SetParts) -> Option<SetCheckWords> {
+    fn check_set(&self, parts: &SetParts) -> SetCheckWords {
         let set = Set { tables: &parts.tables, lengths: &parts.lengths };
-        Some(match mizzengrape::check_set_parts(set, &mut SetRoom::default()) {
+        match mizzengrape::check_set_parts(set, &mut SetRoom::default()) {
             SetVerdict::Accepted => [0; 4],
             SetVerdict::Refused { routine, refusal } => {
                 let [number, place, pointer] = refusal_words(refusal);
                 [number, place, pointer, routine]
             }
-        })
+        }
     }
 
-    fn run_set(&self, parts: &mut SetParts) -> Option<SetRunWords> {
+    fn run_set(&self, parts: &mut SetParts) -> SetRunWords {
         let set = Set { tables: &parts.tables, lengths: &parts.lengths };
         let RunInput { directory, cells, values, origins, allowance } = &mut parts.input;
         let mut lent = Lent { directory, cells, values, origins };
         let ended = mizzengrape::run_set_parts(set, &mut lent, *allowance, &mut SetRoom::default());
         let [a, b, c, d] = outcome_words(ended.outcome);
-        Some([a, b, c, d, ended.routine])
+        [a, b, c, d, ended.routine]
     }
 }

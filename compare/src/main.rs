@@ -143,15 +143,13 @@ const RUNS_A_SET: u64 = 8;
 /// For so many runs of a routine one table that is edited, and one while it is damaged.
 const RUNS_AN_EDITED: u64 = 16;
 
-const SETS: &str = "sets of routines with calls";
-
 /// Compares every implementation behind the seam with the plain form.
 fn search(seed: &str, count: &str, first: &str) -> Result<bool, String> {
     let (seed, count, first) = (number(seed)?, number(count)?, number(first)?);
     let kinds: [(&str, Search, u64); 3] = [
         ("cases", differ::search, count),
         ("sets of routines in turn", differ_turns::search, count.div_ceil(RUNS_A_SET)),
-        (SETS, differ_sets::search, count.div_ceil(RUNS_A_SET)),
+        ("sets of routines with calls", differ_sets::search, count.div_ceil(RUNS_A_SET)),
     ];
     let is_same = search_kinds(seed, first, &kinds);
     Ok(edits_agree(seed, count.div_ceil(RUNS_AN_EDITED), first) && is_same)
@@ -186,10 +184,6 @@ fn search_kind(
     (kind, search, count): (&str, Search, u64),
     other: &dyn proved::Implementation,
 ) -> bool {
-    if kind == SETS && other.check_set(&sets::SetParts::default()).is_none() {
-        println!("{}: {kind} are not compared, it has no such calls", other.name());
-        return true;
-    }
     let report = search(seed, first, count, other);
     match &report {
         None => println!("{}: {count} {kind} of seed {seed} from {first}, no difference", other.name()),

@@ -77,6 +77,7 @@ mod tests {
     use crate::edits::{EditCase, Edited};
     use crate::generate::Case;
     use crate::proved::{run_words, Checked, Fast, Implementation, RunWords};
+    use crate::sets::{SetCheckWords, SetParts, SetRunWords};
     use crate::turns::{Parts, TurnsWords};
     use oracle::draft::*;
     use oracle::machine;
@@ -135,6 +136,14 @@ mod tests {
 
         fn edits(&self, case: &EditCase) -> Edited {
             Fast.edits(case)
+        }
+
+        fn check_set(&self, parts: &SetParts) -> SetCheckWords {
+            Fast.check_set(parts)
+        }
+
+        fn run_set(&self, parts: &mut SetParts) -> SetRunWords {
+            Fast.run_set(parts)
         }
     }
 

@@ -49,14 +49,9 @@ pub trait Implementation: Sync {
     /// A table that is edited.
     fn edits(&self, case: &EditCase) -> Edited;
 
-    /// A set of routines that call each other, where there are such; a run may write `cells` and `values` of the input.
-    fn check_set(&self, _: &SetParts) -> Option<SetCheckWords> {
-        None
-    }
-
-    fn run_set(&self, _: &mut SetParts) -> Option<SetRunWords> {
-        None
-    }
+    /// A set of routines that call each other; a run may write `cells` and `values` of the input.
+    fn check_set(&self, parts: &SetParts) -> SetCheckWords;
+    fn run_set(&self, parts: &mut SetParts) -> SetRunWords;
 }
 
 /// The fast form of this crate behind the seam.
@@ -94,14 +89,13 @@ impl Implementation for Fast {
         fast_editor::edits(case)
     }
 
-    fn check_set(&self, parts: &SetParts) -> Option<SetCheckWords> {
-        Some(set_check_words(&fast_sets::check(&parts.members()).map(|_| ())))
+    fn check_set(&self, parts: &SetParts) -> SetCheckWords {
+        set_check_words(&fast_sets::check(&parts.members()).map(|_| ()))
     }
 
-    fn run_set(&self, parts: &mut SetParts) -> Option<SetRunWords> {
+    fn run_set(&self, parts: &mut SetParts) -> SetRunWords {
         let SetParts { tables, lengths, input } = parts;
-        let answer = fast_sets::run(&members(tables, lengths), input);
-        Some(set_run_words(&answer))
+        set_run_words(&fast_sets::run(&members(tables, lengths), input))
     }
 }
 

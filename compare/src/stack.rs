@@ -83,8 +83,8 @@ fn calling() -> SetParts {
 pub fn probe(kib: usize) {
     let calls = || {
         let turns = Proved.dispatch(&mut in_turn())[0];
-        let checked = Proved.check_set(&calling()).unwrap_or_default()[0];
-        let ran = Proved.run_set(&mut calling()).unwrap_or_default()[0];
+        let checked = Proved.check_set(&calling())[0];
+        let ran = Proved.run_set(&mut calling())[0];
         let alone = deepest().map(|(table, list)| {
             let edits: u32 = Proved.edits(&edited(&table)).iter().map(|answer| answer.words[0]).sum();
             let table = table.words();
@@ -157,6 +157,6 @@ mod tests {
         let words = turns_words(&dispatch(&mut in_turn().turns()));
         assert!(words.len() == 17 && words[5..].chunks(4).all(|words| words[0] == 0), "{words:?}");
         let mut parts = calling();
-        assert_eq!(Fast.run_set(&mut parts), Some([0, 8 * (1 + MAX_DEPTH as u32), 0, 0, 0]));
+        assert_eq!(Fast.run_set(&mut parts), [0, 8 * (1 + MAX_DEPTH as u32), 0, 0, 0]);
     }
 }
