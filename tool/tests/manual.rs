@@ -80,7 +80,7 @@ fn explain_prints_the_page() {
         let arguments: Vec<String> = ["explain"].iter().chain(words).map(|word| word.to_string()).collect();
         call(&arguments)
     };
-    for number in (1..=18).filter(|&number| number != 7) {
+    for number in (1..=20).filter(|&number| number != 7) {
         let page = explain(&[&number.to_string()]);
         assert!(page.out.starts_with(&format!("Refusal {number}: ")), "{number}");
         assert!(page.out.matches("Refusal ").count() == 1 && !page.out.contains("```"), "{}", page.out);
@@ -88,7 +88,7 @@ fn explain_prints_the_page() {
     for number in 1..=6 {
         assert!(explain(&["stop", &number.to_string()]).out.starts_with(&format!("Stop {number}: ")));
     }
-    assert_eq!(explain(&["19"]), Output::wrong("error: there is no refusal 19\n".to_string()));
+    assert_eq!(explain(&["21"]), Output::wrong("error: there is no refusal 21\n".to_string()));
 }
 
 /// As `check` prints them, diagnostics first; those of forms that the library does not have yet come later.
