@@ -72,7 +72,7 @@ fn bounds_that_are_not_shown() {
                     note: not shown: p + k <= p + rows: nothing relates them\n\
                     note: known here: nothing\n";
     assert_eq!(shown, expected);
-    assert_eq!(helps, ["write dynamic_check(k <= rows); before line 13"]);
+    assert_eq!(helps, ["write dynamic_check(k <= rows); before line 13; it stops a run where k > rows"]);
     // With a number too many it is short by that much; a callee that loses its own bounds is its own refusal.
     let short = calls("k = rows + 1;\n    t = sum(p, k);");
     assert!(reason(&short).0.contains("are not shown"), "{}", reason(&short).0);

@@ -12,7 +12,7 @@ use sets::SetChecked;
 ghost use mathlib.Core.Path.{_≡_};
 ghost use Prim.Native.Nat.{_≤_};
 ghost use lib.ListN.{length};
-ghost use Rattle.set_runs.specs.Prepared.{lentSet};
+ghost use Rattle.sets.specs.Tables.{tablesIn};
 ghost use Rattle.set_runs.specs.SetRuns.{roomEnough};
 ghost use Rattle.exports.specs.SetWords.{setVerdictWords, routineNamed, setOutcomeWords, SetCheckWords, SetRunWords};
 
@@ -96,8 +96,13 @@ pub extern "C" fn mizzengrape_run_set(
     successors: &mut [u32],
     answer: &mut [u32],
 ) -> bool
-    ensures { λ r. ⌜ SetRunWords (lentSet (now (tables .entry)) (now (lengths .entry)) (now (directory .entry)) (now (cells .entry)) (now (values .entry))
-        (now (origins .entry))) limit (roomEnough (length (now (member .entry))) (length (now (ends .entry))) (length (now (successors .entry))))
+    ensures { λ r. ⌜ SetRunWords (record {
+      tables = tablesIn (now (tables .entry)) (now (lengths .entry));
+      directory = now (directory .entry);
+      cells = now (cells .entry);
+      values = now (values .entry);
+      origins = now (origins .entry);
+    }) limit (roomEnough (length (now (member .entry))) (length (now (ends .entry))) (length (now (successors .entry))))
         (now (answer .entry)) r (now (values .exit)) (now (cells .exit)) (now (answer .exit)) ⌝ }
 {
     if answer.len() < 5 {
