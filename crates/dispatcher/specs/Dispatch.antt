@@ -9,7 +9,7 @@ use Rattle.answers.specs.declared.refusals.Refusal.{Refusal}
 use Rattle.answers.specs.declared.stops.Outcome.{Outcome}
 use Rattle.answers.specs.declared.stops.Outcome.the-variants as outcome
 use Rattle.interpreter.specs.Claim.{RunJudged, Begins}
-use Rattle.seats.specs.Lends.{Lends, lentTo, countOf}
+use Rattle.seats.specs.Lends.{Lends, tableAt, listedAt, lentTo, countOf}
 use Rattle.overlaps.specs.Overlaps.{firstOverlap}
 use Rattle.rounds.specs.Rounds.{AllRan}
 use Rattle.dispatcher.specs.declared.Said.{Said}
@@ -35,8 +35,10 @@ pub record Unchanged (l : Lends) (vs cs : List ℕ) : Type 0 where
 -- so.
 pub record FirstRefused (l : Lends) (r : ℕ) (f : Refusal) : Type 0 where
   pub within : r < countOf l
-  pub earlier : (k : ℕ) → k < r → Begins (lentTo l k)
-  pub refuses : (limit : ℕ) → RunJudged (lentTo l r) limit (record { answer = outcome.Refused f; values = lentTo l r .values; cells = l .cells })
+  pub earlier : (k : ℕ) → k < r → Begins (tableAt l k) (listedAt l k) (lentTo l k)
+  pub refuses : (limit : ℕ)
+      → RunJudged (tableAt l r) (listedAt l r) (lentTo l r) limit
+      (record { answer = outcome.Refused f; routine = 0; values = lentTo l r .values; cells = l .cells })
 
 -- THE PROMISE OF `dispatch`, by what it says. (Where less room is lent than the set-up takes, nothing is done: `NoRoom`.)
 unfoldable pub Promised : Bool → Lends → ℕ → ℕ → Said → (ℕ → Outcome) → List ℕ → List ℕ → Type 0
@@ -44,5 +46,6 @@ Promised room l quantum total said.NoRoom outcomes vs cs = (room ≡ false) × U
 Promised room l quantum total said.WrongCount outcomes vs cs = (room ≡ true) × (countRight l quantum ≡ false) × Unchanged l vs cs
 Promised room l quantum total (said.Refused r f) outcomes vs cs = (room ≡ true) × (countRight l quantum ≡ true) × FirstRefused l r f × Unchanged l vs cs
 Promised room l quantum total (said.Overlaps r) outcomes vs cs =
-    (room ≡ true) × (countRight l quantum ≡ true) × ((k : ℕ) → k < countOf l → Begins (lentTo l k)) × (r < countOf l) × (r ≡ firstOverlap l) × Unchanged l vs cs
+    (room ≡ true) × (countRight l quantum ≡ true) × ((k : ℕ) → k < countOf l → Begins (tableAt l k) (listedAt l k) (lentTo l k)) × (r < countOf l)
+    × (r ≡ firstOverlap l) × Unchanged l vs cs
 Promised room l quantum total said.Ran outcomes vs cs = (room ≡ true) × (countRight l quantum ≡ true) × AllRan l quantum total outcomes vs cs

@@ -13,7 +13,7 @@ use Rattle.words.specs.SectionsLaws.{both}
 use Rattle.table.specs.FormLaws.{well-formed}
 use Rattle.turns.specs.Turns.{Schedule, after}
 use Rattle.turns.specs.TurnsLaws.{after-start}
-use Rattle.seats.specs.Lends.{Lends, lentTo, countOf}
+use Rattle.seats.specs.Lends.{Lends, tableAt, listedAt, lentTo, countOf}
 use Rattle.dispatcher.specs.Dispatch.{countRight, roomRight, Promised}
 use Rattle.rounds.specs.Rounds.{routinesOf, AllRan, memoryAfter}
 use Rattle.overlaps.specs.Overlaps.{lowest, firstOverlap}
@@ -124,7 +124,7 @@ unfolding Promised
 first-refusal l quantum total outcomes {r} {f} x y = (
   refl,
   x,
-  record { within = y .within; earlier = y .earlier; refuses = λ limit. refused-alone (lentTo l r) f (y .first) limit },
+  record { within = y .within; earlier = y .earlier; refuses = λ limit. refused-alone (tableAt l r) (listedAt l r) (lentTo l r) f (y .first) limit },
   record { values = refl; cells = refl },
 )
 

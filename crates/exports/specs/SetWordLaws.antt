@@ -3,7 +3,6 @@ use Prim.Native.Nat.{ℕ, _<_, _≤_}
 use mathlib.Core.Path.{_≡_, refl, sym, _∙_, ap}
 use mathlib.Core.Bool.{Bool, true, false, _&&_}
 use mathlib.Core.List.{List}
-use native.Mathlib.Omega.{arith}
 use borrow.Author.Tests.{le-leb, lt-leb}
 use lib.IntN.{ℤ}
 use lib.ListN.{length, set, length-set}
@@ -22,7 +21,7 @@ use Rattle.answers.specs.Answers.{Answer, done, spent, stopped, refused, reads}
 use Rattle.answers.specs.declared.stops.Check.{Check}
 use Rattle.answers.specs.declared.stops.Outcome.{Outcome}
 use Rattle.answers.specs.declared.stops.Outcome.the-variants.{Done, Spent, Stopped, Refused}
-use Rattle.interpreter.specs.SetClaim.{SetLent, SetRunJudged}
+use Rattle.interpreter.specs.Claim.{Lent, SetRunJudged}
 use Rattle.set_runs.specs.SetRuns.{leaves, SetRunAnswered}
 use Rattle.set_runs.specs.declared.SetOutcome.{SetOutcome}
 use Rattle.set_runs.specs.declared.SetRun.{SetRun}
@@ -92,20 +91,21 @@ pub outcome-words : (o : SetOutcome) (w : List ℕ) {u : List ℕ} {n k : ℕ} �
 unfolding setOutcomeWords
 outcome-words o w e p q = rw (e, q, p)
 
-module _ {l : SetLent} {limit : ℕ} {roomy : Bool} {w : List ℕ} where
-  pub no-run : length w < 5 → SetRunWords l limit roomy w false (l .values) (l .cells) w
+module _ {Ts : List (List ℤ)} {l : Lent} {limit : ℕ} {roomy : Bool} {w : List ℕ} where
+  pub no-run : length w < 5 → SetRunWords Ts l limit roomy w false (l .values) (l .cells) w
   no-run h = record { room = sym (rw (lt-leb 5 (length w) h)); words = rw (lt-leb 5 (length w) h) (refl, refl, refl) }
 
-  pub no-run-room : {s : SetRun} {vs cs : List ℕ} → SetRunAnswered roomy l limit s vs cs → s ≡ run.NoRoom → SetRunWords l limit roomy w false vs cs w
+  pub no-run-room : {s : SetRun} {vs cs : List ℕ} → SetRunAnswered roomy Ts l limit s vs cs → s ≡ run.NoRoom → SetRunWords Ts l limit roomy w false vs cs w
   unfolding SetRunAnswered
   no-run-room {s} {vs} {cs} a e =
       let o : (roomy ≡ false) × (vs ≡ l .values) × (cs ≡ l .cells) = rw e at a in
       let z = and-false (leb 5 (length w)) (o .0) in
       record { room = sym z; words = rw z (o .1, o .2, refl) }
 
-  pub ran-set : {s : SetRun} {o : SetOutcome} {vs cs w′ : List ℕ} → 5 ≤ length w → SetRunAnswered roomy l limit s vs cs → s ≡ run.Ran o → w′ ≡ setOutcomeWords o w
-      → SetRunWords l limit roomy w true vs cs w′
+  pub ran-set : {s : SetRun} {o : SetOutcome} {vs cs w′ : List ℕ} → 5 ≤ length w → SetRunAnswered roomy Ts l limit s vs cs → s ≡ run.Ran o
+      → w′ ≡ setOutcomeWords o w
+      → SetRunWords Ts l limit roomy w true vs cs w′
   unfolding SetRunAnswered
   ran-set {s} {o} {vs} {cs} h a e p =
-      let q : (roomy ≡ true) × SetRunJudged l limit (leaves o vs cs) = rw e at a in
+      let q : (roomy ≡ true) × SetRunJudged Ts l limit (leaves o vs cs) = rw e at a in
       record { room = sym (rw (le-leb 5 (length w) h, q .0)); words = rw (le-leb 5 (length w) h, q .0) (o, q .1, p) }

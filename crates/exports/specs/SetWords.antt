@@ -14,7 +14,7 @@ use Rattle.sets.specs.Checked.{memberWords, verdictIn, routineIn}
 use Rattle.answers.specs.Answers.{reads}
 use Rattle.answers.specs.declared.stops.Outcome.{Outcome}
 use Rattle.answers.specs.declared.stops.Outcome.the-variants.{Done, Spent, Stopped, Refused}
-use Rattle.interpreter.specs.SetClaim.{SetLent, SetRunJudged}
+use Rattle.interpreter.specs.Claim.{Lent, SetRunJudged}
 use Rattle.set_runs.specs.SetRuns.{leaves}
 use Rattle.set_runs.specs.declared.SetOutcome.{SetOutcome}
 use Rattle.exports.specs.Words.{wordOf, verdictWords, answerWords}
@@ -48,12 +48,12 @@ unfoldable pub setOutcomeWords : SetOutcome → List ℕ → List ℕ
 setOutcomeWords o w = set (answerWords (reads (o .outcome)) w) 4 (wordOf (routineNamed (o .outcome) (o .routine)))
 
 -- Where there is room, the words of an outcome for which, with the values and cells then, the claim about a run of a set holds; else nothing is written.
-abbrev pub setRanIf : Bool → SetLent → ℕ → List ℕ → List ℕ → List ℕ → List ℕ → Type 0
-setRanIf true l limit w vs cs w′ = (o : SetOutcome) × SetRunJudged l limit (leaves o vs cs) × (w′ ≡ setOutcomeWords o w)
-setRanIf false l limit w vs cs w′ = (vs ≡ l .values) × (cs ≡ l .cells) × (w′ ≡ w)
+abbrev pub setRanIf : Bool → List (List ℤ) → Lent → ℕ → List ℕ → List ℕ → List ℕ → List ℕ → Type 0
+setRanIf true Ts l limit w vs cs w′ = (o : SetOutcome) × SetRunJudged Ts l limit (leaves o vs cs) × (w′ ≡ setOutcomeWords o w)
+setRanIf false Ts l limit w vs cs w′ = (vs ≡ l .values) × (cs ≡ l .cells) × (w′ ≡ w)
 
 -- l: what the run is lent, roomy: whether enough room is lent besides, w: the words for the answer, as they were; vs, cs and w′: what values, cells and words
 -- hold then.
-pub record SetRunWords (l : SetLent) (limit : ℕ) (roomy : Bool) (w : List ℕ) (r : Bool) (vs cs w′ : List ℕ) : Type 0 where
+pub record SetRunWords (Ts : List (List ℤ)) (l : Lent) (limit : ℕ) (roomy : Bool) (w : List ℕ) (r : Bool) (vs cs w′ : List ℕ) : Type 0 where
   pub room : r ≡ (leb 5 (length w) && roomy)
-  pub words : setRanIf (leb 5 (length w) && roomy) l limit w vs cs w′
+  pub words : setRanIf (leb 5 (length w) && roomy) Ts l limit w vs cs w′

@@ -63,10 +63,11 @@ checked-words {T} {L} {w} {w′} v h a e =
           (λ d c. e ∙ ap (λ (x : Reading). verdictWords x w) (a .by-each d c .reads)));
     }
 
-pub no-room-to-run : {l : Lent} {w : List ℕ} {limit : ℕ} → length w < 4 → RunWords l limit w false (l .values) (l .cells) w
+pub no-room-to-run : {T L : List ℤ} {l : Lent} {w : List ℕ} {limit : ℕ} → length w < 4 → RunWords T L l limit w false (l .values) (l .cells) w
 no-room-to-run {w = w} h = record { room = sym (lt-leb 4 (length w) h); words = rw (lt-leb 4 (length w) h) (refl, refl, refl) }
 
-pub ran-words : {l : Lent} {w vs cs w′ : List ℕ} {limit : ℕ} (o : Outcome) → 4 ≤ length w → RunJudged l limit (record { answer = o; values = vs; cells = cs })
+pub ran-words : {T L : List ℤ} {l : Lent} {w vs cs w′ : List ℕ} {limit : ℕ} (o : Outcome) → 4 ≤ length w
+    → RunJudged T L l limit (record { answer = o; routine = 0; values = vs; cells = cs })
     → w′ ≡ answerWords (reads o) w
-    → RunWords l limit w true vs cs w′
+    → RunWords T L l limit w true vs cs w′
 ran-words {w = w} o h a e = record { room = sym (le-leb 4 (length w) h); words = rw (le-leb 4 (length w) h) (o, a, e) }

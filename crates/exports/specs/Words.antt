@@ -81,11 +81,12 @@ pub record CheckReport (T L : List ℤ) (w p : List ℕ) (r : Bool) (w′ p′ :
 -- ---- a run
 
 -- Where there is room for an answer, the words of an outcome for which, with the values and cells then, the claim about a run holds; else nothing is written.
-abbrev pub ranIf : Bool → Lent → ℕ → List ℕ → List ℕ → List ℕ → List ℕ → Type 0
-ranIf true l limit w vs cs w′ = (o : Outcome) × RunJudged l limit (record { answer = o; values = vs; cells = cs }) × (w′ ≡ answerWords (reads o) w)
-ranIf false l limit w vs cs w′ = (vs ≡ l .values) × (cs ≡ l .cells) × (w′ ≡ w)
+abbrev pub ranIf : Bool → List ℤ → List ℤ → Lent → ℕ → List ℕ → List ℕ → List ℕ → List ℕ → Type 0
+ranIf true T L l limit w vs cs w′ =
+    (o : Outcome) × RunJudged T L l limit (record { answer = o; routine = 0; values = vs; cells = cs }) × (w′ ≡ answerWords (reads o) w)
+ranIf false T L l limit w vs cs w′ = (vs ≡ l .values) × (cs ≡ l .cells) × (w′ ≡ w)
 
 -- w: the words that are lent for the answer, as they were; vs, cs and w′: what values, cells and words hold then.
-pub record RunWords (l : Lent) (limit : ℕ) (w : List ℕ) (r : Bool) (vs cs w′ : List ℕ) : Type 0 where
+pub record RunWords (T L : List ℤ) (l : Lent) (limit : ℕ) (w : List ℕ) (r : Bool) (vs cs w′ : List ℕ) : Type 0 where
   pub room : r ≡ leb 4 (length w)
-  pub words : ranIf (leb 4 (length w)) l limit w vs cs w′
+  pub words : ranIf (leb 4 (length w)) T L l limit w vs cs w′

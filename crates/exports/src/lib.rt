@@ -177,9 +177,7 @@ pub extern "C" fn mizzengrape_run_with_facts(
     limit: u32,
     answer: &mut [u32],
 ) -> bool
-    ensures { λ r. ⌜ RunWords (record {
-      table = now (table .entry);
-      listed = now (facts .entry);
+    ensures { λ r. ⌜ RunWords (now (table .entry)) (now (facts .entry)) (record {
       directory = now (directory .entry);
       cells = now (cells .entry);
       values = now (values .entry);
@@ -205,9 +203,7 @@ pub extern "C" fn mizzengrape_run(
     limit: u32,
     answer: &mut [u32],
 ) -> bool
-    ensures { λ r. ⌜ RunWords (record {
-      table = now (table .entry);
-      listed = [];
+    ensures { λ r. ⌜ RunWords (now (table .entry)) [] (record {
       directory = now (directory .entry);
       cells = now (cells .entry);
       values = now (values .entry);

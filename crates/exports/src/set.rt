@@ -96,8 +96,7 @@ pub extern "C" fn mizzengrape_run_set(
     successors: &mut [u32],
     answer: &mut [u32],
 ) -> bool
-    ensures { λ r. ⌜ SetRunWords (record {
-      tables = tablesIn (now (tables .entry)) (now (lengths .entry));
+    ensures { λ r. ⌜ SetRunWords (tablesIn (now (tables .entry)) (now (lengths .entry))) (record {
       directory = now (directory .entry);
       cells = now (cells .entry);
       values = now (values .entry);

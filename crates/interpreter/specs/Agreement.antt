@@ -10,7 +10,8 @@ use Rattle.statements.specs.declared.Statement.{Statement}
 use Rattle.statements.specs.declared.StatementRead.the-variants.{Read}
 use Rattle.blocks.specs.Shape.{entriesAt}
 use Rattle.rules.specs.declared.Environment.{Environment}
-use Rattle.machine.specs.Machine.{high, Status, going, stopped, stuck, Point, successorsOf, pointAfter}
+use Rattle.machine.specs.Machine.{high, Status, going, stopped, stuck, Point, successorsOf}
+use Rattle.machine.specs.AlonePoints.{pointAfter}
 use Rattle.checks.specs.Checked.{checkOf}
 use Rattle.steps.specs.Bare.{Move, move}
 use Rattle.interpreter.specs.BareRun.{Result, result}

@@ -30,7 +30,8 @@ use Rattle.rules.specs.BoundsRules.{inForce, rowsAfter}
 use Rattle.rules.specs.declared.Environment.{Environment}
 use Rattle.machine.specs.Machine.{low, high, address, inOrigin, conditionHolds, Failing, none, fails, failing, Status}
 use Rattle.machine.specs.Machine.{going, stopped, stuck, Point, Memory, Performed, done, no-step, stepIf, performed}
-use Rattle.machine.specs.Machine.{memoryOf, afterChecks, branched, statementStep, stepIfDue, nextPoint, pointAfter, value}
+use Rattle.machine.specs.Machine.{memoryOf, afterChecks, branched, statementStep, stepIfDue, nextPoint, value}
+use Rattle.machine.specs.AlonePoints.{pointAfter}
 use Rattle.checks.specs.Checked.{stepUnless, checkOf}
 use Rattle.steps.specs.Bare.{valuesAfter, cellsAfter, changedUnless, Move, move, simpleMove, statementMove, bareMove, InCells, InsideSimple, Inside, Ready}
 use Rattle.interpreter.specs.BareRun.{Result, result, follow, bareRun, IfTrue, Onward, SafeRun}

@@ -1,19 +1,16 @@
 -- The proof of the claim about a run: from the soundness theorem and from the agreement of the code's run with the plain machine.
-use Prim.Native.Nat.{ℕ, _+_, _-_, _*_, _≤_}
-use mathlib.Core.Path.{_≡_, refl, sym, ap, subst, _∙_}
-use mathlib.Core.Bool.{Bool, true, false, cond}
+use Prim.Native.Nat.{ℕ, _-_, _*_, _≤_}
+use mathlib.Core.Path.{_≡_, refl, sym, ap, _∙_}
+use mathlib.Core.Bool.{Bool}
 use mathlib.Core.List.{List, [], _∷_}
 use native.Mathlib.Omega.{arith}
 use borrow.Author.Tests.{le-leb}
-use lib.Dec.{ltb}
 use lib.IntN.{ℤ}
-use lib.ListN.{length, getD}
-use Rattle.sums.specs.Numbers.{maxValue}
+use lib.ListN.{length}
 use Rattle.answers.specs.declared.refusals.Refusal.{Refusal}
 use Rattle.words.specs.declared.sections.Sections.{Sections}
-use Rattle.table.specs.Form.{sectionsOf, formOf}
+use Rattle.table.specs.Form.{formOf}
 use Rattle.table.specs.FormLaws.{well-formed, formed-sections}
-use Rattle.table.specs.declared.Form.{Form}
 use Rattle.table.specs.declared.Form.the-variants.{WellFormed, Refused}
 use Rattle.blocks.specs.Flow.{tableFlow}
 use Rattle.blocks.specs.Written.{written, Written}
@@ -23,12 +20,12 @@ use Rattle.rules.specs.CallLaws.{none-formed}
 use Rattle.rules.specs.AcceptedLaws.{clear, faults-clear}
 use Rattle.blocks.specs.Layout.{also}
 use Rattle.rules.specs.Verdict.{environmentOf, verdictOf}
+use Rattle.rules.specs.Sets.{members, routinesOf}
 use Rattle.rules.specs.Stored.{faults, store}
 use Rattle.rules.specs.declared.Verdict.the-variants as verdict
 use Rattle.rules.specs.declared.Environment.{Environment}
 use Rattle.machine.specs.Soundness.{Begun}
 use Rattle.answers.specs.Answers.{reads}
-use Rattle.answers.specs.Answers as says
 use Rattle.entry.specs.Entry.{entryRefusals}
 use Rattle.interpreter.specs.BegunLaws.{entry-begun}
 use Rattle.entry.specs.Ends.{endsOf}
@@ -41,8 +38,9 @@ use Rattle.rules.specs.ByChains.{byChains}
 use Rattle.rules.specs.Decidable.{decided, decider, decider-decides}
 use Rattle.rules.specs.Agreement.{SameFirst, same-self, same-also, faults-agree}
 use Rattle.interpreter.specs.Claim.{Lent, Leaves, entryFaults, runFaults}
-use Rattle.interpreter.specs.Claim.{Ran, RunAnswer, RunJudged, Begins, WholeRun}
-use Rattle.interpreter.specs.PointLaws.{never, lends, leaves, point, unstuck, rows-long, shown, at-point, reads-at}
+use Rattle.interpreter.specs.Claim.{Ran, RunAnswer, RunJudged, Begins, WholeRun, WholeSetRun}
+use Rattle.interpreter.specs.AnswerLaws.{never}
+use Rattle.interpreter.specs.AloneLaws.{lends, leaves, pointAlone, unstuck, rows-long, reads-at, ran-alone}
 use Rattle.entry.specs.Entered.{entered}
 use Rattle.entry.specs.declared.EntryVerdict.{EntryVerdict}
 use Rattle.entry.specs.declared.EntryVerdict.the-variants as entry
@@ -74,22 +72,15 @@ module _ (T : List ℤ) (h : Sections) (L : List ℤ) (formed : formOf T ≡ Wel
   -- What the loop leaves is the claim.
   pub run-claim : (w : List ℕ) → 2 * h .statements ≤ length w → (limit : ℕ) (r : Outcome) (W′ vs′ cs′ : List ℕ)
       → Ends (bareRun T h (endsOf (environmentOf T h) ownRows) D (written (tableFlow T h) w) limit 0 0 vs cs) r W′ vs′ cs′
-      → Ran (lends T L D cs vs os) (sectionsOf T) limit (leaves r vs′ cs′)
+      → Ran (T ∷ []) (lends D cs vs os) L limit (leaves r vs′ cs′)
   run-claim w room limit r W′ vs′ cs′ e =
       let agrees : bareRun T h (endsOf (environmentOf T h) ownRows) D (written (tableFlow T h) w) limit 0 0 vs cs ≡ resultShown (environmentOf T h) h
-      (point T h L formed accepts D cs vs os begun limit)
+      (pointAlone T h D cs vs os limit)
       = start-agrees T h D cs vs os w (well-formed T h formed) (clear [] T h L formed accepts .laid) room (admitted h (environmentOf T h) D cs vs os none)
       (unstuck T h L formed accepts D cs vs os begun) (rows-long T h L formed accepts D cs vs os begun) limit in
-      let answered : reads r ≡ shown T h L formed accepts D cs vs os begun limit =
-      ap reads (e .outcome ∙ ap (λ (o : Result). o .outcome) agrees) ∙ reads-at T h L formed accepts D cs vs os begun limit in
-      subst (λ (g : Sections). Ran (lends T L D cs vs os) g limit (leaves r vs′ cs′)) (formed-sections T h formed) (record {
-        ends = record {
-          answer = answered;
-          values = e .values ∙ ap (λ (o : Result). o .values) agrees;
-          cells = e .cells ∙ ap (λ (o : Result). o .cells) agrees;
-        };
-        every-point = λ t l. at-point T h L formed accepts D cs vs os begun limit t (reads r) answered l;
-      })
+      ran-alone T h L formed accepts D cs vs os begun limit r vs′ cs′
+      (ap reads (e .outcome ∙ ap (λ (o : Result). o .outcome) agrees) ∙ reads-at T h L formed accepts D cs vs os begun limit)
+      (e .values ∙ ap (λ (o : Result). o .values) agrees) (e .cells ∙ ap (λ (o : Result). o .cells) agrees)
 
 -- ---- refusals of a run
 
@@ -99,9 +90,9 @@ no-form-refused T L r e f = let p = faults-clear [] T L e in let q = p .1 .form 
 
 -- Of an accepted table the faults of a run are those of the entry.
 pub entry-only : (T : List ℤ) (h : Sections) (L : List ℤ) (D cs vs os : List ℕ) → formOf T ≡ WellFormed h → faults [] T L ≡ []
-    → runFaults store (lends T L D cs vs os) ≡ entryRefusals h (environmentOf T h) D cs vs os
-unfolding runFaults also
-entry-only T h L D cs vs os f e = rw (e, f)
+    → runFaults T L (lends D cs vs os) store ≡ entryRefusals h (environmentOf T h) D cs vs os
+unfolding runFaults also routinesOf members
+entry-only T h L D cs vs os f e = rw e (ap (λ (g : Sections). entryRefusals g (environmentOf T g) D cs vs os) (sym (formed-sections T h f)))
 
 pub entered-none : (rs : List Refusal) → entered rs ≡ entry.Begun → rs ≡ []
 unfolding entered
@@ -110,8 +101,8 @@ entered-none (r ∷ rs) e = cc
 
 pub begun-ran : (T : List ℤ) (h : Sections) (L : List ℤ) (D cs vs os : List ℕ) (limit : ℕ) (r : Outcome) (vs′ cs′ : List ℕ) → formOf T ≡ WellFormed h
     → faults [] T L ≡ []
-    → entryRefusals h (environmentOf T h) D cs vs os ≡ [] → Ran (lends T L D cs vs os) (sectionsOf T) limit (leaves r vs′ cs′)
-    → RunAnswer (runFaults store (lends T L D cs vs os)) (lends T L D cs vs os) limit (leaves r vs′ cs′)
+    → entryRefusals h (environmentOf T h) D cs vs os ≡ [] → Ran (T ∷ []) (lends D cs vs os) L limit (leaves r vs′ cs′)
+    → RunAnswer T L (lends D cs vs os) (runFaults T L (lends D cs vs os) store) limit (leaves r vs′ cs′)
 unfolding RunAnswer
 begun-ran T h L D cs vs os limit r vs′ cs′ f e n a = rw (entry-only T h L D cs vs os f e, n) a
 
@@ -142,7 +133,7 @@ module _ {T : List ℤ} {h : Sections} {L : List ℤ} {D cs vs os W S : List ℕ
   )
 
   pub launched-ran : {r : Outcome} {W′ vs′ cs′ : List ℕ} → Ends (bareRun T h W D S (limit - 0) 0 0 vs cs) r W′ vs′ cs′
-      → RunAnswer (runFaults store (lends T L D cs vs os)) (lends T L D cs vs os) limit (leaves r vs′ cs′)
+      → RunAnswer T L (lends D cs vs os) (runFaults T L (lends D cs vs os) store) limit (leaves r vs′ cs′)
   launched-ran {r} {W′} {vs′} {cs′} e =
       let z : limit - 0 ≡ limit = omega arith in
       begun-ran T h L D cs vs os limit r vs′ cs′ (begins .formed) (begins .accepts) (begins .none)
@@ -153,21 +144,20 @@ module _ {T : List ℤ} {h : Sections} {L : List ℤ} {D cs vs os W S : List ℕ
 
 -- The verdict was a refusal.
 pub check-refused : (T L : List ℤ) (D cs vs os : List ℕ) (r : Refusal) → verdict.Refused r ≡ verdictOf (faults [] T L)
-    → First (runFaults store (lends T L D cs vs os)) r
+    → First (runFaults T L (lends D cs vs os) store) r
 unfolding runFaults also verdictOf
 check-refused T L D cs vs os r a = go (faults [] T L) a
   where
-    go : (fs : List Refusal) → verdict.Refused r ≡ verdictOf fs → First (also fs (entryFaults (formOf T) (lends T L D cs vs os))) r
+    go : (fs : List Refusal) → verdict.Refused r ≡ verdictOf fs → First (also fs (entryFaults (T ∷ []) (lends D cs vs os))) r
     go [] a = let z : _≡_ {A = ℕ} 0 1 = cc in absurd (omega arith)
     go (f ∷ fs) a = let e : f ≡ r = cc in (
-      also fs (entryFaults (formOf T) (lends T L D cs vs os)),
-      ap (λ (x : Refusal). x ∷ also fs (entryFaults (formOf T)
-          (lends T L D cs vs os))) e,
+      also fs (entryFaults (T ∷ []) (lends D cs vs os)),
+      ap (λ (x : Refusal). x ∷ also fs (entryFaults (T ∷ []) (lends D cs vs os))) e,
     )
 
 -- The entry refuses.
 pub entry-refused : (T : List ℤ) (h : Sections) (L : List ℤ) (D cs vs os : List ℕ) (r : Refusal) → formOf T ≡ WellFormed h → faults [] T L ≡ []
-    → entered (entryRefusals h (environmentOf T h) D cs vs os) ≡ entry.Refused r → First (runFaults store (lends T L D cs vs os)) r
+    → entered (entryRefusals h (environmentOf T h) D cs vs os) ≡ entry.Refused r → First (runFaults T L (lends D cs vs os) store) r
 unfolding entered
 entry-refused T h L D cs vs os r f e q = rw (entry-only T h L D cs vs os f e) (go (entryRefusals h (environmentOf T h) D cs vs os) q)
   where
@@ -176,44 +166,47 @@ entry-refused T h L D cs vs os r f e q = rw (entry-only T h L D cs vs os f e) (g
     go (x ∷ rs) q = let e : x ≡ r = cc in (rs, ap (λ (y : Refusal). y ∷ rs) e)
 
 -- A refused run changes nothing.
-pub first-refused : (l : Lent) (limit : ℕ) (r : Refusal) → First (runFaults store l) r
-    → RunAnswer (runFaults store l) l limit (leaves (outcome.Refused r) (l .values) (l .cells))
+pub first-refused : (T L : List ℤ) (l : Lent) (limit : ℕ) (r : Refusal) → First (runFaults T L l store) r
+    → RunAnswer T L l (runFaults T L l store) limit (leaves (outcome.Refused r) (l .values) (l .cells))
 unfolding RunAnswer
-first-refused l limit r (rest, e) = rw e (record { answer = refl; values = refl; cells = refl })
+first-refused T L l limit r (rest, e) = rw e (record { answer = refl; routine = refl; values = refl; cells = refl })
 
-pub started-refused : (s : Start) (l : Lent) (W S : List ℕ) (r : Refusal) → s ≡ begin.Refused r → Starts s l W S → First (runFaults store l) r
-started-refused s l W S r e x = rw e at x
+pub started-refused : (s : Start) (T L : List ℤ) (l : Lent) (W S : List ℕ) (r : Refusal) → s ≡ begin.Refused r → Starts s T L l W S
+    → First (runFaults T L l store) r
+started-refused s T L l W S r e x = rw e at x
 
-pub started-launched : {s : Start} {h : Sections} (l : Lent) (W S : List ℕ) → s ≡ begin.Begun h → Starts s l W S
-    → Launched (l .table) h (l .listed) (l .directory) (l .cells) (l .values) (l .origins) W S
-started-launched l W S e x = rw e at x
+pub started-launched : {s : Start} {h : Sections} (T L : List ℤ) (l : Lent) (W S : List ℕ) → s ≡ begin.Begun h → Starts s T L l W S
+    → Launched T h L (l .directory) (l .cells) (l .values) (l .origins) W S
+started-launched T L l W S e x = rw e at x
 
 -- ---- the paper's facts
 
 same-run : (fs gs : List Refusal) (T L : List ℤ) (D cs vs os : List ℕ) (limit : ℕ) (r : Outcome) (vs′ cs′ : List ℕ) → SameFirst fs gs
-    → RunAnswer fs (lends T L D cs vs os) limit (leaves r vs′ cs′) → RunAnswer gs (lends T L D cs vs os) limit (leaves r vs′ cs′)
+    → RunAnswer T L (lends D cs vs os) fs limit (leaves r vs′ cs′) → RunAnswer T L (lends D cs vs os) gs limit (leaves r vs′ cs′)
 unfolding RunAnswer
 same-run [] [] T L D cs vs os limit r vs′ cs′ s a = a
 same-run [] (g ∷ gs) T L D cs vs os limit r vs′ cs′ s a = absurd s
 same-run (f ∷ fs) [] T L D cs vs os limit r vs′ cs′ s a = absurd s
 same-run (f ∷ fs) (g ∷ gs) T L D cs vs os limit r vs′ cs′ s a =
-    record { answer = a .answer ∙ ap (λ (x : Refusal). reads (outcome.Refused x)) s; values = a .values; cells = a .cells }
+    record { answer = a .answer ∙ ap (λ (x : Refusal). reads (outcome.Refused x)) s; routine = a .routine; values = a .values; cells = a .cells }
 
 pub run-judged : (T L : List ℤ) (D cs vs os : List ℕ) (limit : ℕ) (r : Outcome) (vs′ cs′ : List ℕ)
-    → RunAnswer (runFaults store (lends T L D cs vs os)) (lends T L D cs vs os) limit (leaves r vs′ cs′)
-    → RunJudged (lends T L D cs vs os) limit (leaves r vs′ cs′)
+    → RunAnswer T L (lends D cs vs os) (runFaults T L (lends D cs vs os) store) limit (leaves r vs′ cs′)
+    → RunJudged T L (lends D cs vs os) limit (leaves r vs′ cs′)
 unfolding RunJudged runFaults
 run-judged T L D cs vs os limit r vs′ cs′ a =
     decided _ _ (λ d c.
-    same-run (runFaults store (lends T L D cs vs os)) (runFaults (byChains d) (lends T L D cs vs os)) T L D cs vs os limit r vs′ cs′
+    same-run (runFaults T L (lends D cs vs os) store) (runFaults T L (lends D cs vs os) (byChains d)) T L D cs vs os limit r vs′ cs′
     (same-also (faults [] T L) (verdictRules.faults (byChains d) [] T L) _ _ (faults-agree [] none-formed T L d c)
-    (λ z. same-self (entryFaults (formOf T) (lends T L D cs vs os)))) a)
+    (λ z. same-self (entryFaults (T ∷ []) (lends D cs vs os)))) a)
 
 -- ---- of a routine that is begun or refused before it is served
 
 -- It is refused so with any allowance.
-pub refused-alone : (l : Lent) (r : Refusal) → First (runFaults store l) r → (limit : ℕ) → RunJudged l limit (leaves (outcome.Refused r) (l .values) (l .cells))
-refused-alone l r f limit = run-judged (l .table) (l .listed) (l .directory) (l .cells) (l .values) (l .origins) limit _ _ _ (first-refused l limit r f)
+pub refused-alone : (T L : List ℤ) (l : Lent) (r : Refusal) → First (runFaults T L l store) r → (limit : ℕ)
+    → RunJudged T L l limit (leaves (outcome.Refused r) (l .values) (l .cells))
+refused-alone T L l r f limit =
+    run-judged T L (l .directory) (l .cells) (l .values) (l .origins) limit _ _ _ (first-refused T L l limit r f)
 
 none-same : (fs gs : List Refusal) → fs ≡ [] → SameFirst fs gs → gs ≡ []
 none-same [] [] e s = refl
@@ -221,28 +214,32 @@ none-same [] (g ∷ gs) e s = absurd s
 none-same (f ∷ fs) gs e s = let z : _≡_ {A = ℕ} 0 1 = cc in never z
 
 -- What is launched begins.
-pub launched-begins : {T : List ℤ} {h : Sections} {L : List ℤ} {D cs vs os W S : List ℕ} → Launched T h L D cs vs os W S → Begins (lends T L D cs vs os)
+pub launched-begins : {T : List ℤ} {h : Sections} {L : List ℤ} {D cs vs os W S : List ℕ} → Launched T h L D cs vs os W S → Begins T L (lends D cs vs os)
 unfolding runFaults
 launched-begins {T} {h} {L} {D} {cs} {vs} {os} b =
     decided T _ (λ d c.
-    none-same (runFaults store (lends T L D cs vs os)) (runFaults (byChains d) (lends T L D cs vs os))
+    none-same (runFaults T L (lends D cs vs os) store) (runFaults T L (lends D cs vs os) (byChains d))
     (entry-only T h L D cs vs os (b .formed) (b .accepts) ∙ b .none)
     (same-also (faults [] T L) (verdictRules.faults (byChains d) [] T L) _ _ (faults-agree [] none-formed T L d c)
-    (λ z. same-self (entryFaults (formOf T) (lends T L D cs vs os)))))
+    (λ z. same-self (entryFaults (T ∷ []) (lends D cs vs os)))))
 
 -- ---- the whole run
 
-begins-ran : (fs : List Refusal) (l : Lent) (limit : ℕ) (m : Leaves) → fs ≡ [] → RunAnswer fs l limit m → Ran l (sectionsOf (l .table)) limit m
+begins-ran : (fs : List Refusal) (T L : List ℤ) (l : Lent) (limit : ℕ) (m : Leaves) → fs ≡ [] → RunAnswer T L l fs limit m → Ran (T ∷ []) l L limit m
 unfolding RunAnswer
-begins-ran [] l limit m e a = a
-begins-ran (f ∷ fs) l limit m e a = let z : _≡_ {A = ℕ} 0 1 = cc in never z
+begins-ran [] T L l limit m e a = a
+begins-ran (f ∷ fs) T L l limit m e a = let z : _≡_ {A = ℕ} 0 1 = cc in never z
 
-pub judged-ran : (l : Lent) (limit : ℕ) (m : Leaves) → Begins l → RunJudged l limit m → Ran l (sectionsOf (l .table)) limit m
+pub judged-ran : (T L : List ℤ) (l : Lent) (limit : ℕ) (m : Leaves) → Begins T L l → RunJudged T L l limit m → Ran (T ∷ []) l L limit m
 unfolding RunJudged
-judged-ran l limit m b j =
-    let d = decider (l .table) in
-    let c = decider-decides (l .table) in
-    begins-ran (runFaults (byChains d) l) l limit m (b .by-each d c) (j .by-each d c)
+judged-ran T L l limit m b j =
+    let d = decider T in
+    let c = decider-decides T in
+    begins-ran (runFaults T L l (byChains d)) T L l limit m (b .by-each d c) (j .by-each d c)
 
 pub whole-run : WholeRun
-whole-run l limit call b j t e = (judged-ran l t (call t) b (j t e) .ends, judged-ran l limit (call limit) b (j limit (omega arith)) .every-point t e)
+whole-run T L l limit call b j t e =
+    (judged-ran T L l t (call t) b (j t e) .ends, judged-ran T L l limit (call limit) b (j limit (omega arith)) .every-point t e)
+
+pub whole-set-run : WholeSetRun
+whole-set-run Ts l limit call a n j t e = (j t e .ran a n .ends, j limit (omega arith) .ran a n .every-point t e)

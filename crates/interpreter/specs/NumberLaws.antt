@@ -21,7 +21,8 @@ use Rattle.rules.specs.declared.Environment.{Environment}
 use Rattle.machine.specs.Machine.{value, address, lowerEnd, upperEnd, conditionHolds, Failing, none, fails, firstOf}
 use Rattle.machine.specs.Machine.{firstUnless, accessFailing, arithmeticFailing, failing, Status, going, stopped, stuck}
 use Rattle.machine.specs.Machine.{Point, Performed, done, no-step, performed, memoryOf, afterPerformed, afterChecks, branched}
-use Rattle.machine.specs.Machine.{statementStep, successorsOf, stepIfDue, nextPoint, pointAfter, beyond, terminatorFailing}
+use Rattle.machine.specs.Machine.{statementStep, successorsOf, stepIfDue, nextPoint, beyond, terminatorFailing}
+use Rattle.machine.specs.AlonePoints.{pointAfter}
 use Rattle.answers.specs.Answers.{checkNumber, checkStatement}
 use Rattle.checks.specs.Checked.{checkOf}
 use Rattle.answers.specs.declared.stops.Check.{Check}

@@ -1,298 +1,334 @@
--- What holds at every point of a begun run, from the soundness theorem: demand 3 (`AtPoint`), and what the answer at a point reads as.
+-- What holds at every point of a begun run of accepted routines: demand 3 (`AtPoint`). So of a run it is left to show where it ends (`EndsAt`).
 use Prim.Native.Nat.{ℕ, _+_, _-_, _≤_, _<_}
-use mathlib.Core.Path.{_≡_, refl, sym, ap, ap₂, _∙_}
+use mathlib.Core.Path.{_≡_, refl, sym, ap, subst, _∙_}
 use mathlib.Core.Logic.{_≢_, _↔_, _⊎_, inl, inr}
-use mathlib.Core.Bool.{Bool, true, false, false≢true, cond}
-use mathlib.Core.List.{List, []}
+use mathlib.Core.Bool.{Bool, true, false, false≢true}
+use mathlib.Core.List.{List, [], _∷_}
 use native.Mathlib.Nat.{eq-or-lt-of-le}
+use native.Mathlib.Numerals.{add-one}
 use native.Mathlib.Omega.{arith}
 use borrow.Author.Tests.{lt-ltb, le-ltb, ltb-true, ltb-false}
 use lib.Dec.{ltb}
 use lib.IntN.{ℤ}
-use lib.ListN.{length, getD}
+use lib.ListN.{length, getD, List·getD-eq-default}
+use Rattle.answers.specs.Answers.{Answer, reads}
+use Rattle.answers.specs.Answers as says
+use Rattle.answers.specs.declared.refusals.Refusal.{Refusal}
 use Rattle.words.specs.declared.sections.Sections.{Sections}
-use Rattle.table.specs.Form.{formOf, sectionsOf}
-use Rattle.table.specs.FormLaws.{well-formed, formed-sections}
-use Rattle.table.specs.declared.Form.the-variants.{WellFormed}
 use Rattle.conditions.specs.declared.Condition.{Condition}
 use Rattle.statements.specs.Statements.{statementAt}
+use Rattle.statements.specs.StatementLaws.{read-typed}
+use Rattle.statements.specs.declared.Simple.the-variants.{Address}
 use Rattle.statements.specs.declared.Statement.the-variants.{Plain, If, While, Bundle, Call}
 use Rattle.statements.specs.declared.StatementRead.{StatementRead}
 use Rattle.statements.specs.declared.StatementRead.the-variants.{Read, Unread}
+use Rattle.table.specs.Form.{sectionsOf}
 use Rattle.blocks.specs.Tree.{tree}
 use Rattle.listed.specs.Entries.{entriesOf, EntriesHold}
-use Rattle.rules.specs.BoundsRules.{inForce}
-use Rattle.rules.specs.AcceptedLaws.{clear}
+use Rattle.rules.specs.Calls.{Routine, routineAt, noRoutine}
 use Rattle.rules.specs.ListedLaws.{entries-right, entries-mean}
 use Rattle.rules.specs.ByChains.{Decider, byChains, DecidesTable}
 use Rattle.rules.specs.StateBefore.{stateBefore}
 use Rattle.rules.specs.Report.{readSafe, safeAt, reportedIf, reportedAt}
 use Rattle.rules.specs.ReportLaws.{report-agrees}
-use Rattle.rules.specs.Verdict.{environmentOf}
+use Rattle.rules.specs.Sets.{routinesOf}
+use Rattle.rules.specs.SetLaws.{length-routines, routine-at}
 use Rattle.rules.specs.Stored.{store, newState, faults}
-use Rattle.rules.specs.declared.Verdict.the-variants as verdict
-use Rattle.rules.specs.declared.Environment.{Environment}
-use Rattle.machine.specs.Machine.{value, Status, going, stopped, stuck, none, fails, Point, start, pointAfter}
+use Rattle.machine.specs.Machine.{value, none, fails, Status, going, stopped, stuck, halted, start}
 use Rattle.machine.specs.Points.{Access, no-access, access, accessFrom, AccessInside, Outside, failingAt}
-use Rattle.machine.specs.Soundness.{Begun, Sound, AccessAllowed}
-use Rattle.machine.specs.Frame.{Own}
-use Rattle.machine.specs.FrameLaws.{run-framed, own-names, own-origins, outside-own}
-use Rattle.machine.specs.RunSound.{sound}
-use Rattle.answers.specs.Answers.{Answer, reads}
-use Rattle.answers.specs.Answers as says
-use Rattle.interpreter.specs.StepLaws.{StepFacts, point-step, stop-same, steps-counted, done-on, stopped-on, counts-on}
-use Rattle.interpreter.specs.NumberLaws.{number-of, statement-of, stopped-number}
-use Rattle.interpreter.specs.Outcomes.{outcomeShown}
-use Rattle.rules.specs.Verdict as verdictRules
-use Rattle.interpreter.specs.Claim.{Lent, Leaves, answerOf, failingDue}
-use Rattle.interpreter.specs.Claim.{answerAt, AtPoint}
-use Rattle.entry.specs.declared.EntryVerdict.the-variants as entry
-use Rattle.answers.specs.declared.stops.Outcome.the-variants as outcome
-use Rattle.answers.specs.declared.stops.Outcome.{Outcome}
-use Rattle.answers.specs.declared.stops.Outcome.the-variants.{Done, Spent}
+use Rattle.machine.specs.Soundness.{AccessAllowed}
+use Rattle.machine.specs.Frame.{Names}
+use Rattle.machine.specs.SetMachine.{Frame, Stack, stack, startStack, stackAfter, nextStack}
+use Rattle.machine.specs.SetMachine as sets
+use Rattle.machine.specs.SetSound.{SetSetting, StackInvariant, StackSound, AllTrue, stack-kept, stack-sound}
+use Rattle.machine.specs.SetFrame.{StackOrigins, run-stack-framed}
+use Rattle.interpreter.specs.AnswerLaws.{never, going-done, going-spent, done-steps, stopped-steps, spent-steps}
+use Rattle.interpreter.specs.Traces.{ended, stopped-rests, counts, all-counted}
+use Rattle.interpreter.specs.SetStepLaws.{StackFacts, stack-facts, stack-rests, stack-counted}
+use Rattle.interpreter.specs.Claim.{Lent, Leaves, answerOf, lastNumber, stateOf, running, declaredAt, failingDue, answerAt}
+use Rattle.interpreter.specs.Claim.{CallersTrue, AtPoint, EndsAt, Ran}
 
 pub allowed-inside : (D : List ℕ) (n : ℕ) (a : Access) → AccessAllowed D n a → AccessInside D a
 allowed-inside D n no-access h = tt
 allowed-inside D n (access a o) h = h .inside
 
--- ---- what is lent and left, field by field
-
-abbrev pub lends : List ℤ → List ℤ → List ℕ → List ℕ → List ℕ → List ℕ → Lent
-lends T L D cs vs os = record { table = T; listed = L; directory = D; cells = cs; values = vs; origins = os }
-
-abbrev pub leaves : Outcome → List ℕ → List ℕ → Leaves
-leaves r vs cs = record { answer = r; values = vs; cells = cs }
-
--- ---- the answers at a point
-
-pub never : {A : Type 0} → _≡_ {A = ℕ} 0 1 → A
-never z = absurd (omega arith)
-
-pub going-done : (h : Sections) (s : Status) (steps due : ℕ) → s ≡ going → h .statements ≤ due → answerOf h s steps due ≡ says.done steps
-going-done h s steps due e l = rw (e, le-ltb due (h .statements) l)
-
-pub going-spent : (h : Sections) (s : Status) (steps due : ℕ) → s ≡ going → due < h .statements → answerOf h s steps due ≡ says.spent steps due
-going-spent h s steps due e l = rw (e, lt-ltb due (h .statements) l)
-
--- The steps of a point that answers done, where no statement is due.
-pub done-steps : (h : Sections) (s : Status) (steps due n : ℕ) → s ≢ stuck → answerOf h s steps due ≡ says.done n → (h .statements ≤ due) × (steps ≡ n)
-done-steps h going steps due n u e = go (ltb due (h .statements)) refl e
-  where
-    go : (b : Bool) → ltb due (h .statements) ≡ b → cond b (says.spent steps due) (says.done steps) ≡ says.done n → (h .statements ≤ due) × (steps ≡ n)
-    go true q e = let z : _≡_ {A = ℕ} 0 1 = cc in never z
-    go false q e = (ltb-false due (h .statements) q, cc)
-done-steps h (stopped k) steps due n u e = let z : _≡_ {A = ℕ} 0 1 = cc in never z
-done-steps h stuck steps due n u e = absurd (u refl)
-
--- The steps, the statement and the check of a point that answers stopped.
-pub stopped-steps : (h : Sections) (s : Status) (steps due n a k : ℕ) → answerOf h s steps due ≡ says.stopped n a k → (s ≡ stopped k) × (steps ≡ n) × (due ≡ a)
-stopped-steps h going steps due n a k e = go (ltb due (h .statements)) e
-  where
-    go : (b : Bool) → cond b (says.spent steps due) (says.done steps) ≡ says.stopped n a k → (going ≡ stopped k) × (steps ≡ n) × (due ≡ a)
-    go true e = let z : _≡_ {A = ℕ} 0 1 = cc in never z
-    go false e = let z : _≡_ {A = ℕ} 0 1 = cc in never z
-stopped-steps h (stopped j) steps due n a k e = let q : j ≡ k = cc in (ap stopped q, cc, cc)
-stopped-steps h stuck steps due n a k e = let z : _≡_ {A = ℕ} 0 1 = cc in never z
-
--- The steps of a point that answers spent.
-pub spent-steps : (h : Sections) (s : Status) (steps due n a : ℕ) → answerOf h s steps due ≡ says.spent n a → (s ≡ going) × (due < h .statements) × (steps ≡ n)
-spent-steps h going steps due n a e = go (ltb due (h .statements)) refl e
-  where
-    go : (b : Bool) → ltb due (h .statements) ≡ b → cond b (says.spent steps due) (says.done steps) ≡ says.spent n a
-        → (going ≡ going) × (due < h .statements) × (steps ≡ n)
-    go true q e = (refl, ltb-true due (h .statements) q, cc)
-    go false q e = let z : _≡_ {A = ℕ} 0 1 = cc in never z
-spent-steps h (stopped k) steps due n a e = let z : _≡_ {A = ℕ} 0 1 = cc in never z
-spent-steps h stuck steps due n a e = let z : _≡_ {A = ℕ} 0 1 = cc in never z
-
--- What the code's answer at a point reads as.
-pub reads-shown : (h : Sections) (s : Status) (steps due : ℕ) → ((n : ℕ) → s ≡ stopped n → (1 ≤ n) × (n ≤ 6))
-    → reads (outcomeShown h s steps due) ≡ answerOf h s steps due
-reads-shown h going steps due five = go (ltb due (h .statements))
-  where
-    go : (b : Bool) → reads (cond b (Spent steps due) (Done steps)) ≡ cond b (says.spent steps due) (says.done steps)
-    go true = refl
-    go false = refl
-reads-shown h (stopped n) steps due five =
-    let k = five n refl in
-    ap₂ (says.stopped steps) (statement-of n due) (number-of n due (k .0) (k .1))
-reads-shown h stuck steps due five = refl
-
--- A reported statement of an accepted table is shown safe.
-reported-safe : (T L : List ℤ) (a : ℕ) → faults [] T L ≡ [] → reportedAt store T L a ≡ true → safeAt store T (sectionsOf T) L a ≡ true
+-- A reported statement is shown safe.
+reported-safe : (T L : List ℤ) (a : ℕ) → reportedAt store T L a ≡ true → safeAt store T (sectionsOf T) L a ≡ true
 unfolding reportedAt reportedIf
-reported-safe T L a f e = rw f at e
+reported-safe T L a e = go (faults [] T L) e
+  where
+    go : (fs : List Refusal) → reportedIf fs (safeAt store T (sectionsOf T) L a) ≡ true → safeAt store T (sectionsOf T) L a ≡ true
+    go [] e = e
+    go (f ∷ fs) e = absurd (false≢true e)
 
--- ---- every point of a begun run
+-- Of a routine with its own sections and what it declares.
+module _ (L : List ℤ) (a : ℕ) where
+  abbrev ShownSafe : Routine → Type 0
+  ShownSafe r = readSafe store (r .environment) (statementAt (r .table) (r .sections) a)
+      (stateBefore store (r .environment) L (tree (r .table) (r .sections)) newState a) ≡ true
 
-module _ (T : List ℤ) (h : Sections) (L : List ℤ) (formed : formOf T ≡ WellFormed h) (accepts : faults [] T L ≡ []) (D cs vs os : List ℕ)
-    (begun : Begun h (environmentOf T h) D cs vs os) where
-  abbrev E : Environment
-  E = environmentOf T h
+  routine-safe : (Ts : List (List ℤ)) (n : ℕ) → n < length (routinesOf Ts) → safeAt store (routineAt (routinesOf Ts) n .table)
+      (sectionsOf (routineAt (routinesOf Ts) n .table)) L a ≡ true → ShownSafe (routineAt (routinesOf Ts) n)
+  unfolding safeAt
+  routine-safe Ts n k =
+      subst (λ (r : Routine). safeAt store (r .table) (sectionsOf (r .table)) L a ≡ true → ShownSafe r)
+      (sym (routine-at Ts n (omega (arith, k, length-routines Ts)))) (λ x. x)
 
-  abbrev lent : Lent
-  lent = lends T L D cs vs os
+module _ (Ts : List (List ℤ)) (l : Lent) (L : List ℤ) (setting : SetSetting (routinesOf Ts) (l .directory) (length (l .cells)) L)
+    (begins : StackInvariant (routinesOf Ts) (l .directory) (length (l .cells)) L
+    (startStack (routinesOf Ts) (l .directory) (l .cells) (l .values) (l .origins)))
+    (origins : (v : ℕ) → getD (l .origins) v 0 ≤ routineAt (routinesOf Ts) (lastNumber Ts) .sections .objects) where
+  abbrev rs : List Routine
+  rs = routinesOf Ts
 
-  abbrev first : Point
-  first = start T h E D cs vs os
+  abbrev D : List ℕ
+  D = l .directory
 
-  abbrev pub point : ℕ → Point
-  point t = pointAfter T h E D t first
+  abbrev last : Routine
+  last = routineAt rs (lastNumber Ts)
 
-  right : (t : ℕ) → Sound T h E D (length cs) L (point t)
-  right = sound T h L formed accepts D cs vs os begun
+  abbrev state : ℕ → Stack
+  state t = stateOf Ts l t
 
-  pub unstuck : (t : ℕ) → point t .status ≢ stuck
-  unstuck t = right t .has-step
+  abbrev room : ℕ
+  room = length (l .cells)
 
-  pub rows-long : (t : ℕ) → length (point t .rows) ≡ 16
-  rows-long t = right t .rows-long
+  abbrev first : Stack
+  first = startStack rs D (l .cells) (l .values) (l .origins)
 
-  first-going : first .status ≡ going
-  unfolding start
-  first-going = refl
+  right : (t : ℕ) → StackSound rs D room L setting (state t)
+  right t = stack-sound rs D room L setting (state t) (stack-kept rs D room L setting t first begins)
 
-  none-yet : first .steps ≡ 0
-  unfolding start
+  last-known : lastNumber Ts < length rs
+  unfolding startStack
+  last-known = begins .known
+
+  unstuck : (t : ℕ) → state t .point .status ≢ stuck
+  unstuck t = right t .running .has-step
+
+  next : (t : ℕ) → state (t + 1) ≡ nextStack rs D (state t)
+  unfolding stackAfter
+  next t = rw (add-one t)
+
+  -- ---- steps
+
+  abbrev status : Stack → Status
+  status K = K .point .status
+
+  abbrev steps : Stack → ℕ
+  steps K = K .point .steps
+
+  abbrev due : Stack → Bool
+  due K = ltb (K .point .due) (routineAt rs (K .routine) .sections .statements)
+
+  rests : (t : ℕ) → (status (state t) ≡ going → due (state t) ≡ false) → state (t + 1) ≡ state t
+  rests t k = next t ∙ stack-rests rs D (state t) k
+
+  free : (t : ℕ) → nextStack rs D (state t) .point .status ≢ stuck
+  free t z = unstuck (t + 1) (ap status (next t) ∙ z)
+
+  step-counted : (t : ℕ) → status (state t) ≡ going → due (state t) ≡ true → steps (state (t + 1)) ≡ steps (state t) + 1
+  step-counted t g q = ap steps (next t) ∙ stack-counted rs D (state t) g (ltb-true _ _ q) (free t)
+
+  facts : (t : ℕ) → status (state t) ≡ going → due (state t) ≡ true → StackFacts (failingDue Ts l t) (state t) (state (t + 1))
+  facts t g q = subst (λ (X : Stack). StackFacts (failingDue Ts l t) (state t) X) (sym (next t)) (stack-facts rs D (state t) g (ltb-true _ _ q) (free t))
+
+  none-yet : steps (state 0) ≡ 0
+  unfolding stackAfter startStack start
   none-yet = refl
 
-  -- The frame law, with all objects of the routine.
-  untouched : (t i : ℕ) → Outside D (h .objects) i → getD (point t .cells) i 0 ≡ getD cs i 0
-  unfolding start pointAfter
-  untouched t i o = run-framed T h E D (Own h) (own-names T h) t first (own-origins h os (begun .origins)) .elsewhere i (outside-own h D i o)
+  made : (t : ℕ) → status (state t) ≡ going → due (state t) ≡ true → steps (state t) ≡ t
+  made = all-counted state status steps due unstuck rests step-counted none-yet
 
-  counted : (t : ℕ) → point t .status ≡ going → point t .due < h .statements → point t .steps ≡ t
-  counted = steps-counted T h E D first unstuck none-yet
+  stays : (u t : ℕ) → t ≤ u → (status (state t) ≡ going → due (state t) ≡ false) → state u ≡ state t
+  stays = ended state status steps due unstuck rests step-counted
 
-  -- A run that has ended stays where it ended; one that takes a step counts it.
-  ended-done : (limit t : ℕ) → t ≤ limit → point t .status ≡ going → h .statements ≤ point t .due → point limit ≡ point t
-  ended-done limit t l g d = let q : t + (limit - t) ≡ limit = omega arith in rw q at (done-on T h E D first t (limit - t) g d)
+  later : (u t : ℕ) → t < u → status (state t) ≡ going → due (state t) ≡ true → steps (state t) < steps (state u)
+  later = counts state status steps due unstuck rests step-counted
 
-  ended-stopped : (limit t n : ℕ) → t ≤ limit → point t .status ≡ stopped n → point limit ≡ point t
-  ended-stopped limit t n l g = let q : t + (limit - t) ≡ limit = omega arith in rw q at (stopped-on T h E D first t (limit - t) n g)
+  stopped-stays : (u t n : ℕ) → t ≤ u → status (state t) ≡ stopped n → state u ≡ state t
+  stopped-stays u t n k e = stays u t k (stopped-rests state status steps due unstuck rests step-counted t n e)
 
-  counts : (limit t : ℕ) → t < limit → point t .status ≡ going → point t .due < h .statements → point t .steps < point limit .steps
-  counts limit t l g d = let q : t + 1 + (limit - (t + 1)) ≡ limit = omega arith in rw q at (counts-on T h E D first unstuck t (limit - (t + 1)) g d)
+  -- ---- the answers
 
-  abbrev pub shown : ℕ → Answer
-  shown t = answerAt lent h t
+  abbrev h : ℕ → Sections
+  h t = running Ts l t .sections
 
-  finished : (limit t : ℕ) → t ≤ limit → point t .status ≡ going → (shown limit ≡ says.done (point t .steps)) ↔ (h .statements ≤ point t .due)
-  finished limit t l g = (
-    (λ e. by-due e (ltb (point t .due) (h .statements)) refl),
-    (λ d. ap (λ (P : Point). answerOf h (P .status) (P .steps) (P .due)) (ended-done limit t l g d)
-        ∙ going-done h (point t .status) (point t .steps) (point t .due) g d),
+  abbrev shown : ℕ → Answer
+  shown t = answerAt Ts l t
+
+  abbrev answerIn : Stack → Answer
+  answerIn K = answerOf (routineAt rs (K .routine) .sections) (K .point .status) (K .point .steps) (K .point .due)
+
+  finished : (limit t : ℕ) → t ≤ limit → status (state t) ≡ going → (shown limit ≡ says.done (steps (state t))) ↔ (h t .statements ≤ state t .point .due)
+  finished limit t k g = (
+    (λ e. by-due e (due (state t)) refl),
+    (λ d. ap answerIn (stays limit t k (λ x. le-ltb _ _ d)) ∙ going-done (h t) (status (state t)) (steps (state t)) (state t .point .due) g d),
   )
     where
-      by-time : shown limit ≡ says.done (point t .steps) → point t .due < h .statements → (t ≡ limit) ⊎ (t < limit) → ⊥
+      by-time : shown limit ≡ says.done (steps (state t)) → due (state t) ≡ true → (t ≡ limit) ⊎ (t < limit) → ⊥
       by-time e d (inl q) =
-          let f = done-steps h (point limit .status) (point limit .steps) (point limit .due) (point t .steps) (unstuck limit) e in
-          omega (arith, f .0, ap (λ (n : ℕ). point n .due) q)
+          let f = done-steps (h limit) (status (state limit)) (steps (state limit)) (state limit .point .due) (steps (state t)) (unstuck limit) e in
+          let x : due (state limit) ≡ true = ap (λ (n : ℕ). due (state n)) (sym q) ∙ d in
+          omega (arith, f .0, ltb-true (state limit .point .due) (h limit .statements) x)
       by-time e d (inr q) =
-          let f = done-steps h (point limit .status) (point limit .steps) (point limit .due) (point t .steps) (unstuck limit) e in
-          omega (arith, f .1, counts limit t q g d)
+          let f = done-steps (h limit) (status (state limit)) (steps (state limit)) (state limit .point .due) (steps (state t)) (unstuck limit) e in
+          omega (arith, f .1, later limit t q g d)
 
-      by-due : shown limit ≡ says.done (point t .steps) → (b : Bool) → ltb (point t .due) (h .statements) ≡ b → h .statements ≤ point t .due
-      by-due e true q = absurd (by-time e (ltb-true (point t .due) (h .statements) q) (eq-or-lt-of-le l))
-      by-due e false q = ltb-false (point t .due) (h .statements) q
+      by-due : shown limit ≡ says.done (steps (state t)) → (b : Bool) → due (state t) ≡ b → h t .statements ≤ state t .point .due
+      by-due e true q = absurd (by-time e q (eq-or-lt-of-le k))
+      by-due e false q = ltb-false _ _ q
 
-  spent : (limit t : ℕ) → point t .status ≡ going → point t .due < h .statements → (shown limit ≡ says.spent (point t .steps) (point t .due)) ↔ (t ≡ limit)
-  spent limit t g l = (
-    (λ e. let f = spent-steps h (point limit .status) (point limit .steps) (point limit .due) (point t .steps) (point t .due) e in
-        omega (arith, f .2, counted limit (f .0) (f .1), counted t g l)),
-    (λ e. rw (← e) (going-spent h (point t .status) (point t .steps) (point t .due) g l)),
+  spent : (limit t : ℕ) → status (state t) ≡ going → state t .point .due < h t .statements
+      → (shown limit ≡ says.spent (steps (state t)) (state t .point .due)) ↔ (t ≡ limit)
+  spent limit t g d = (
+    (λ e. let f = spent-steps (h limit) (status (state limit)) (steps (state limit)) (state limit .point .due) (steps (state t)) (state t .point .due) e in
+        omega (arith, f .2, made limit (f .0) (lt-ltb _ _ (f .1)), made t g (lt-ltb _ _ d))),
+    (λ e. rw (← e) (going-spent (h t) (status (state t)) (steps (state t)) (state t .point .due) g d)),
   )
 
-  answers-check : (limit t : ℕ) → point t .status ≡ going → point t .due < h .statements → t < limit → (n a : ℕ)
-      → (shown limit ≡ says.stopped (point t .steps + 1) a n) ↔ ((failingDue lent h t ≡ fails n) × (a ≡ point t .due))
-  answers-check limit t g d l n a = (
-    (λ e. by-status e (point (t + 1) .status) refl),
-    (λ w. at-stop n (facts .stops n .1 (w .0)) ∙ ap (λ (x : ℕ). says.stopped (point t .steps + 1) x n) (sym (w .1))),
-  )
+  module _ (limit t : ℕ) (g : status (state t) ≡ going) (d : state t .point .due < h t .statements) (k : t < limit) (n a : ℕ) where
+    here : StackFacts (failingDue Ts l t) (state t) (state (t + 1))
+    here = facts t g (lt-ltb _ _ d)
+
+    -- The run has stopped with this step.
+    at-stop : (j : ℕ) → status (state (t + 1)) ≡ stopped j → shown limit ≡ says.stopped (steps (state t) + 1) (state t .point .due) j
+    at-stop j s = ap answerIn (stopped-stays limit (t + 1) j (omega arith) s ∙ here .same j s)
+
+    -- The run went on, so that it cannot have stopped with this step.
+    went-on : shown limit ≡ says.stopped (steps (state t) + 1) a n → status (state (t + 1)) ≡ going → ⊥
+    went-on e s = by-due (due (state (t + 1))) refl
+      where
+        ends : (status (state limit) ≡ stopped n) × (steps (state limit) ≡ steps (state t) + 1) × (state limit .point .due ≡ a)
+        ends = stopped-steps (h limit) (status (state limit)) (steps (state limit)) (state limit .point .due) (steps (state t) + 1) a n e
+
+        contrary : status (state limit) ≡ going → ⊥
+        contrary x = let q = ends .0 in let z : _≡_ {A = ℕ} 0 1 = cc in omega arith
+
+        by-time : due (state (t + 1)) ≡ true → (t + 1 ≡ limit) ⊎ (t + 1 < limit) → ⊥
+        by-time m (inl q) = contrary (ap (λ (i : ℕ). status (state i)) (sym q) ∙ s)
+        by-time m (inr q) = omega (arith, ends .1, here .counts s, later limit (t + 1) q s m)
+
+        by-due : (b : Bool) → due (state (t + 1)) ≡ b → ⊥
+        by-due true q = by-time q (eq-or-lt-of-le (omega arith))
+        by-due false q = contrary (ap status (stays limit (t + 1) (omega arith) (λ x. q)) ∙ s)
+
+    by-status : shown limit ≡ says.stopped (steps (state t) + 1) a n → (s : Status) → status (state (t + 1)) ≡ s
+        → (failingDue Ts l t ≡ fails n) × (a ≡ state t .point .due)
+    by-status e going s = absurd (went-on e s)
+    by-status e (stopped j) s =
+        let q : says.stopped (steps (state t) + 1) a n ≡ says.stopped (steps (state t) + 1) (state t .point .due) j = sym e ∙ at-stop j s in
+        let i : j ≡ n = cc in
+        (here .stops j .0 s ∙ ap fails i, cc)
+    by-status e stuck s = absurd (unstuck (t + 1) s)
+
+    answers-check : (shown limit ≡ says.stopped (steps (state t) + 1) a n) ↔ ((failingDue Ts l t ≡ fails n) × (a ≡ state t .point .due))
+    answers-check = (
+      (λ e. by-status e (status (state (t + 1))) refl),
+      (λ w. at-stop n (here .stops n .1 (w .0)) ∙ ap (λ (x : ℕ). says.stopped (steps (state t) + 1) x n) (sym (w .1))),
+    )
+
+  -- A stop is a step from a statement that is due.
+  stop-same : (t : ℕ) → status (state t) ≡ going → (n : ℕ) → status (state (t + 1)) ≡ stopped n
+      → state (t + 1) ≡ stack (state t .callers) (state t .routine) (halted (state t .point) n)
+  stop-same t g n e = go (due (state t)) refl
     where
-      facts : StepFacts (failingDue lent h t) (point t) (point (t + 1))
-      facts = point-step T h E D first t g d (unstuck (t + 1))
+      go : (b : Bool) → due (state t) ≡ b → state (t + 1) ≡ stack (state t .callers) (state t .routine) (halted (state t .point) n)
+      go true q = facts t g q .same n e
+      go false q =
+          let s : going ≡ stopped n = sym (ap status (rests t (λ x. q)) ∙ g) ∙ e in
+          let z : _≡_ {A = ℕ} 0 1 = cc in
+          never z
 
-      -- The run has stopped with this step.
-      at-stop : (k : ℕ) → point (t + 1) .status ≡ stopped k → shown limit ≡ says.stopped (point t .steps + 1) (point t .due) k
-      at-stop k s = ap (λ (P : Point). answerOf h (P .status) (P .steps) (P .due)) (ended-stopped limit (t + 1) k (omega arith) s ∙ facts .same k s)
+  -- ---- callers and cells
 
-      -- The run went on, so that it cannot have stopped with this step.
-      went-on : shown limit ≡ says.stopped (point t .steps + 1) a n → point (t + 1) .status ≡ going → ⊥
-      went-on e s = by-due (ltb (point (t + 1) .due) (h .statements)) refl
-        where
-          last : (point limit .status ≡ stopped n) × (point limit .steps ≡ point t .steps + 1) × (point limit .due ≡ a)
-          last = stopped-steps h (point limit .status) (point limit .steps) (point limit .due) (point t .steps + 1) a n e
+  callers-true : (fs : List Frame) → AllTrue rs D room L setting fs → CallersTrue Ts l fs
+  callers-true [] w = tt
+  callers-true (F ∷ fs) w = (w .0, callers-true fs (w .1))
 
-          contrary : point limit .status ≡ going → ⊥
-          contrary g = let k = last .0 in let z : _≡_ {A = ℕ} 0 1 = cc in omega arith
+  -- All objects of the set.
+  abbrev Of : ℕ → Type 0
+  Of o = o < last .sections .objects
 
-          by-time : point (t + 1) .due < h .statements → (t + 1 ≡ limit) ⊎ (t + 1 < limit) → ⊥
-          by-time m (inl q) = contrary (ap (λ (n : ℕ). point n .status) (sym q) ∙ s)
-          by-time m (inr q) = omega (arith, last .1, facts .counts s, counts limit (t + 1) q s m)
+  same-count : (n : ℕ) → n < length rs → routineAt rs n .sections .objects ≡ last .sections .objects
+  same-count n k = setting .objects n (lastNumber Ts) k last-known
 
-          by-due : (b : Bool) → ltb (point (t + 1) .due) (h .statements) ≡ b → ⊥
-          by-due true q = by-time (ltb-true (point (t + 1) .due) (h .statements) q) (eq-or-lt-of-le (omega arith))
-          by-due false q = contrary
-              (ap (λ (P : Point). P .status) (ended-done limit (t + 1) (omega arith) s (ltb-false (point (t + 1) .due) (h .statements) q)) ∙ s)
+  names : (n : ℕ) → Names (sets.tableOf rs D n) (sets.sectionsOf rs D n) Of
+  names n a p o e = go (ltb n (length rs)) refl (read-typed (sets.tableOf rs D n) (sets.sectionsOf rs D n) a (Plain (Address p o)) e .object)
+    where
+      go : (b : Bool) → ltb n (length rs) ≡ b → o < routineAt rs n .sections .objects → o < last .sections .objects
+      go true q x = omega (arith, x, same-count n (ltb-true _ _ q))
+      go false q x =
+          let z : routineAt rs n ≡ noRoutine = List·getD-eq-default rs noRoutine {n = n} (ltb-false _ _ q) in
+          absurd (omega (arith, x, ap (λ (r : Routine). r .sections .objects) z))
 
-      by-status : shown limit ≡ says.stopped (point t .steps + 1) a n → (s : Status) → point (t + 1) .status ≡ s
-          → (failingDue lent h t ≡ fails n) × (a ≡ point t .due)
-      by-status e going s = absurd (went-on e s)
-      by-status e (stopped k) s =
-          let q : says.stopped (point t .steps + 1) a n ≡ says.stopped (point t .steps + 1) (point t .due) k = sym e ∙ at-stop k s in
-          let j : k ≡ n = cc in
-          (facts .stops k .0 s ∙ ap fails j, cc)
-      by-status e stuck s = absurd (unstuck (t + 1) s)
+  start-origins : StackOrigins D Of first
+  unfolding startStack start
+  start-origins = record { running = λ v o e. omega (arith, e, origins v); callers = tt }
+
+  start-cells : first .point .cells ≡ l .cells
+  unfolding startStack start
+  start-cells = refl
+
+  untouched : (t i : ℕ) → Outside D (h t .objects) i → getD (state t .point .cells) i 0 ≡ getD (l .cells) i 0
+  untouched t i o =
+      run-stack-framed rs D Of names t first start-origins .elsewhere i
+      (λ c. o (c .object) (omega (arith, c .chosen, same-count (state t .routine) (right t .known))) (c .above) (c .below))
+      ∙ ap (λ (x : List ℕ). getD x i 0) start-cells
 
   -- ---- point 9
 
-  listed : (t : ℕ) (c : Condition) (n : ℕ) → statementAt T h (point t .due) ≡ Read (While c n)
-      → EntriesHold (entriesOf L (point t .due)) (value (point t .values))
+  listed : (t : ℕ) (c : Condition) (n : ℕ) → statementAt (running Ts l t .table) (running Ts l t .sections) (state t .point .due) ≡ Read (While c n)
+      → EntriesHold (entriesOf L (state t .point .due)) (value (state t .point .values))
   listed t c n e =
-      let w = well-formed T h formed .limits in
-      entries-mean T h w (entriesOf L (point t .due)) (value (point t .values)) (entries-right T h w L (clear [] T h L formed accepts .listed) (point t .due))
-      (right t .listed c n e)
+      let T = running Ts l t .table in
+      let w = setting .formed (state t .routine) (right t .known) .formed .limits in
+      entries-mean T (h t) w (entriesOf L (state t .point .due)) (value (state t .point .values))
+      (entries-right T (h t) w L (setting .listed (state t .routine) (right t .known)) (state t .point .due)) (right t .running .listed c n e)
 
-  read-passes : (t : ℕ) (r : StatementRead) → statementAt T h (point t .due) ≡ r
-      → readSafe store E r (stateBefore store E L (tree T h) newState (point t .due)) ≡ true → failingAt (inForce E (point t .rows)) r (point t .values) ≡ none
-  read-passes t (Read (Plain s)) e q = right t .safe s e q
+  read-passes : (t : ℕ) (r : StatementRead) → statementAt (running Ts l t .table) (h t) (state t .point .due) ≡ r
+      → readSafe store (running Ts l t .environment) r
+      (stateBefore store (running Ts l t .environment) L (tree (running Ts l t .table) (h t)) newState (state t .point .due)) ≡ true
+      → failingAt (declaredAt Ts l t) r (state t .point .values) ≡ none
+  read-passes t (Read (Plain s)) e q = right t .running .safe s e q
   read-passes t (Read (If c n m)) e q = absurd (false≢true q)
   read-passes t (Read (While c n)) e q = absurd (false≢true q)
   read-passes t (Read (Bundle n)) e q = absurd (false≢true q)
   read-passes t (Read (Call c)) e q = absurd (false≢true q)
   read-passes t Unread e q = absurd (false≢true q)
 
-  safe-passes : (t : ℕ) → safeAt store T h L (point t .due) ≡ true → failingDue lent h t ≡ none
-  unfolding safeAt
-  safe-passes t q = read-passes t (statementAt T h (point t .due)) refl q
-
-  reported : (t : ℕ) (d : Decider) → DecidesTable T d → reportedAt (byChains d) T L (point t .due) ≡ true → failingDue lent h t ≡ none
+  reported : (t : ℕ) (d : Decider) → DecidesTable (running Ts l t .table) d
+      → reportedAt (byChains d) (running Ts l t .table) L (state t .point .due) ≡ true → failingDue Ts l t ≡ none
   reported t d c r =
-      let e : reportedAt store T L (point t .due) ≡ true = report-agrees T L d c (point t .due) ∙ r in
-      safe-passes t (ap (λ (g : Sections). safeAt store T g L (point t .due)) (formed-sections T h formed) ∙ by-store t e)
-    where
-      by-store : (t : ℕ) → reportedAt store T L (point t .due) ≡ true → safeAt store T (sectionsOf T) L (point t .due) ≡ true
-      by-store t e = reported-safe T L (point t .due) accepts e
+      let T = running Ts l t .table in
+      let a = reported-safe T L (state t .point .due) (report-agrees T L d c (state t .point .due) ∙ r) in
+      read-passes t (statementAt T (h t) (state t .point .due)) refl (routine-safe L (state t .point .due) Ts (state t .routine)
+      (right t .known) a)
 
-  pub at-point : (limit t : ℕ) (a : Answer) → a ≡ shown limit → t ≤ limit → AtPoint lent h limit a t
-  at-point limit t a e l = rw e (record {
-    bounds = right t .bounds;
-    accesses = λ s b. allowed-inside D (length (point s .cells)) (accessFrom T h E (point s .status) (point s)) (right s .access-allowed);
+  -- ---- every state
+
+  at-point : (limit t : ℕ) (a : Answer) → a ≡ shown limit → t ≤ limit → AtPoint Ts l L limit a t
+  at-point limit t a e k = rw e (record {
+    bounds = right t .running .bounds;
+    callers = callers-true (state t .callers) (right t .callers);
+    accesses = λ s b. allowed-inside D (length (state s .point .cells))
+        (accessFrom (running Ts l s .table) (running Ts l s .sections) (running Ts l s .environment) (state s .point .status) (state s .point))
+        (right s .running .access-allowed);
     untouched = untouched t;
-    last-zero = right t .last-zero;
+    last-zero = right t .running .last-zero;
     listed = listed t;
-    reported = λ d c r. reported t d c r;
+    reported = reported t;
     has-step = unstuck t;
-    counted = λ d. counted t (d .0) (d .1);
-    finished = finished limit t l;
+    counted = λ d. made t (d .0) (lt-ltb _ _ (d .1));
+    frames = right t .frames;
+    finished = finished limit t k;
     spent = λ d. spent limit t (d .0) (d .1);
-    stops = λ d n. point-step T h E D first t (d .0) (d .1) (unstuck (t + 1)) .stops n;
+    stops = λ d n. facts t (d .0) (lt-ltb _ _ (d .1)) .stops n;
     answers-check = λ d m n s. answers-check limit t (d .0) (d .1) m n s;
-    stop-changes-nothing = stop-same T h E D first unstuck t;
-    goes-on = λ d f. let p = point-step T h E D first t (d .0) (d .1) (unstuck (t + 1)) in (p .goes f, p .counts (p .goes f));
+    stop-changes-nothing = stop-same t;
+    goes-on = λ d f. let p = facts t (d .0) (lt-ltb _ _ (d .1)) in (p .goes f, p .counts (p .goes f));
   })
 
-  -- What the code answers at a point reads as what the machine shows there.
-  pub reads-at : (t : ℕ) → reads (outcomeShown h (point t .status) (point t .steps) (point t .due)) ≡ shown t
-  reads-at t = reads-shown h (point t .status) (point t .steps) (point t .due) (λ n s. stopped-number T h E D t n first first-going s)
+  -- A RUN THAT ENDS WHERE THE SET'S MACHINE ENDS IS AS CLAIMED, at every point.
+  pub ends-ran : (limit : ℕ) (m : Leaves) → EndsAt Ts l limit m → Ran Ts l L limit m
+  ends-ran limit m e = record { ends = e; every-point = λ t k. at-point limit t (reads (m .answer)) (e .answer) k }

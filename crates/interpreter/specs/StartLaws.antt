@@ -25,7 +25,8 @@ use Rattle.blocks.specs.SuccessorLaws.{written-at}
 use Rattle.rules.specs.BoundsRules.{isPointer, objectLength, ownRows}
 use Rattle.rules.specs.Verdict.{environmentOf}
 use Rattle.rules.specs.declared.Environment.{Environment}
-use Rattle.machine.specs.Machine.{value, lowerEnd, upperEnd, low, high, isObject, top, takesFrom, originHolds, boundsTrue, stuck, start, pointAfter}
+use Rattle.machine.specs.Machine.{value, lowerEnd, upperEnd, low, high, isObject, top, takesFrom, originHolds, boundsTrue, stuck, start}
+use Rattle.machine.specs.AlonePoints.{pointAfter}
 use Rattle.entry.specs.Entry.{memoryRight, endBefore, pairRight, lengthsRight, entryRight, consUnless, failures, entryRefusals, lastRight}
 use Rattle.steps.specs.Bare.{Prepared}
 use Rattle.interpreter.specs.BareRun.{bareRun, SafeRun}

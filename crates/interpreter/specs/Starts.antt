@@ -41,6 +41,6 @@ abbrev pub First : List Refusal → Refusal → Type 0
 First fs r = (rest : List Refusal) × (fs ≡ r ∷ rest)
 
 -- What `prepare` promises, by the store's facts: the first fault, or what the loop begins with is laid out.
-abbrev pub Starts : Start → Lent → List ℕ → List ℕ → Type 0
-Starts (begin.Refused r) l W S = First (runFaults store l) r
-Starts (begin.Begun h) l W S = Launched (l .table) h (l .listed) (l .directory) (l .cells) (l .values) (l .origins) W S
+abbrev pub Starts : Start → List ℤ → List ℤ → Lent → List ℕ → List ℕ → Type 0
+Starts (begin.Refused r) T L l W S = First (runFaults T L l store) r
+Starts (begin.Begun h) T L l W S = Launched T h L (l .directory) (l .cells) (l .values) (l .origins) W S

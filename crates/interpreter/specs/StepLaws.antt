@@ -1,5 +1,5 @@
 -- What one step of the plain machine does, by the statement due and the checks: for the claim about every point.
-use Prim.Native.Nat.{ℕ, zero, suc, _+_, _≤_, _<_}
+use Prim.Native.Nat.{ℕ, _+_, _≤_, _<_}
 use mathlib.Core.Path.{_≡_, refl, sym, ap, subst, _∙_}
 use mathlib.Core.Logic.{_≢_, _↔_}
 use mathlib.Core.Bool.{Bool, true, false}
@@ -18,8 +18,10 @@ use Rattle.blocks.specs.Flow.{Successors}
 use Rattle.rules.specs.BoundsRules.{inForce}
 use Rattle.rules.specs.declared.Environment.{Environment}
 use Rattle.machine.specs.Machine.{Failing, none, fails, failing, conditionHolds, Status, going, stopped, stuck, Point, Performed, done, no-step}
-use Rattle.machine.specs.Machine.{performed, memoryOf, moved, halted, afterChecks, branched, statementStep, successorsOf, nextPoint, pointAfter}
+use Rattle.machine.specs.Machine.{performed, memoryOf, moved, halted, afterChecks, branched, statementStep, successorsOf, nextPoint}
+use Rattle.machine.specs.AlonePoints.{pointAfter}
 use Rattle.machine.specs.Points.{failingAt}
+use Rattle.interpreter.specs.Traces.{counts, all-counted, StepsMade, steps-made as made}
 
 -- The step from P to Q, where f is the first check that fails.
 pub record StepFacts (f : Failing) (P Q : Point) : Type 0 where
@@ -78,143 +80,60 @@ module _ (T : List ℤ) (h : Sections) (E : Environment) (D : List ℕ) where
   unfolding nextPoint
   next-done P l = rw (le-ltb (P .due) (h .statements) l)
 
-  module _ (P₀ : Point) where
+  -- The points of a routine by itself are counted as those of any machine.
+  module _ (P₀ : Point) (unstuck : (t : ℕ) → pointAfter T h E D t P₀ .status ≢ stuck) where
     abbrev point : ℕ → Point
     point t = pointAfter T h E D t P₀
+
+    abbrev status : Point → Status
+    status P = P .status
+
+    abbrev steps : Point → ℕ
+    steps P = P .steps
+
+    abbrev due : Point → Bool
+    due P = ltb (P .due) (h .statements)
 
     after : (t : ℕ) → point (t + 1) ≡ nextPoint T h E D (point t .status) (point t)
     unfolding pointAfter
     after t = rw (add-one t)
 
-    pub point-step : (t : ℕ) → point t .status ≡ going → point t .due < h .statements → point (t + 1) .status ≢ stuck
-        → StepFacts (failingAt (inForce E (point t .rows)) (statementAt T h (point t .due)) (point t .values)) (point t) (point (t + 1))
-    point-step t g l u =
-        let e : point (t + 1) ≡ statementStep E D (statementAt T h (point t .due)) (successorsOf T h E D (point t .due)) (point t)
-        = after t ∙ ap (λ (s : Status). nextPoint T h E D s (point t)) g ∙ next-going (point t) l in
-        subst (λ (Q : Point). StepFacts (failingAt (inForce E (point t .rows)) (statementAt T h (point t .due)) (point t .values)) (point t) Q) (sym e)
-        (step-facts E D (statementAt T h (point t .due)) (successorsOf T h E D (point t .due)) (point t) (λ z. u (ap (λ (Q : Point). Q .status) e ∙ z)))
-
-    start-steps : P₀ .steps ≡ 0 → point 0 .steps ≡ 0
-    unfolding pointAfter
-    start-steps e = e
-
-    -- A run that has ended stays where it is.
-    stays-done : (t : ℕ) → point t .status ≡ going → h .statements ≤ point t .due → point (t + 1) ≡ point t
-    stays-done t g l = after t ∙ ap (λ (s : Status). nextPoint T h E D s (point t)) g ∙ next-done (point t) l
-
-    stays-stopped : (t n : ℕ) → point t .status ≡ stopped n → point (t + 1) ≡ point t
+    rests : (t : ℕ) → (point t .status ≡ going → due (point t) ≡ false) → point (t + 1) ≡ point t
     unfolding nextPoint
-    stays-stopped t n g = after t ∙ ap (λ (s : Status). nextPoint T h E D s (point t)) g
+    rests t k = after t ∙ go (point t .status) refl
+      where
+        go : (s : Status) → point t .status ≡ s → nextPoint T h E D s (point t) ≡ point t
+        go going e = next-done (point t) (ltb-false _ _ (k e))
+        go (stopped n) e = refl
+        go stuck e = refl
 
-    pub done-on : (t d : ℕ) → point t .status ≡ going → h .statements ≤ point t .due → point (t + d) ≡ point t
-    done-on t zero g l = let q : t + 0 ≡ t = omega arith in ap point q
-    done-on t (suc d) g l =
-        let q : t + suc d ≡ t + d + 1 = omega arith in
-        let e = done-on t d g l in
-        ap point q ∙ stays-done (t + d) (ap (λ (Q : Point). Q .status) e ∙ g) (omega (arith, ap (λ (Q : Point). Q .due) e)) ∙ e
+    -- A step from a statement that is due is counted.
+    counted : (t : ℕ) → point t .status ≡ going → due (point t) ≡ true → point (t + 1) .steps ≡ point t .steps + 1
+    counted t g l = by-status (point (t + 1) .status) refl
+      where
+        next : point (t + 1) ≡ statementStep E D (statementAt T h (point t .due)) (successorsOf T h E D (point t .due)) (point t)
+        next = after t ∙ (ap (λ (s : Status). nextPoint T h E D s (point t)) g ∙ next-going (point t) (ltb-true _ _ l))
 
-    pub stopped-on : (t d n : ℕ) → point t .status ≡ stopped n → point (t + d) ≡ point t
-    stopped-on t zero n g = let q : t + 0 ≡ t = omega arith in ap point q
-    stopped-on t (suc d) n g =
-        let q : t + suc d ≡ t + d + 1 = omega arith in
-        let e = stopped-on t d n g in
-        ap point q ∙ stays-stopped (t + d) n (ap (λ (Q : Point). Q .status) e ∙ g) ∙ e
+        facts : StepFacts (failingAt (inForce E (point t .rows)) (statementAt T h (point t .due)) (point t .values)) (point t) (point (t + 1))
+        facts = subst (λ (Q : Point). StepFacts (failingAt (inForce E (point t .rows)) (statementAt T h (point t .due)) (point t .values)) (point t) Q)
+            (sym next) (step-facts E D _ _ (point t) (λ z. unstuck (t + 1) (ap status next ∙ z)))
 
-    module _ (unstuck : (t : ℕ) → point t .status ≢ stuck) where
-      -- A stop is a step from a statement that is due.
-      pub stop-same : (t : ℕ) → point t .status ≡ going → (n : ℕ) → point (t + 1) .status ≡ stopped n
-          → point (t + 1) ≡ halted (point t) n
-      stop-same t g n e = go (ltb (point t .due) (h .statements)) refl
-        where
-          go : (b : Bool) → ltb (point t .due) (h .statements) ≡ b
-              → point (t + 1) ≡ halted (point t) n
-          go true q = point-step t g (ltb-true _ _ q) (unstuck (t + 1)) .same n e
-          go false q =
-              let s : going ≡ stopped n = sym (ap (λ (Q : Point). Q .status) (stays-done t g (ltb-false _ _ q)) ∙ g) ∙ e in
-              let z : _≡_ {A = ℕ} 0 1 = cc in
-              never z
+        by-status : (s : Status) → point (t + 1) .status ≡ s → point (t + 1) .steps ≡ point t .steps + 1
+        by-status going e = facts .counts e
+        by-status (stopped n) e = ap steps (facts .same n e)
+        by-status stuck e = absurd (unstuck (t + 1) e)
 
-      count-next : (t : ℕ) → (point t .status ≡ going → point t .due < h .statements → point t .steps ≡ t)
-          → point (t + 1) .status ≡ going → point (t + 1) .due < h .statements → point (t + 1) .steps ≡ t + 1
-      count-next t ih g l = by-status (point t .status) refl
-        where
-          by-due : point t .status ≡ going → (b : Bool) → ltb (point t .due) (h .statements) ≡ b → point (t + 1) .steps ≡ t + 1
-          by-due s true q = omega (
-            arith,
-            point-step t s (ltb-true (point t .due) (h .statements) q) (unstuck (t + 1)) .counts g,
-            ih s (ltb-true (point t .due) (h .statements) q),
-          )
-          by-due s false q =
-              let e : point (t + 1) .due ≡ point t .due = ap (λ (Q : Point). Q .due) (stays-done t s (ltb-false (point t .due) (h .statements) q)) in
-              absurd (omega (arith, ltb-false (point t .due) (h .statements) q))
-
-          by-status : (s : Status) → point t .status ≡ s → point (t + 1) .steps ≡ t + 1
-          by-status going e = by-due e (ltb (point t .due) (h .statements)) refl
-          by-status (stopped n) e =
-              let q : going ≡ stopped n = sym g ∙ ap (λ (Q : Point). Q .status) (stays-stopped t n e) ∙ e in
-              let z : _≡_ {A = ℕ} 0 1 = cc in
-              never z
-          by-status stuck e = absurd (unstuck t e)
-
-      -- A run that goes on has made t steps.
-      pub steps-counted : P₀ .steps ≡ 0 → (t : ℕ) → point t .status ≡ going → point t .due < h .statements → point t .steps ≡ t
-      steps-counted e zero g l = start-steps e
-      steps-counted e (suc t) g l = rw (add-one t) at (count-next t (steps-counted e t) (rw (← add-one t) at g) (rw (← add-one t) at l))
-
-      -- A step from a statement that is due is counted.
-      step-counted : (t : ℕ) → point t .status ≡ going → point t .due < h .statements → point (t + 1) .steps ≡ point t .steps + 1
-      step-counted t g l = by-status (point (t + 1) .status) refl
-        where
-          by-status : (s : Status) → point (t + 1) .status ≡ s → point (t + 1) .steps ≡ point t .steps + 1
-          by-status going e = point-step t g l (unstuck (t + 1)) .counts e
-          by-status (stopped n) e = ap (λ (Q : Point). Q .steps) (point-step t g l (unstuck (t + 1)) .same n e)
-          by-status stuck e = absurd (unstuck (t + 1) e)
-
-      steps-grow : (t : ℕ) → point t .steps ≤ point (t + 1) .steps
-      steps-grow t = by-status (point t .status) refl
-        where
-          by-due : point t .status ≡ going → (b : Bool) → ltb (point t .due) (h .statements) ≡ b → point t .steps ≤ point (t + 1) .steps
-          by-due g true q = omega (arith, step-counted t g (ltb-true (point t .due) (h .statements) q))
-          by-due g false q = omega (arith, ap (λ (Q : Point). Q .steps) (stays-done t g (ltb-false (point t .due) (h .statements) q)))
-
-          by-status : (s : Status) → point t .status ≡ s → point t .steps ≤ point (t + 1) .steps
-          by-status going e = by-due e (ltb (point t .due) (h .statements)) refl
-          by-status (stopped n) e = omega (arith, ap (λ (Q : Point). Q .steps) (stays-stopped t n e))
-          by-status stuck e = absurd (unstuck t e)
-
-      steps-grow-on : (t d : ℕ) → point t .steps ≤ point (t + d) .steps
-      steps-grow-on t zero = let q : t + 0 ≡ t = omega arith in rw q (omega arith)
-      steps-grow-on t (suc d) = let q : t + suc d ≡ t + d + 1 = omega arith in rw q (omega (arith, steps-grow-on t d, steps-grow (t + d)))
-
-      -- A run that takes its step counts it in the end.
-      pub counts-on : (t d : ℕ) → point t .status ≡ going → point t .due < h .statements → point t .steps < point (t + 1 + d) .steps
-      counts-on t d g l = omega (arith, step-counted t g l, steps-grow-on (t + 1) d)
-
-      -- A run makes no more steps than it is allowed, and stands where it stood after those that it made.
-      pub record StepsMade (t : ℕ) : Type 0 where
-        pub at-most : point t .steps ≤ t
-        pub same : point (point t .steps) ≡ point t
-
-      pub steps-made : P₀ .steps ≡ 0 → (t : ℕ) → StepsMade t
+    module _ (none-yet : P₀ .steps ≡ 0) where
+      start-steps : point 0 .steps ≡ 0
       unfolding pointAfter
-      steps-made z zero = record { at-most = omega arith; same = ap point z }
-      steps-made z (suc t) = rw (add-one t) at (by-status (steps-made z t) (point t .status) refl)
-        where
-          stayed : StepsMade t → point (t + 1) ≡ point t → StepsMade (t + 1)
-          stayed m e =
-              let q : point (t + 1) .steps ≡ point t .steps = ap (λ (Q : Point). Q .steps) e in
-              record { at-most = omega (arith, m .at-most); same = ap point q ∙ m .same ∙ sym e }
+      start-steps = none-yet
 
-          stepped : point t .status ≡ going → point t .due < h .statements → StepsMade (t + 1)
-          stepped g l =
-              let q : point (t + 1) .steps ≡ t + 1 = omega (arith, step-counted t g l, steps-counted z t g l) in
-              record { at-most = omega arith; same = ap point q }
+      pub steps-counted : (t : ℕ) → point t .status ≡ going → point t .due < h .statements → point t .steps ≡ t
+      steps-counted t g l = all-counted point status steps due unstuck rests counted start-steps t g (lt-ltb _ _ l)
 
-          by-due : StepsMade t → point t .status ≡ going → (b : Bool) → ltb (point t .due) (h .statements) ≡ b → StepsMade (t + 1)
-          by-due m g true q = stepped g (ltb-true (point t .due) (h .statements) q)
-          by-due m g false q = stayed m (stays-done t g (ltb-false (point t .due) (h .statements) q))
+      pub steps-made : (t : ℕ) → StepsMade point (λ (P : Point). P .steps) t
+      steps-made t = made point status steps due unstuck rests counted start-steps t
 
-          by-status : StepsMade t → (s : Status) → point t .status ≡ s → StepsMade (t + 1)
-          by-status m going e = by-due m e (ltb (point t .due) (h .statements)) refl
-          by-status m (stopped k) e = stayed m (stays-stopped t k e)
-          by-status m stuck e = absurd (unstuck t e)
+    -- A run that takes its step counts it in the end.
+    pub counts-on : (u t : ℕ) → t < u → point t .status ≡ going → point t .due < h .statements → point t .steps < point u .steps
+    counts-on u t k g l = counts point status steps due unstuck rests counted u t k g (lt-ltb _ _ l)

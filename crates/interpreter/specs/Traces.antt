@@ -11,6 +11,11 @@ use Rattle.machine.specs.Machine.{Status, going, stopped, stuck}
 never : {A : Type 0} → _≡_ {A = ℕ} 0 1 → A
 never z = absurd (omega arith)
 
+-- A run makes no more steps than it is allowed, and stands where it stood after those that it made.
+pub record StepsMade {A : Type 0} (state : ℕ → A) (steps : A → ℕ) (t : ℕ) : Type 0 where
+  pub at-most : steps (state t) ≤ t
+  pub same : state (steps (state t)) ≡ state t
+
 module _ {A : Type 0} (state : ℕ → A) (status : A → Status) (steps : A → ℕ) (due : A → Bool)
     (unstuck : (t : ℕ) → status (state t) ≢ stuck)
     (rests : (t : ℕ) → (status (state t) ≡ going → due (state t) ≡ false) → state (t + 1) ≡ state t)
@@ -72,3 +77,23 @@ module _ {A : Type 0} (state : ℕ → A) (status : A → Status) (steps : A →
               let z : _≡_ {A = ℕ} 0 1 = cc in
               never z
           go stuck e = absurd (unstuck t e)
+
+  pub steps-made : steps (state 0) ≡ 0 → (t : ℕ) → StepsMade state steps t
+  steps-made z zero = record { at-most = omega (arith, z); same = ap state z }
+  steps-made z (suc t) = rw (add-one t) at (go (steps-made z t) (status (state t)) refl)
+    where
+      stayed : StepsMade state steps t → state (t + 1) ≡ state t → StepsMade state steps (t + 1)
+      stayed m e =
+          let q : steps (state (t + 1)) ≡ steps (state t) = ap steps e in
+          record { at-most = omega (arith, q, m .at-most); same = ap state q ∙ (m .same ∙ sym e) }
+
+      there : StepsMade state steps t → status (state t) ≡ going → (b : Bool) → due (state t) ≡ b → StepsMade state steps (t + 1)
+      there m g true p =
+          let q : steps (state (t + 1)) ≡ t + 1 = omega (arith, counted t g p, all-counted z t g p) in
+          record { at-most = omega (arith, q); same = ap state q }
+      there m g false p = stayed m (rests t (λ e. p))
+
+      go : StepsMade state steps t → (s : Status) → status (state t) ≡ s → StepsMade state steps (t + 1)
+      go m going e = there m e (due (state t)) refl
+      go m (stopped n) e = stayed m (rests t (stopped-rests t n e))
+      go m stuck e = absurd (unstuck t e)

@@ -19,14 +19,12 @@ pub fn run(
     origins: &[u32],
     limit: u32,
 ) -> Outcome
-    ensures { λ r. ⌜ RunJudged (record {
-      table = now (table .entry);
-      listed = now (listed .entry);
+    ensures { λ r. ⌜ RunJudged (now (table .entry)) (now (listed .entry)) (record {
       directory = now (directory .entry);
       cells = now (cells .entry);
       values = now (values .entry);
       origins = now (origins .entry);
-    }) limit (record { answer = r; values = now (values .exit); cells = now (cells .exit) }) ⌝ }
+    }) limit (record { answer = r; routine = 0; values = now (values .exit); cells = now (cells .exit) }) ⌝ }
 {
     let mut ends = [0u64; 512];
     let mut successors = [0u32; 2048];

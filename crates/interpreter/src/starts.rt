@@ -50,9 +50,7 @@ fn prepare_sections(
 ) -> Start
     requires { ⌜ (formOf (now table) ≡ WellFormed sections) × (faults [] (now table) (now listed) ≡ []) ⌝ }
     requires { ⌜ (length (now ends) ≡ 512) × (length (now successors) ≡ 2048) ⌝ }
-    ensures { λ r. ⌜ Starts r (record {
-      table = now (table .entry);
-      listed = now (listed .entry);
+    ensures { λ r. ⌜ Starts r (now (table .entry)) (now (listed .entry)) (record {
       directory = now (directory .entry);
       cells = now (cells .entry);
       values = now (values .entry);
@@ -84,9 +82,7 @@ fn prepare_accepted(
 ) -> Start
     requires { ⌜ faults [] (now table) (now listed) ≡ [] ⌝ }
     requires { ⌜ (length (now ends) ≡ 512) × (length (now successors) ≡ 2048) ⌝ }
-    ensures { λ r. ⌜ Starts r (record {
-      table = now (table .entry);
-      listed = now (listed .entry);
+    ensures { λ r. ⌜ Starts r (now (table .entry)) (now (listed .entry)) (record {
       directory = now (directory .entry);
       cells = now (cells .entry);
       values = now (values .entry);
@@ -124,9 +120,7 @@ pub fn prepare(
     successors: &mut [u32],
 ) -> Start
     requires { ⌜ (length (now ends) ≡ 512) × (length (now successors) ≡ 2048) ⌝ }
-    ensures { λ r. ⌜ Starts r (record {
-      table = now (table .entry);
-      listed = now (listed .entry);
+    ensures { λ r. ⌜ Starts r (now (table .entry)) (now (listed .entry)) (record {
       directory = now (directory .entry);
       cells = now (cells .entry);
       values = now (values .entry);

@@ -26,8 +26,9 @@ use Rattle.rules.specs.BoundsRules.{inForce}
 use Rattle.rules.specs.declared.Environment.{Environment}
 use Rattle.machine.specs.Machine.{value, low, high, inOrigin, address, Failing, none, fails, failing, conditionHolds, Status}
 use Rattle.machine.specs.Machine.{going, stopped, stuck, Point, done, setInteger, stepIf, performed, memoryOf, moved}
-use Rattle.machine.specs.Machine.{afterPerformed, afterChecks, branched, statementStep, stepIfDue, nextPoint, start, pointAfter}
-use Rattle.machine.specs.Points.{Outside, CellOf, Reachable}
+use Rattle.machine.specs.Machine.{afterPerformed, afterChecks, branched, statementStep, stepIfDue, nextPoint}
+use Rattle.machine.specs.AlonePoints.{pointAfter}
+use Rattle.machine.specs.Points.{Outside, CellOf}
 use Rattle.machine.specs.Frame.{Elsewhere, Names, Origins, SameCells, withCells, Alike, Framed, Own}
 
 -- ---- lists
@@ -285,14 +286,7 @@ module _ (T : List ℤ) (h : Sections) (E : Environment) (D : List ℕ) (R : ℕ
   turn-framed t n Q a =
       run-framed T h E D R names n Q (subst (λ (X : Point). Origins R (X .origins)) (a .rest) (run-framed T h E D R names t P origins .origins))
 
--- ---- two sets that hold all that a run can reach
-
--- The reachable objects.
-pub reachable-names : (T : List ℤ) (h : Sections) (os : List ℕ) → Names T h (Reachable T h os)
-reachable-names T h os a p o e = inr (a, p, e)
-
-pub reachable-origins : (T : List ℤ) (h : Sections) (os : List ℕ) → Origins (Reachable T h os) os
-reachable-origins T h os v o e = inl (v, e)
+-- ---- a set that holds all that a run can reach
 
 -- All objects of the routine.
 pub own-names : (T : List ℤ) (h : Sections) → Names T h (Own h)
@@ -304,31 +298,3 @@ own-origins h os l v o e = omega (arith, l v)
 -- "No cell outside the objects has changed."
 pub outside-own : (h : Sections) (D : List ℕ) (i : ℕ) → Outside D (h .objects) i → Elsewhere D (Own h) i
 outside-own h D i o c = o (c .object) (c .chosen) (c .above) (c .below)
-
--- ---- two runs
-
-module _ (T : List ℤ) (h : Sections) (E : Environment) (D vs os : List ℕ) where
-  abbrev Reach : ℕ → Type 0
-  Reach = Reachable T h os
-
-  start-alike : (cs ds : List ℕ) → SameCells D Reach cs ds → Alike D Reach (start T h E D cs vs os) (start T h E D ds vs os)
-  unfolding start
-  start-alike cs ds s = alike-with D Reach _ ds s
-
-  start-origins : (cs : List ℕ) → Origins Reach (start T h E D cs vs os .origins)
-  unfolding start
-  start-origins cs = reachable-origins T h os
-
-  start-cells : (cs : List ℕ) → start T h E D cs vs os .cells ≡ cs
-  unfolding start
-  start-cells cs = refl
-
-  -- Point 12, of the plain machine: "They give equal answers, steps, values and reachable cells"
-  pub two-alike : (t : ℕ) (cs ds : List ℕ) → SameCells D Reach cs ds
-      → Alike D Reach (pointAfter T h E D t (start T h E D cs vs os)) (pointAfter T h E D t (start T h E D ds vs os))
-  two-alike t cs ds s = run-alike T h E D Reach (reachable-names T h os) t _ _ (start-origins cs) (start-alike cs ds s)
-
-  -- "and leave the other cells untouched."
-  pub others-untouched : (t : ℕ) (cs : List ℕ) (i : ℕ) → Elsewhere D Reach i → getD (pointAfter T h E D t (start T h E D cs vs os) .cells) i 0 ≡ getD cs i 0
-  others-untouched t cs i e =
-      run-framed T h E D Reach (reachable-names T h os) t _ (start-origins cs) .elsewhere i e ∙ ap (λ (l : List ℕ). getD l i 0) (start-cells cs)

@@ -1,4 +1,5 @@
 pub mod Machine
+pub mod AlonePoints
 pub mod Points
 pub mod Soundness
 pub mod Frame
@@ -19,5 +20,4 @@ pub mod RunSound
 pub mod SetSound
 pub mod SetFrame
 pub mod Alone
-pub mod Beneath
 pub mod SetRun

@@ -272,8 +272,3 @@ module _ (T : List ℤ) (h : Sections) (E : Environment) (D : List ℕ) where
   -- "at the start what was lent, the first statement (in an empty table nothing), 0"
   unfoldable pub start : List ℕ → List ℕ → List ℕ → Point
   start cs vs os = record { cells = cs; values = vs; origins = os; rows = ownRows; due = tableEntry T h; steps = 0; status = going }
-
-  -- "Its points are the start and what each step leaves": the point after t steps, or where the run ended before.
-  unfoldable pub pointAfter : ℕ → Point → Point
-  pointAfter zero P = P
-  pointAfter (suc t) P = let Q = pointAfter t P in nextPoint (Q .status) Q

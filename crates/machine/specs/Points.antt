@@ -17,6 +17,7 @@ use Rattle.statements.specs.declared.StatementRead.{StatementRead}
 use Rattle.statements.specs.declared.StatementRead.the-variants.{Read, Unread}
 use Rattle.blocks.specs.Tree.{Block, nil, plain, branch, loop, bundle, call, unread}
 use Rattle.rules.specs.BoundsRules.{isTerminated, inForce}
+use Rattle.rules.specs.Calls.{Routine, routineAt}
 use Rattle.rules.specs.declared.Environment.{Environment}
 use Rattle.machine.specs.Machine.{low, high, Failing, none, fails, failing, address, Status, going, stopped, stuck, Point, Memory, memoryOf, inOrigin}
 use mathlib.Core.Logic.{_⊎_}
@@ -96,9 +97,12 @@ AccessInside D (access a origin) = inOrigin D origin a ≡ true
 
 -- ---- objects in reach of a run, and the cells of objects (document 02, point 12)
 -- Point 12: "Call an object reachable when an entry pointer has it as origin or some kind 5 statement names it." A variable that has an object
--- as origin is a pointer, since integers and null have origin 0; and the statement need not be one that a run comes to.
-abbrev pub Reachable : List ℤ → Sections → List ℕ → ℕ → Type 0
-Reachable T h os o = ((v : ℕ) × (getD os v 0 ≡ suc o)) ⊎ ((a p : ℕ) × (statementAt T h a ≡ Read (Plain (Address p o))))
+-- as origin is a pointer, since integers and null have origin 0; and the statement need not be one that a run comes to. Point 14: "An object that any routine
+-- of
+-- the set takes the address of counts as reachable."
+abbrev pub Reachable : List Routine → List ℕ → ℕ → Type 0
+Reachable rs os o =
+    ((v : ℕ) × (getD os v 0 ≡ suc o)) ⊎ ((n a p : ℕ) × (statementAt (routineAt rs n .table) (routineAt rs n .sections) a ≡ Read (Plain (Address p o))))
 
 -- Cell i is a cell of one of the objects R.
 pub record CellOf (D : List ℕ) (R : ℕ → Type 0) (i : ℕ) : Type 0 where

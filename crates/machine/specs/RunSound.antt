@@ -51,12 +51,13 @@ use Rattle.rules.specs.Verdict.{environmentOf}
 use Rattle.rules.specs.AcceptedLaws.{clear}
 use Rattle.rules.specs.declared.Environment.{Environment}
 use Rattle.machine.specs.Machine.{value, boundsTrue, Failing, none, fails, failing, Memory, Status, going, stopped, stuck}
-use Rattle.machine.specs.Machine.{Point, memoryOf, statementStep, successorsOf, stepIfDue, nextPoint, start, pointAfter}
+use Rattle.machine.specs.Machine.{Point, memoryOf, statementStep, successorsOf, stepIfDue, nextPoint, start}
+use Rattle.machine.specs.AlonePoints.{pointAfter}
 use Rattle.machine.specs.Points.{inBundle, simpleAccess, unlessFailing, statementAccess, accessIf, accessFrom, LastZero}
 use Rattle.machine.specs.Soundness.{AccessRight, AccessAllowed, Begun, Sound}
 use Rattle.machine.specs.Good.{Setting, Steady, Good, declared-true}
 use Rattle.machine.specs.AccessSound.{Inside, Ready, inside-origin, access-inside, safe-load, safe-store}
-use Rattle.machine.specs.Places.{Linked, linked, At, StandsAt, Stands}
+use Rattle.machine.specs.Places.{Linked, linked, At, StandsAt}
 use Rattle.machine.specs.BlockSound.{Fine, leads, stops, enter, frameStep, block-step}
 use Rattle.machine.specs.SetMachine.{Returned}
 use Rattle.machine.specs.CallSound.{GoodReturn}

@@ -1,8 +1,8 @@
 -- The frame law of a set: a step reads and writes only cells of a set R of objects, where R holds every origin and every object that any routine takes the
 -- address of. Point 14: "An object that any routine of the set takes the address of counts as reachable."
-use Prim.Native.Nat.{ℕ, zero, suc, _+_, _<_}
+use Prim.Native.Nat.{ℕ, zero, suc}
 use mathlib.Core.Path.{_≡_, refl, sym, ap, subst, _∙_}
-use mathlib.Core.Logic.{_⊎_, inl, inr}
+use mathlib.Core.Logic.{inl, inr}
 use mathlib.Core.Bool.{Bool, true, false, _&&_, cond}
 use mathlib.Core.List.{List, [], _∷_}
 use native.Mathlib.Omega.{arith}
@@ -13,13 +13,13 @@ use Rattle.arrays.specs.Tabulate.{tabulate}
 use Rattle.arrays.specs.TabulateLaws.{getD-tabulate, length-tabulate}
 use Rattle.statements.specs.Statements.{statementAt}
 use Rattle.statements.specs.declared.CallSite.{CallSite}
-use Rattle.statements.specs.declared.Simple.the-variants.{Address}
 use Rattle.statements.specs.declared.Statement.the-variants.{Plain, If, While, Bundle, Call}
 use Rattle.statements.specs.declared.StatementRead.{StatementRead}
 use Rattle.statements.specs.declared.StatementRead.the-variants.{Read, Unread}
 use Rattle.rules.specs.Calls.{Routine, argument}
-use Rattle.machine.specs.Machine.{Point, nextPoint, start}
-use Rattle.machine.specs.Frame.{Elsewhere, Names, Origins, SameCells, withCells, Alike, Framed}
+use Rattle.machine.specs.Machine.{Point, start}
+use Rattle.machine.specs.Points.{Reachable}
+use Rattle.machine.specs.Frame.{Elsewhere, Names, Origins, SameCells, withCells, Alike}
 use Rattle.machine.specs.FrameLaws.{next-framed, next-alike, alike-with}
 use Rattle.machine.specs.SetMachine.{Frame, Stack, stack, isGoing, tableOf, sectionsOf, environmentOf, resultOf, hasEnded, resumed, settled, waiting}
 use Rattle.machine.specs.SetMachine.{begun, ownStep, stackStep, nextIf, nextStack, startStack, stackAfter}
@@ -192,14 +192,9 @@ module _ (rs : List Routine) (D : List ℕ) where
 
 -- ---- the objects that a set can reach
 
--- "Call an object reachable when an entry pointer has it as origin or some kind 5 statement names it", of "any routine of the set".
-abbrev pub ReachableIn : List Routine → List ℕ → List ℕ → ℕ → Type 0
-ReachableIn rs D os o =
-    ((v : ℕ) × (getD os v 0 ≡ suc o)) ⊎ ((n a p : ℕ) × (statementAt (tableOf rs D n) (sectionsOf rs D n) a ≡ Read (Plain (Address p o))))
-
 module _ (rs : List Routine) (D vs os : List ℕ) where
   abbrev Reach : ℕ → Type 0
-  Reach = ReachableIn rs D os
+  Reach = Reachable rs os
 
   names-reach : (n : ℕ) → Names (tableOf rs D n) (sectionsOf rs D n) Reach
   names-reach n a p o e = inr (n, a, p, e)

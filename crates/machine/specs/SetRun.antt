@@ -1,7 +1,6 @@
--- THE SOUNDNESS THEOREM OF A SET: at every state of a begun run of an accepted set, the claim holds.
-use Prim.Native.Nat.{ℕ, _+_, _-_, _*_, _≤_, _<_}
-use mathlib.Core.Path.{_≡_, refl, sym, ap, _∙_}
-use mathlib.Core.Bool.{Bool, true, _&&_}
+-- An accepted set whose last routine is begun is in its setting, and the invariant of its run holds at the start.
+use Prim.Native.Nat.{ℕ, _-_, _*_, _≤_, _<_}
+use mathlib.Core.Path.{_≡_, sym, ap, _∙_}
 use mathlib.Core.List.{List, []}
 use native.Mathlib.Omega.{arith}
 use borrow.Author.Tests.{leb-true}
@@ -9,27 +8,21 @@ use lib.Dec.{leb}
 use lib.IntN.{ℤ}
 use lib.ListN.{length, getD}
 use Rattle.words.specs.SectionsLaws.{both}
-use Rattle.words.specs.declared.sections.Sections.{Sections}
 use Rattle.table.specs.Form.{sectionsOf}
 use Rattle.table.specs.FormLaws.{well-formed}
 use Rattle.blocks.specs.Tree.{tree}
-use Rattle.rules.specs.BoundsRules.{objectLength}
+use Rattle.listed.specs.ListForm.{listFaults}
 use Rattle.rules.specs.Calls.{Routine, routineAt}
-use Rattle.rules.specs.CallLaws.{AllFormed}
 use Rattle.rules.specs.EnvironmentLaws.{environment-declares}
-use Rattle.rules.specs.Verdict.{environmentOf}
 use Rattle.rules.specs.Stored.{newState, blockFaults}
 use Rattle.rules.specs.Sets.{memberOf, routineOf, routinesOf, before, countRight, AllAccepted}
-use Rattle.rules.specs.SetLaws.{length-routines, routine-at, member-formed, member-clear, all-formed, SameObjects, members-same}
-use Rattle.rules.specs.declared.Environment.{Environment}
-use Rattle.machine.specs.Machine.{low, high, start}
+use Rattle.rules.specs.SetLaws.{length-routines, routine-at, member-formed, member-clear, all-formed, members-same}
 use Rattle.machine.specs.Soundness.{Placed, Apart, Begun}
 use Rattle.machine.specs.Good.{Setting}
 use Rattle.machine.specs.EntrySound.{begun-good}
 use Rattle.machine.specs.RunSound.{start-kept}
-use Rattle.machine.specs.SetMachine.{Stack, stack, tableOf, startStack, stackAfter}
-use Rattle.machine.specs.SetMachine as sets
-use Rattle.machine.specs.SetSound.{SetSetting, StackInvariant, StackSound, stack-kept, stack-sound}
+use Rattle.machine.specs.SetMachine.{startStack}
+use Rattle.machine.specs.SetSound.{SetSetting, StackInvariant}
 
 -- "A run begins in the last routine".
 abbrev pub lastRoutine : List Routine → Routine
@@ -98,6 +91,7 @@ module _ (Ts : List (List ℤ)) (accepted : AllAccepted Ts) (D cs vs os : List �
     -- The routine in its setting; it may call those before it.
     in-setting : Setting (routineAt rs n .table) (routineAt rs n .sections) (routineAt rs n .environment) D room
         × (blockFaults (routineAt rs n .environment) [] (before n rs) (tree (routineAt rs n .table) (routineAt rs n .sections)) newState ≡ [])
+        × (listFaults (routineAt rs n .table) (routineAt rs n .sections) [] ≡ [])
     in-setting =
         let e : routineAt rs n ≡ routineOf (memberOf Ts n) = routine-at Ts n l in
         let M = memberOf Ts n in
@@ -115,19 +109,21 @@ module _ (Ts : List (List ℤ)) (accepted : AllAccepted Ts) (D cs vs os : List �
             memory = entered .memory;
           },
           c .walked,
+          c .listed,
         )
 
-  pub set-setting : SetSetting rs D room
+  pub set-setting : SetSetting rs D room []
   set-setting =
       record {
         setting = λ n l. in-setting n (within n l) .0;
         walked = λ n l. in-setting n (within n l) .1;
+        listed = λ n l. in-setting n (within n l) .2;
         formed = all-formed Ts accepted;
         objects = λ n m l k. shares n m (within n l) (within m k) .count;
         terminated = λ n m l k. shares n m (within n l) (within m k) .terminated;
       }
 
-  pub start-invariant : StackInvariant rs D room (startStack rs D cs vs os)
+  pub start-invariant : StackInvariant rs D room [] (startStack rs D cs vs os)
   unfolding startStack
   start-invariant =
       let l : last < length rs = omega (arith, length-routines Ts, some) in
@@ -139,9 +135,3 @@ module _ (Ts : List (List ℤ)) (accepted : AllAccepted Ts) (D cs vs os : List �
             (begun-good (routineAt rs last .table) (routineAt rs last .sections) (routineAt rs last .environment) D cs vs os (S .declares) entered);
         waits = tt;
       }
-
-  -- Of a set that the rules accept and a run that is begun, the claim holds at every state: after any number t of steps.
-  pub set-sound : (t : ℕ) → StackSound rs D room set-setting (stackAfter rs D t (startStack rs D cs vs os))
-  set-sound t =
-      stack-sound rs D room set-setting (stackAfter rs D t (startStack rs D cs vs os))
-      (stack-kept rs D room set-setting t (startStack rs D cs vs os) start-invariant)

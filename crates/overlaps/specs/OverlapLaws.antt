@@ -13,7 +13,7 @@ use Rattle.table.specs.Form.{lowestFrom}
 use Rattle.table.specs.Searches.{Passed, passed-none, passed-more, passed-all, passed-fail, holds-below}
 use Rattle.machine.specs.Points.{CellOf}
 use Rattle.machine.specs.Frame.{Elsewhere, Own}
-use Rattle.interpreter.specs.PointLaws.{never}
+use Rattle.interpreter.specs.AnswerLaws.{never}
 use Rattle.turns.specs.TurnsLaws.{by-order}
 use Rattle.parts.specs.Parts.{between}
 use Rattle.seats.specs.Parts.{kinds}

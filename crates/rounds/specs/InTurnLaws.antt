@@ -3,7 +3,7 @@ use Prim.Native.Nat.{ℕ, zero, suc, _+_, _-_, _<_, _≤_}
 use mathlib.Core.Path.{_≡_, refl, sym, ap, subst, _∙_}
 use mathlib.Core.Logic.{_≢_}
 use mathlib.Core.Bool.{Bool, true, false, cond}
-use mathlib.Core.List.{List, []}
+use mathlib.Core.List.{List, [], _∷_}
 use native.Mathlib.Omega.{arith}
 use borrow.Author.Tests.{ltb-true}
 use lib.Dec.{ltb}
@@ -13,15 +13,23 @@ use Rattle.answers.specs.Answers.{reads}
 use Rattle.answers.specs.Answers as says
 use Rattle.answers.specs.declared.stops.Outcome.{Outcome}
 use Rattle.answers.specs.declared.stops.Outcome.the-variants.{Spent, Done}
-use Rattle.answers.specs.declared.stops.Outcome.the-variants as outcome
 use Rattle.words.specs.declared.sections.Sections.{Sections}
-use Rattle.table.specs.FormLaws.{well-formed, formed-sections}
+use Rattle.statements.specs.Statements.{statementAt}
+use Rattle.statements.specs.declared.CallSite.{CallSite}
+use Rattle.statements.specs.declared.Statement.the-variants.{Call}
+use Rattle.statements.specs.declared.StatementRead.the-variants.{Read}
+use Rattle.table.specs.Form.{sectionsOf}
+use Rattle.table.specs.FormLaws.{well-formed}
+use Rattle.rules.specs.Calls.{routineAt}
+use Rattle.rules.specs.Sets as sets
 use Rattle.rules.specs.AcceptedLaws.{clear}
 use Rattle.rules.specs.Verdict.{environmentOf}
-use Rattle.rules.specs.Verdict as verdictRules
 use Rattle.rules.specs.BoundsRules.{ownRows}
 use Rattle.rules.specs.declared.Environment.{Environment}
-use Rattle.machine.specs.Machine.{Status, going, stopped, stuck, Point, start, pointAfter}
+use Rattle.machine.specs.Machine.{Status, going, stopped, stuck, Point, start}
+use Rattle.machine.specs.AlonePoints.{pointAfter}
+use Rattle.machine.specs.SetMachine.{Stack, stack, stackAfter}
+use Rattle.machine.specs.Alone.{after-alone}
 use Rattle.machine.specs.Points.{CellOf}
 use Rattle.machine.specs.Soundness.{Begun}
 use Rattle.machine.specs.RunSound.{sound}
@@ -35,12 +43,13 @@ use Rattle.interpreter.specs.AgreementLaws.{safe-run, run-agrees}
 use Rattle.interpreter.specs.EndsLaws.{ends-long, ends-small, ends-sizes}
 use Rattle.interpreter.specs.StartLaws.{Admitted, admitted, start-runnable, first-due, start-prepared}
 use Rattle.interpreter.specs.StepLaws.{steps-made, steps-counted, counts-on}
-use Rattle.interpreter.specs.PointLaws.{lends, leaves, unstuck, rows-long, reads-at, at-point, never}
+use Rattle.interpreter.specs.AnswerLaws.{never}
+use Rattle.interpreter.specs.AloneLaws.{lends, leaves, pointAlone, answerAlone, unstuck, rows-long, calls-none, reads-at, point-alone, ran-alone}
 use Rattle.interpreter.specs.ClaimLaws.{begun, run-judged, begun-ran}
 use Rattle.interpreter.specs.Starts.{Launched}
-use Rattle.interpreter.specs.Claim.{Lent, pointOf, answerOf, answerAt, RunJudged, Ran}
+use Rattle.interpreter.specs.Claim.{Lent, stateOf, answerOf, answerAt, RunJudged}
 use Rattle.interpreter.specs.Outcomes.{outcomeShown}
-use Rattle.rounds.specs.Rounds.{isSpent, stepsOf}
+use Rattle.rounds.specs.Rounds.{isSpent, stepsOf, inMemory}
 use Rattle.rounds.specs.InTurn.{InTurn, LeftOthers}
 
 -- ---- answers
@@ -79,9 +88,12 @@ origin-below (suc o) k f = f o refl
 
 -- ---- a routine that is launched
 
-module _ {T : List ℤ} {h : Sections} {listed : List ℤ} {D cs vs os W₀ S : List ℕ} (L : Launched T h listed D cs vs os W₀ S) where
+module _ {T : List ℤ} {listed : List ℤ} {D cs vs os W₀ S : List ℕ} (L : Launched T (sectionsOf T) listed D cs vs os W₀ S) where
+  abbrev h : Sections
+  h = sectionsOf T
+
   abbrev l : Lent
-  l = lends T listed D cs vs os
+  l = lends D cs vs os
 
   abbrev E : Environment
   E = environmentOf T h
@@ -90,7 +102,7 @@ module _ {T : List ℤ} {h : Sections} {listed : List ℤ} {D cs vs os W₀ S : 
   first = start T h E D cs vs os
 
   abbrev point : ℕ → Point
-  point t = pointAfter T h E D t first
+  point t = pointAlone T h D cs vs os t
 
   launched-begun : Begun h E D cs vs os
   launched-begun = begun T h listed (L .formed) (L .accepts) D cs vs os (L .small) (L .none)
@@ -115,33 +127,43 @@ module _ {T : List ℤ} {h : Sections} {listed : List ℤ} {D cs vs os W₀ S : 
   unfolding start
   first-own = own-origins h os (launched-begun .origins)
 
+  -- ---- the machine of a set of one makes the routine's own steps
+
+  stands : (t : ℕ) → stateOf (T ∷ []) l t ≡ stack [] 0 (point t)
+  stands = point-alone T h listed (L .formed) (L .accepts) D cs vs os launched-begun
+
+  answer-at : (t : ℕ) → answerAt (T ∷ []) l t ≡ answerAlone T h D cs vs os t
+  unfolding sets.routinesOf sets.members
+  answer-at t =
+      ap (λ (K : Stack). answerOf (routineAt (sets.routineOf T ∷ []) (K .routine) .sections) (K .point .status) (K .point .steps) (K .point .due)) (stands t)
+
+  pub answer-made : (t : ℕ) → stepsOf (answerAt (T ∷ []) l t) ≡ point t .steps
+  answer-made t = ap stepsOf (answer-at t) ∙ answer-steps h (point t .status) (point t .steps) (point t .due)
+
   -- ---- the steps that it makes
 
-  pub made-most : (t : ℕ) → stepsOf (answerAt l h t) ≤ t
-  made-most t = omega (arith, answer-steps h (point t .status) (point t .steps) (point t .due), steps-made T h E D first free none-yet t .at-most)
+  pub made-most : (t : ℕ) → stepsOf (answerAt (T ∷ []) l t) ≤ t
+  made-most t = omega (arith, answer-made t, steps-made T h E D first free none-yet t .at-most)
 
-  due-spent : (t : ℕ) → isSpent (answerAt l h t) ≡ true → (point t .status ≡ going) × (point t .due < h .statements)
-  due-spent t w = spent-going h (point t .status) (point t .steps) (point t .due) w
+  due-spent : (t : ℕ) → isSpent (answerAt (T ∷ []) l t) ≡ true → (point t .status ≡ going) × (point t .due < h .statements)
+  due-spent t w = spent-going h (point t .status) (point t .steps) (point t .due) (sym (ap isSpent (answer-at t)) ∙ w)
 
-  pub made-all : (t : ℕ) → isSpent (answerAt l h t) ≡ true → stepsOf (answerAt l h t) ≡ t
-  made-all t w =
-      let d = due-spent t w in
-      answer-steps h (point t .status) (point t .steps) (point t .due) ∙ steps-counted T h E D first free none-yet t (d .0) (d .1)
+  pub made-all : (t : ℕ) → isSpent (answerAt (T ∷ []) l t) ≡ true → stepsOf (answerAt (T ∷ []) l t) ≡ t
+  made-all t w = let d = due-spent t w in answer-made t ∙ steps-counted T h E D first free none-yet t (d .0) (d .1)
 
-  pub made-more : (t q : ℕ) → isSpent (answerAt l h t) ≡ true → 0 < q → t < stepsOf (answerAt l h (t + q))
+  pub made-more : (t q : ℕ) → isSpent (answerAt (T ∷ []) l t) ≡ true → 0 < q → t < stepsOf (answerAt (T ∷ []) l (t + q))
   made-more t q w p =
       let d = due-spent t w in
-      let z : t + 1 + (q - 1) ≡ t + q = omega arith in
       omega (
         arith,
         steps-counted T h E D first free none-yet t (d .0) (d .1),
-        rw z at (counts-on T h E D first free t (q - 1) (d .0) (d .1)),
-        answer-steps h (point (t + q) .status) (point (t + q) .steps) (point (t + q) .due),
+        counts-on T h E D first free (t + q) t (omega arith) (d .0) (d .1),
+        answer-made (t + q),
       )
 
   -- ---- before its first turn, and while others have theirs
 
-  pub turn-begins : InTurn l h 0 (outcomeShown h going 0 0) W₀ vs cs
+  pub turn-begins : InTurn T l 0 (outcomeShown h going 0 0) W₀ vs cs
   unfolding start pointAfter
   turn-begins = record {
     made = refl;
@@ -164,31 +186,57 @@ module _ {T : List ℤ} {h : Sections} {listed : List ℤ} {D cs vs os W₀ S : 
     successors = L .successors;
   }
 
-  pub others-turn : {t : ℕ} {o : Outcome} {W vs′ M : List ℕ} (N : List ℕ) → SameCells D (Own h) M N → InTurn l h t o W vs′ M → InTurn l h t o W vs′ N
+  pub others-turn : {t : ℕ} {o : Outcome} {W vs′ M : List ℕ} (N : List ℕ) → SameCells D (Own h) M N → InTurn T l t o W vs′ M → InTurn T l t o W vs′ N
   others-turn {t} {o} {W} {vs′} {M} N s i =
       record { made = i .made; answer = i .answer; ends = i .ends; values = i .values; memory = same-trans D (Own h) (point t .cells) M N (i .memory) s }
 
+  shown-reads : {t : ℕ} {o : Outcome} {W vs′ M : List ℕ} → InTurn T l t o W vs′ M → reads o ≡ answerAlone T h D cs vs os t
+  shown-reads {t} i = ap reads (i .answer) ∙ reads-at T h listed (L .formed) (L .accepts) D cs vs os launched-begun t
+
   -- What the outcome reads as is what the run by itself answers.
-  pub turn-reads : {t : ℕ} {o : Outcome} {W vs′ M : List ℕ} → InTurn l h t o W vs′ M → reads o ≡ answerAt l h t
-  turn-reads {t} i = ap reads (i .answer) ∙ reads-at T h listed (L .formed) (L .accepts) D cs vs os launched-begun t
+  pub turn-reads : {t : ℕ} {o : Outcome} {W vs′ M : List ℕ} → InTurn T l t o W vs′ M → reads o ≡ answerAt (T ∷ []) l t
+  turn-reads {t} i = shown-reads i ∙ sym (answer-at t)
 
   -- ---- its own turn
 
-  -- Wherever it stands in a memory with its own cells, it goes on as by itself.
-  pub goes-alike : (t s : ℕ) (M : List ℕ) → SameCells D (Own h) (point t .cells) M
-      → Alike D (Own h) (point (t + s)) (pointAfter T h E D s (withCells (point t) M))
-  goes-alike t s M c = turn-alike T h E D (Own h) (own-names T h) first first-own t s (withCells (point t) M) (alike-with D (Own h) (point t) M c)
+  -- Wherever it stands in a memory with its own cells, it goes on as by itself,
+  own-alike : (t s : ℕ) (M : List ℕ) → SameCells D (Own h) (point t .cells) M → Alike D (Own h) (point (t + s)) (pointAfter T h E D s (withCells (point t) M))
+  own-alike t s M c = turn-alike T h E D (Own h) (own-names T h) first first-own t s (withCells (point t) M) (alike-with D (Own h) (point t) M c)
 
-  pub goes-leaves : (t s : ℕ) (M : List ℕ) → SameCells D (Own h) (point t .cells) M → LeftOthers h D M (pointAfter T h E D s (withCells (point t) M) .cells)
+  -- comes to no call,
+  calls-none-there : (t s : ℕ) (M : List ℕ) → SameCells D (Own h) (point t .cells) M → (c : CallSite)
+      → statementAt T h (pointAfter T h E D s (withCells (point t) M) .due) ≡ Read (Call c) → ⊥
+  calls-none-there t s M same c e =
+      calls-none T h listed (L .formed) (L .accepts) D cs vs os launched-begun (t + s) c
+      (ap (λ (X : Point). statementAt T h (X .due)) (own-alike t s M same .rest) ∙ e)
+
+  -- so that the machine of the set of one goes on as its own.
+  abbrev goes : ℕ → ℕ → List ℕ → Stack
+  goes t s M = stackAfter (sets.routinesOf (T ∷ [])) D s (inMemory (stateOf (T ∷ []) l t) M)
+
+  goes-point : (t s : ℕ) (M : List ℕ) → SameCells D (Own h) (point t .cells) M → goes t s M .point ≡ pointAfter T h E D s (withCells (point t) M)
+  unfolding sets.routinesOf sets.members
+  goes-point t s M same =
+      ap (λ (K : Stack). stackAfter (sets.routineOf T ∷ []) D s (inMemory K M) .point) (stands t)
+      ∙ ap (λ (K : Stack). K .point) (after-alone (sets.routineOf T) D (withCells (point t) M) (λ k. calls-none-there t k M same) s)
+
+  pub goes-alike : (t s : ℕ) (M : List ℕ) → SameCells D (Own h) (point t .cells) M
+      → Alike D (Own h) (stateOf (T ∷ []) l (t + s) .point) (goes t s M .point)
+  goes-alike t s M c = rw (goes-point t s M c, ap (λ (K : Stack). K .point) (stands (t + s))) (own-alike t s M c)
+
+  pub goes-leaves : (t s : ℕ) (M : List ℕ) → SameCells D (Own h) (point t .cells) M → LeftOthers h D M (goes t s M .point .cells)
   goes-leaves t s M c =
       let f = turn-framed T h E D (Own h) (own-names T h) first first-own t s (withCells (point t) M) (alike-with D (Own h) (point t) M c) in
-      record { long = f .long; elsewhere = f .elsewhere }
+      rw (goes-point t s M c) (record { long = f .long; elsewhere = f .elsewhere })
 
   -- After a turn it stands after the steps that it made.
-  pub made-same : (t : ℕ) → pointOf l h (stepsOf (answerAt l h t)) ≡ pointOf l h t
-  made-same t =
-      let z : stepsOf (answerAt l h t) ≡ point t .steps = answer-steps h (point t .status) (point t .steps) (point t .due) in
-      ap point z ∙ steps-made T h E D first free none-yet t .same
+  pub made-same : (t : ℕ) → point (stepsOf (answerAt (T ∷ []) l t)) ≡ point t
+  made-same t = ap point (answer-made t) ∙ steps-made T h E D first free none-yet t .same
+
+  -- Its own cells after a turn.
+  pub made-cells : (t s : ℕ) (M : List ℕ) → SameCells D (Own h) (point t .cells) M
+      → SameCells D (Own h) (point (stepsOf (answerAt (T ∷ []) l (t + s))) .cells) (goes t s M .point .cells)
+  made-cells t s M c = rw (made-same (t + s), goes-point t s M c) (own-alike t s M c .memory)
 
   first-runnable : Runnable T h E D (endsOf E (first .rows)) S first
   unfolding start
@@ -210,18 +258,18 @@ module _ {T : List ℤ} {h : Sections} {listed : List ℤ} {D cs vs os W₀ S : 
         unstuck = λ n e. free (t + n) (ap (λ (X : Point). X .status) (turn-alike T h E D (Own h) (own-names T h) first first-own t n Q a .rest) ∙ e);
       }
 
-  module _ {t n a : ℕ} {W vs′ M : List ℕ} (i : InTurn l h t (Spent n a) W vs′ M) where
+  module _ {t n a : ℕ} {W vs′ M : List ℕ} (i : InTurn T l t (Spent n a) W vs′ M) where
     abbrev here : Point
     here = withCells (point t) M
 
     alike : Alike D (Own h) (point t) here
     alike = alike-with D (Own h) (point t) M (i .memory)
 
-    stands : (point t .status ≡ going) × (point t .steps ≡ n) × (point t .due ≡ a) × (point t .due < h .statements)
-    stands = shown-spent h (point t .status) (point t .steps) (point t .due) n a (i .answer)
+    at-turn : (point t .status ≡ going) × (point t .steps ≡ n) × (point t .due ≡ a) × (point t .due < h .statements)
+    at-turn = shown-spent h (point t .status) (point t .steps) (point t .due) n a (i .answer)
 
     pub turn-steps : n ≡ t
-    turn-steps = sym (stands .1) ∙ i .made
+    turn-steps = sym (at-turn .1) ∙ i .made
 
     pub turn-prepared : Prepared T h W D S vs′
     turn-prepared =
@@ -239,10 +287,10 @@ module _ {T : List ℤ} {h : Sections} {listed : List ℤ} {D cs vs os W₀ S : 
 
     -- The loop may go on from the statement a, with the values and the memory as they are now.
     pub turn-safe : (q : ℕ) → SafeRun T h W D S q a vs′ M
-    turn-safe q = rw (i .ends, ← stands .2, i .values) (safe-run T h E D S (endsOf E (here .rows)) q here (stands .0) (alike-runnable t here alike))
+    turn-safe q = rw (i .ends, ← at-turn .2, i .values) (safe-run T h E D S (endsOf E (here .rows)) q here (at-turn .0) (alike-runnable t here alike))
 
     turn-result : (q : ℕ) → bareRun T h W D S q n a vs′ M ≡ resultShown E h (pointAfter T h E D q here)
-    turn-result q = rw (i .ends, ← stands .1, ← stands .2, i .values) (run-agrees T h E D S (endsOf E (here .rows)) q here (stands .0)
+    turn-result q = rw (i .ends, ← at-turn .1, ← at-turn .2, i .values) (run-agrees T h E D S (endsOf E (here .rows)) q here (at-turn .0)
         (alike-runnable t here alike))
 
     module _ (q : ℕ) {o : Outcome} {X′ ws N : List ℕ} (x : Ends (bareRun T h W D S q n a vs′ M) o X′ ws N) where
@@ -264,36 +312,35 @@ module _ {T : List ℤ} {h : Sections} {listed : List ℤ} {D cs vs os W₀ S : 
           )
 
       -- After q steps more, or fewer where it ends, it stands as a run by itself with that allowance,
-      pub turn-taken : InTurn l h (stepsOf (answerAt l h (t + q))) o X′ ws N
+      pub turn-taken : InTurn T l (stepsOf (answerAt (T ∷ []) l (t + q))) o X′ ws N
       unfolding taken
       turn-taken =
-          let m = steps-made T h E D first free none-yet (t + q) in
-          let z : stepsOf (answerAt l h (t + q)) ≡ point (t + q) .steps = answer-steps h (point (t + q) .status) (point (t + q) .steps) (point (t + q) .due) in
-          let same : point (stepsOf (answerAt l h (t + q))) ≡ point (t + q) = ap point z ∙ m .same in
-          let u : taken (point (stepsOf (answerAt l h (t + q)))) = subst taken (sym same) after-taken in
+          let z = answer-made (t + q) in
+          let same = made-same (t + q) in
+          let u : taken (point (stepsOf (answerAt (T ∷ []) l (t + q)))) = subst taken (sym same) after-taken in
           record { made = ap (λ (X : Point). X .steps) same ∙ sym z; answer = u .0; ends = u .1; values = u .2; memory = u .3 }
 
       -- in the memory that the plain machine leaves,
-      pub turn-cells : N ≡ pointAfter T h E D q here .cells
-      turn-cells = x .cells ∙ ap (λ (r : Result). r .cells) (turn-result q)
+      own-left : N ≡ pointAfter T h E D q here .cells
+      own-left = x .cells ∙ ap (λ (r : Result). r .cells) (turn-result q)
+
+      pub turn-cells : N ≡ goes t q M .point .cells
+      turn-cells = own-left ∙ sym (ap (λ (P : Point). P .cells) (goes-point t q M (i .memory)))
 
       -- and it has left the others' cells.
       pub turn-leaves : LeftOthers h D M N
       turn-leaves =
           let f = turn-framed T h E D (Own h) (own-names T h) first first-own t q here alike in
-          let c = turn-cells in
+          let c = own-left in
           record { long = ap length c ∙ f .long; elsewhere = λ j g. ap (λ (s : List ℕ). getD s j 0) c ∙ f .elsewhere j g }
 
   -- ---- THE CLAIM OF POINT 5 about a routine, wherever its turns have led it
 
-  pub in-turns : {t : ℕ} {o : Outcome} {W vs′ M : List ℕ} → InTurn l h t o W vs′ M → RunJudged l t (leaves o vs′ (point t .cells))
+  pub in-turns : {t : ℕ} {o : Outcome} {W vs′ M : List ℕ} → InTurn T l t o W vs′ M → RunJudged T listed l t (leaves o vs′ (point t .cells))
   in-turns {t} {o} {W} {vs′} {M} i =
       run-judged T listed D cs vs os t o vs′ (point t .cells)
       (begun-ran T h listed D cs vs os t o vs′ (point t .cells) (L .formed) (L .accepts) (L .none)
-      (subst (λ (g : Sections). Ran l g t (leaves o vs′ (point t .cells))) (formed-sections T h (L .formed)) (record {
-        ends = record { answer = turn-reads i; values = i .values; cells = refl };
-        every-point = λ s b. at-point T h listed (L .formed) (L .accepts) D cs vs os launched-begun t s (reads o) (turn-reads i) b;
-      })))
+      (ran-alone T h listed (L .formed) (L .accepts) D cs vs os launched-begun t o vs′ (point t .cells) (shown-reads i) (i .values) refl))
 
 -- The turn of a routine leaves the cells of another whose objects do not overlap.
 pub others-same : (h g : Sections) (D F M N : List ℕ) → ((i : ℕ) → CellOf F (Own g) i → Elsewhere D (Own h) i) → LeftOthers h D M N → SameCells F (Own g) M N

@@ -3,18 +3,17 @@
 use Prim.Native.Nat.{ℕ, zero, suc, _+_, _*_, _<_}
 use mathlib.Core.Path.{_≡_}
 use mathlib.Core.Bool.{Bool, true, false, cond}
-use mathlib.Core.List.{List}
+use mathlib.Core.List.{List, [], _∷_}
 use lib.ListN.{length, getD, drop}
 use Rattle.answers.specs.Answers.{Answer, done, spent, stopped, refused}
 use Rattle.answers.specs.declared.stops.Outcome.{Outcome}
-use Rattle.answers.specs.declared.stops.Outcome.the-variants as outcome
-use Rattle.rules.specs.Verdict.{environmentOf}
-use Rattle.machine.specs.Machine.{Point, pointAfter}
+use Rattle.rules.specs.Sets as sets
+use Rattle.machine.specs.SetMachine.{Stack, stack, stackAfter}
 use Rattle.machine.specs.Points.{Outside}
 use Rattle.machine.specs.Frame.{SameCells, Own, Alike, withCells}
-use Rattle.interpreter.specs.Claim.{RunJudged, Begins, pointOf, answerAt}
+use Rattle.interpreter.specs.Claim.{stateOf, pointOf, answerAt, RunJudged, Begins}
 use Rattle.turns.specs.Turns.{Routines, received, after, granted, ServedAgain, AllServed}
-use Rattle.seats.specs.Lends.{Lends, lentTo, sectionsAt, countOf}
+use Rattle.seats.specs.Lends.{Lends, tableAt, listedAt, lentTo, sectionsAt, countOf}
 use Rattle.overlaps.specs.Overlaps.{firstOverlap}
 use Rattle.parts.specs.Parts.{partOf, startAt}
 use Rattle.seats.specs.Parts.{kinds, valuesKind}
@@ -38,13 +37,17 @@ stepsOf (refused n p q) = 0
 abbrev pub routinesOf : Lends → Routines
 routinesOf l = record {
   count = countOf l;
-  waits = λ r t. isSpent (answerAt (lentTo l r) (sectionsAt l r) t);
-  made = λ r t. stepsOf (answerAt (lentTo l r) (sectionsAt l r) t);
+  waits = λ r t. isSpent (answerAt (tableAt l r ∷ []) (lentTo l r) t);
+  made = λ r t. stepsOf (answerAt (tableAt l r ∷ []) (lentTo l r) t);
 }
 
 -- The steps that routine r receives.
 abbrev pub receivedBy : Lends → ℕ → ℕ → ℕ → ℕ
 receivedBy l quantum total r = getD (received (routinesOf l) quantum total) r 0
+
+-- The state K, but in the memory M.
+abbrev pub inMemory : Stack → List ℕ → Stack
+inMemory K M = stack (K .callers) (K .routine) (withCells (K .point) M)
 
 -- ---- the shared memory: "one lent memory", in which each routine goes on in its turns
 
@@ -57,10 +60,8 @@ module _ (l : Lends) (quantum total : ℕ) where
   nextAfter k = after (routinesOf l) quantum total k .next
 
   -- The plain machine of routine r after s steps more from where it stands by itself after t steps, but in the memory M.
-  abbrev pub goesOn : ℕ → ℕ → ℕ → List ℕ → Point
-  goesOn r t s M =
-      pointAfter (lentTo l r .table) (sectionsAt l r) (environmentOf (lentTo l r .table) (sectionsAt l r)) (lentTo l r .directory) s
-      (withCells (pointOf (lentTo l r) (sectionsAt l r) t) M)
+  abbrev pub goesOn : ℕ → ℕ → ℕ → List ℕ → Stack
+  goesOn r t s M = stackAfter (sets.routinesOf (tableAt l r ∷ [])) (lentTo l r .directory) s (inMemory (stateOf (tableAt l r ∷ []) (lentTo l r) t) M)
 
   -- The memory after k turns: a turn leaves what the plain machine leaves that goes on in it; one that ended is skipped.
   unfoldable pub memoryAfter : ℕ → List ℕ
@@ -68,15 +69,15 @@ module _ (l : Lends) (quantum total : ℕ) where
   memoryAfter (suc k) =
       cond (routinesOf l .waits (nextAfter k) (stepsAfter k (nextAfter k)))
       (goesOn (nextAfter k) (stepsAfter k (nextAfter k)) (granted (routinesOf l) quantum total (after (routinesOf l) quantum total k .received))
-      (memoryAfter k) .cells)
+      (memoryAfter k) .point .cells)
       (memoryAfter k)
 
   -- "What the mission says of a run holds for each of them": at each of its points in the shared memory, s steps into the turn that follows k turns, a routine
   -- stands where its run by itself stands after as many steps, but for cells of others; for that run demand 3 is in `AsAlone`.
   abbrev pub EachPoint : Type 0
   EachPoint = (k s : ℕ) → Alike (lentTo l (nextAfter k) .directory) (Own (sectionsAt l (nextAfter k)))
-      (pointOf (lentTo l (nextAfter k)) (sectionsAt l (nextAfter k)) (stepsAfter k (nextAfter k) + s))
-      (goesOn (nextAfter k) (stepsAfter k (nextAfter k)) s (memoryAfter k))
+      (pointOf (tableAt l (nextAfter k) ∷ []) (lentTo l (nextAfter k)) (stepsAfter k (nextAfter k) + s))
+      (goesOn (nextAfter k) (stepsAfter k (nextAfter k)) s (memoryAfter k) .point)
 
 -- ---- the promise
 
@@ -84,12 +85,12 @@ module _ (l : Lends) (quantum total : ℕ) where
 -- them": t steps of routine r, which answers o and leaves the values vs; cs is the memory then.
 pub record AsAlone (l : Lends) (r t : ℕ) (o : Outcome) (vs cs : List ℕ) : Type 0 where
   pub alone : List ℕ
-  pub run : RunJudged (lentTo l r) t (record { answer = o; values = vs; cells = alone })
+  pub run : RunJudged (tableAt l r) (listedAt l r) (lentTo l r) t (record { answer = o; routine = 0; values = vs; cells = alone })
   pub own-cells : SameCells (lentTo l r .directory) (Own (sectionsAt l r)) alone cs
 
 -- Nothing refuses the call: all routines run.
 pub record AllRan (l : Lends) (quantum total : ℕ) (outcomes : ℕ → Outcome) (vs cs : List ℕ) : Type 0 where
-  pub begin : (r : ℕ) → r < countOf l → Begins (lentTo l r)
+  pub begin : (r : ℕ) → r < countOf l → Begins (tableAt l r) (listedAt l r) (lentTo l r)
   pub apart : firstOverlap l ≡ countOf l
   pub as-alone : (r : ℕ) → r < countOf l → AsAlone l r (receivedBy l quantum total r) (outcomes r) (partOf (l .lengths) kinds valuesKind r vs) cs
   pub memory : cs ≡ memoryAfter l quantum total (countOf l * total)

@@ -3,24 +3,27 @@ use Prim.Native.Nat.{ℕ, zero, suc, _+_, _-_, _*_, _≤_, _<_}
 use mathlib.Core.Path.{_≡_, refl, sym, ap, _∙_}
 use mathlib.Core.Logic.{_≢_}
 use mathlib.Core.Bool.{Bool, true, false}
-use mathlib.Core.List.{List}
+use mathlib.Core.List.{List, [], _∷_}
 use native.Mathlib.Omega.{arith}
 use native.Mathlib.Numerals.{add-one}
 use native.Mathlib.Decide.{ℕ-discrete}
 use lib.ListN.{getD, set, getD-replicate}
 use lib.Seq.{getD-set-same, getD-set-other}
-use Rattle.machine.specs.Machine.{start, pointAfter}
+use Rattle.machine.specs.Machine.{start}
+use Rattle.machine.specs.AlonePoints.{pointAfter}
+use Rattle.machine.specs.SetMachine.{stackAfter}
 use Rattle.machine.specs.Frame.{Own, SameCells}
 use Rattle.machine.specs.FrameLaws.{same-trans}
-use Rattle.interpreter.specs.Claim.{pointOf, answerAt}
+use Rattle.interpreter.specs.Claim.{answerAt}
 use Rattle.turns.specs.Turns.{Routines, Runs, Schedule, sum, granted, after, received}
 use Rattle.turns.specs.TurnsLaws.{after-start, after-received, after-within, after-long, sum-set, sum-grows, sum-step, served-waiting, served-ended}
 use Rattle.turns.specs.TurnsLaws.{served-again, all-served}
-use Rattle.seats.specs.Lends.{Lends, lentTo, sectionsAt, countOf}
+use Rattle.seats.specs.Lends.{Lends, tableAt, lentTo, sectionsAt, countOf}
 use Rattle.rounds.specs.Rounds.{routinesOf, stepsOf, AllRan, goesOn, memoryAfter, EachPoint}
 use Rattle.overlaps.specs.Overlaps.{firstOverlap}
 use Rattle.interpreter.specs.ClaimLaws.{launched-begins}
-use Rattle.rounds.specs.InTurnLaws.{in-turns, goes-alike, goes-leaves, made-same, others-same}
+use Rattle.rounds.specs.InTurn.{pointFrom}
+use Rattle.rounds.specs.InTurnLaws.{in-turns, goes-alike, goes-leaves, made-cells, others-same}
 use Rattle.seats.specs.SeatAt.{seatAt}
 use Rattle.rounds.specs.Standing.{AllLaunched, Standing}
 use Rattle.overlaps.specs.OverlapLaws.{AllApart}
@@ -49,7 +52,7 @@ module _ (l : Lends) (S : List ℕ) (L : AllLaunched l S) (apart : AllApart l) (
   -- ---- each routine's own cells
 
   abbrev OwnCells : ℕ → ℕ → Type 0
-  OwnCells k r = SameCells (lentTo l r .directory) (Own (sectionsAt l r)) (pointOf (lentTo l r) (sectionsAt l r) (st k r) .cells) (memory k)
+  OwnCells k r = SameCells (lentTo l r .directory) (Own (sectionsAt l r)) (pointFrom (tableAt l r) (lentTo l r) (st k r) .cells) (memory k)
 
   own-start : (r : ℕ) → r < countOf l → OwnCells 0 r
   unfolding memoryAfter start pointAfter
@@ -66,17 +69,17 @@ module _ (l : Lends) (S : List ℕ) (L : AllLaunched l S) (apart : AllApart l) (
 
     -- It waits: it goes on.
     module _ (w : R .waits n (st k n) ≡ true) where
-      received-is : at (k + 1) .received ≡ set (at k .received) n (stepsOf (answerAt (lentTo l n) (sectionsAt l n) (st k n + q)))
+      received-is : at (k + 1) .received ≡ set (at k .received) n (stepsOf (answerAt (tableAt l n ∷ []) (lentTo l n) (st k n + q)))
       received-is = after-received R runs quantum total k ∙ served-waiting R runs quantum total (at k .received) n w
 
-      memory-is : memory (k + 1) ≡ goesOn l quantum total n (st k n) q (memory k) .cells
+      memory-is : memory (k + 1) ≡ goesOn l quantum total n (st k n) q (memory k) .point .cells
       memory-is = memory-gone l quantum total k w
 
       own-mine : OwnCells (k + 1) n
       own-mine =
-          let z : st (k + 1) n ≡ stepsOf (answerAt (lentTo l n) (sectionsAt l n) (st k n + q)) = ap (λ (y : List ℕ). getD y n 0) received-is
+          let z : st (k + 1) n ≡ stepsOf (answerAt (tableAt l n ∷ []) (lentTo l n) (st k n + q)) = ap (λ (y : List ℕ). getD y n 0) received-is
           ∙ getD-set-same (at k .received) n _ 0 (omega (arith, within k, after-long R runs quantum total k)) in
-          rw (z, made-same (L n (within k)) (st k n + q), memory-is) (goes-alike (L n (within k)) (st k n) q (memory k) (h n (within k)) .memory)
+          rw (z, memory-is) (made-cells (L n (within k)) (st k n) q (memory k) (h n (within k)))
 
       own-other : (r : ℕ) → r < countOf l → r ≢ n → OwnCells (k + 1) r
       own-other r b d =
@@ -110,8 +113,8 @@ module _ (l : Lends) (S : List ℕ) (L : AllLaunched l S) (apart : AllApart l) (
 
   -- ---- turns in which nothing is received leave the memory
 
-  none-goes : (r t p : ℕ) (M : List ℕ) → p ≡ 0 → goesOn l quantum total r t p M .cells ≡ M
-  unfolding pointAfter
+  none-goes : (r t p : ℕ) (M : List ℕ) → p ≡ 0 → goesOn l quantum total r t p M .point .cells ≡ M
+  unfolding stackAfter
   none-goes r t p M e = rw e
 
   still : (k : ℕ) → sum (at (k + 1) .received) ≡ sum (at k .received) → memory (k + 1) ≡ memory k
@@ -162,7 +165,7 @@ module _ (l : Lends) (S : List ℕ) (L : AllLaunched l S) (apart : AllApart l) (
     begin = λ r b. launched-begins (L r b);
     apart = f;
     as-alone = λ r b. rw (← e) (record {
-      alone = pointOf (lentTo l r) (sectionsAt l r) (st k r) .cells;
+      alone = pointFrom (tableAt l r) (lentTo l r) (st k r) .cells;
       run = in-turns (L r b) (s .each r b);
       own-cells = s .each r b .memory;
     });

@@ -19,7 +19,7 @@ use Rattle.turns.specs.Turns.{after, sum, Idle}
 use Rattle.parts.specs.Parts.{partOf, startAt, between}
 use Rattle.seats.specs.Parts.{kinds, valuesKind}
 use Rattle.parts.specs.Parts.{Replaced}
-use Rattle.seats.specs.Lends.{Lends, lentTo, sectionsAt, countOf}
+use Rattle.seats.specs.Lends.{Lends, tableAt, listedAt, lentTo, sectionsAt, countOf}
 use Rattle.rounds.specs.Rounds.{routinesOf, memoryAfter}
 use Rattle.overlaps.specs.Overlaps.{firstOverlap}
 use Rattle.seats.specs.SeatAt.{seatAt}
@@ -34,8 +34,8 @@ seated s o = record { sections = s .sections; places = s .places; outcome = o }
 -- Routine r passed all that its run alone checks, and its successors are laid out.
 abbrev pub IsLaunched : Lends → List ℕ → ℕ → Type 0
 IsLaunched l S r =
-    Launched (lentTo l r .table) (sectionsAt l r) (lentTo l r .listed) (lentTo l r .directory) (l .cells) (lentTo l r .values) (lentTo l r .origins)
-    (endsOf (environmentOf (lentTo l r .table) (sectionsAt l r)) ownRows) (successorsAt S r)
+    Launched (tableAt l r) (sectionsAt l r) (listedAt l r) (lentTo l r .directory) (l .cells) (lentTo l r .values) (lentTo l r .origins)
+    (endsOf (environmentOf (tableAt l r) (sectionsAt l r)) ownRows) (successorsAt S r)
 
 abbrev pub AllLaunched : Lends → List ℕ → Type 0
 AllLaunched l S = (r : ℕ) → r < countOf l → IsLaunched l S r
@@ -45,7 +45,7 @@ pub record Standing (l : Lends) (quantum total k : ℕ) (seats : List Seat) (end
   pub sections : (r : ℕ) → r < countOf l → seatAt seats r .sections ≡ sectionsAt l r
   pub places : (r : ℕ) → r < countOf l → seatAt seats r .places ≡ placesOf l r
   pub each : (r : ℕ) → r < countOf l
-      → InTurn (lentTo l r) (sectionsAt l r) (getD (after (routinesOf l) quantum total k .received) r 0) (seatAt seats r .outcome) (endsAt ends r)
+      → InTurn (tableAt l r) (lentTo l r) (getD (after (routinesOf l) quantum total k .received) r 0) (seatAt seats r .outcome) (endsAt ends r)
       (partOf (l .lengths) kinds valuesKind r vs) cs
   pub memory : cs ≡ memoryAfter l quantum total k
   pub nobodys-cells : (i : ℕ) → ((r : ℕ) → r < countOf l → Outside (lentTo l r .directory) (sectionsAt l r .objects) i) → getD cs i 0 ≡ getD (l .cells) i 0

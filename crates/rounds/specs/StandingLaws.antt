@@ -3,7 +3,7 @@ use Prim.Native.Nat.{ℕ, _+_, _-_, _*_, _^_, _≤_, _<_, min}
 use mathlib.Core.Path.{_≡_, refl, sym, ap, ap₂, subst, _∙_}
 use mathlib.Core.Logic.{_≢_}
 use mathlib.Core.Bool.{Bool, true, false, cond}
-use mathlib.Core.List.{List}
+use mathlib.Core.List.{List, [], _∷_}
 use native.Mathlib.Omega.{arith}
 use native.Mathlib.Numerals.{add-one}
 use native.Mathlib.Decide.{ℕ-discrete}
@@ -16,7 +16,7 @@ use Rattle.words.specs.declared.sections.Sections.{Sections}
 use Rattle.table.specs.FormLaws.{well-formed}
 use Rattle.machine.specs.FrameLaws.{outside-own}
 use Rattle.interpreter.specs.BareRun.{Ends, bareRun}
-use Rattle.interpreter.specs.Claim.{pointOf, answerAt}
+use Rattle.interpreter.specs.Claim.{answerAt}
 use Rattle.interpreter.specs.StartLaws.{admitted}
 use Rattle.turns.specs.Turns.{Routines, Runs, Schedule, granted, after, received}
 use Rattle.turns.specs.TurnsLaws.{by-order, after-received, after-within, after-long, sum-least, sum-within, served-waiting, served-ended}
@@ -26,12 +26,12 @@ use Rattle.parts.specs.Parts.{Replaced}
 use Rattle.parts.specs.PartsLaws.{between-part, starts-order}
 use Rattle.parts.specs.ReplacedLaws.{window-before, window-behind, drop-behind}
 use Rattle.seats.specs.PartsLaws.{part-new, part-other}
-use Rattle.seats.specs.Lends.{Lends, lentTo, sectionsAt, countOf}
+use Rattle.seats.specs.Lends.{Lends, tableAt, lentTo, sectionsAt, countOf}
 use Rattle.rounds.specs.Rounds.{routinesOf, isSpent, stepsOf, stepsAfter, nextAfter, goesOn, memoryAfter}
 use Rattle.overlaps.specs.Overlaps.{some}
 use Rattle.rounds.specs.InTurn.{InTurn, LeftOthers}
 use Rattle.rounds.specs.InTurnLaws.{made-most, made-all, made-more, values-count, others-turn, turn-reads, turn-steps, turn-prepared, turn-safe}
-use Rattle.rounds.specs.InTurnLaws.{turn-taken, turn-cells, turn-leaves, others-same, answer-steps}
+use Rattle.rounds.specs.InTurnLaws.{turn-taken, turn-cells, turn-leaves, others-same, answer-made}
 use Rattle.seats.specs.SeatAt.{seatAt, nobody}
 use Rattle.seats.specs.Seats.{placesOf, endsAt, successorsAt}
 use Rattle.rounds.specs.Standing.{seated, InPlace, MayGoOn, MayTurn, AllLaunched, Standing, GoneOn, Skipped, Turned}
@@ -60,7 +60,7 @@ module _ (l : Lends) (quantum total k : ℕ) where
   pub memory-gone : routinesOf l .waits (nextAfter l quantum total k) (stepsAfter l quantum total k (nextAfter l quantum total k)) ≡ true
       → memoryAfter l quantum total (k + 1)
       ≡ goesOn l quantum total (nextAfter l quantum total k) (stepsAfter l quantum total k (nextAfter l quantum total k))
-      (granted (routinesOf l) quantum total (after (routinesOf l) quantum total k .received)) (memoryAfter l quantum total k) .cells
+      (granted (routinesOf l) quantum total (after (routinesOf l) quantum total k .received)) (memoryAfter l quantum total k) .point .cells
   unfolding memoryAfter
   memory-gone e = ap (memoryAfter l quantum total) (add-one k) ∙ picked _ _ _ e
 
@@ -106,16 +106,13 @@ module _ (l : Lends) (S : List ℕ) (L : AllLaunched l S) (apart : AllApart l) (
     q = granted R quantum total (at k .received)
 
     -- What the outcome of the routine's seat reads as.
-    seat-reads : (j : ℕ) → j < countOf l → reads (seatAt seats j .outcome) ≡ answerAt (lentTo l j) (sectionsAt l j) (st k j)
+    seat-reads : (j : ℕ) → j < countOf l → reads (seatAt seats j .outcome) ≡ answerAt (tableAt l j ∷ []) (lentTo l j) (st k j)
     seat-reads j b = turn-reads (L j b) (s .each j b)
 
     pub seat-steps : (j : ℕ) → j < countOf l → stepsOf (reads (seatAt seats j .outcome)) ≡ st k j
-    seat-steps j b = ap stepsOf (seat-reads j b)
-        ∙ answer-steps (sectionsAt l j) (pointOf (lentTo l j) (sectionsAt l j) (st k j) .status) (pointOf (lentTo l j) (sectionsAt l j) (st k j) .steps)
-        (pointOf (lentTo l j) (sectionsAt l j) (st k j) .due)
-        ∙ s .each j b .made
+    seat-steps j b = ap stepsOf (seat-reads j b) ∙ answer-made (L j b) (st k j) ∙ s .each j b .made
 
-    table-part : (j : ℕ) → between (placesOf l j .table) (l .tables) ≡ lentTo l j .table
+    table-part : (j : ℕ) → between (placesOf l j .table) (l .tables) ≡ tableAt l j
     table-part j = between-part (l .lengths) kinds tableKind j (length (l .tables)) (l .tables) refl
 
     directory-part : (j : ℕ) → between (placesOf l j .directory) (l .directories) ≡ lentTo l j .directory
@@ -148,7 +145,7 @@ module _ (l : Lends) (S : List ℕ) (L : AllLaunched l S) (apart : AllApart l) (
 
     may-go-on : total < 2 ^ 32 → {n a : ℕ} → seatAt seats r .outcome ≡ Spent n a → MayGoOn (l .tables) (l .directories) S (seatAt seats r) r q n a ends vs cs
     may-go-on small {n} {a} e =
-        let i : InTurn (lentTo l r) (sectionsAt l r) (st k r) (Spent n a) (endsAt ends r) (partOf (l .lengths) kinds valuesKind r vs) cs = rw e at
+        let i : InTurn (tableAt l r) (lentTo l r) (st k r) (Spent n a) (endsAt ends r) (partOf (l .lengths) kinds valuesKind r vs) cs = rw e at
         (s .each r within) in
         subst (λ (y : Seat). MayGoOn (l .tables) (l .directories) S y r q n a ends vs cs) (sym seat-is) (record {
           prepared = rw (table-part r, directory-part r, values-part r) (turn-prepared (L r within) i);
@@ -193,10 +190,10 @@ module _ (l : Lends) (S : List ℕ) (L : AllLaunched l S) (apart : AllApart l) (
 
     module _ {n a : ℕ} {o : Outcome} {ends′ vs′ cs′ : List ℕ} (w : seatAt seats r .outcome ≡ Spent n a)
         (x : GoneOn (l .tables) (l .directories) S (seatAt seats r) r q n a ends vs cs o ends′ vs′ cs′) where
-      mine : InTurn (lentTo l r) (sectionsAt l r) (st k r) (Spent n a) (endsAt ends r) (partOf (l .lengths) kinds valuesKind r vs) cs
+      mine : InTurn (tableAt l r) (lentTo l r) (st k r) (Spent n a) (endsAt ends r) (partOf (l .lengths) kinds valuesKind r vs) cs
       mine = rw w at (s .each r within)
 
-      ran : Ends (bareRun (lentTo l r .table) (sectionsAt l r) (endsAt ends r) (lentTo l r .directory) (successorsAt S r) q n a
+      ran : Ends (bareRun (tableAt l r) (sectionsAt l r) (endsAt ends r) (lentTo l r .directory) (successorsAt S r) q n a
           (partOf (l .lengths) kinds valuesKind r vs) cs) o (x .ends-then) (x .values-then) cs′
       ran = rw (s .sections r within, s .places r within, table-part r, directory-part r, values-part r) at (x .run)
 
@@ -212,10 +209,10 @@ module _ (l : Lends) (S : List ℕ) (L : AllLaunched l S) (apart : AllApart l) (
       waiting : R .waits r (st k r) ≡ true
       waiting = sym (ap isSpent (seat-reads r within)) ∙ ap (λ (y : Outcome). isSpent (reads y)) w
 
-      gone-received : at (k + 1) .received ≡ set (at k .received) r (stepsOf (answerAt (lentTo l r) (sectionsAt l r) (st k r + q)))
+      gone-received : at (k + 1) .received ≡ set (at k .received) r (stepsOf (answerAt (tableAt l r ∷ []) (lentTo l r) (st k r + q)))
       gone-received = after-received R runs quantum total k ∙ served-waiting R runs quantum total (at k .received) r waiting
 
-      gone-mine : st (k + 1) r ≡ stepsOf (answerAt (lentTo l r) (sectionsAt l r) (st k r + q))
+      gone-mine : st (k + 1) r ≡ stepsOf (answerAt (tableAt l r ∷ []) (lentTo l r) (st k r + q))
       gone-mine = ap (λ (y : List ℕ). getD y r 0) gone-received
           ∙ getD-set-same (at k .received) r _ 0 (omega (arith, within, after-long R runs quantum total k))
 
@@ -232,7 +229,7 @@ module _ (l : Lends) (S : List ℕ) (L : AllLaunched l S) (apart : AllApart l) (
       abbrev seat : Seat
       seat = seated (seatAt seats r) o
 
-      turned-mine : InTurn (lentTo l r) (sectionsAt l r) (st (k + 1) r) o (endsAt ends′ r) (partOf (l .lengths) kinds valuesKind r vs′) cs′
+      turned-mine : InTurn (tableAt l r) (lentTo l r) (st (k + 1) r) o (endsAt ends′ r) (partOf (l .lengths) kinds valuesKind r vs′) cs′
       turned-mine =
           let here : endsAt ends′ r ≡ x .ends-then = rw (x .ends-count) at (x .ends-kept .here) in
           rw (gone-mine, here, part-new (l .lengths) kinds valuesKind r vs (x .values-then) vs′ some-values as-many kept) (turn-taken (L r within) mine q ran)
@@ -246,7 +243,7 @@ module _ (l : Lends) (S : List ℕ) (L : AllLaunched l S) (apart : AllApart l) (
           (λ u. by-order r j (λ v. window-behind (512 * r + 512) (512 * j) 512 ends ends′ (omega arith) (x .ends-kept .back)) (λ v. absurd (d (omega arith))))
 
       turned-other : (j : ℕ) → j < countOf l → j ≢ r
-          → InTurn (lentTo l j) (sectionsAt l j) (st (k + 1) j) (seatAt seats j .outcome) (endsAt ends′ j) (partOf (l .lengths) kinds valuesKind j vs′) cs′
+          → InTurn (tableAt l j) (lentTo l j) (st (k + 1) j) (seatAt seats j .outcome) (endsAt ends′ j) (partOf (l .lengths) kinds valuesKind j vs′) cs′
       turned-other j b d =
           rw (gone-other j d, ends-other j d, part-other (l .lengths) kinds valuesKind r vs (x .values-then) vs′ some-values as-many kept j d)
           (others-turn (L j b) cs′ (others-same (sectionsAt l r) (sectionsAt l j) (lentTo l r .directory) (lentTo l j .directory) cs cs′
@@ -258,7 +255,7 @@ module _ (l : Lends) (S : List ℕ) (L : AllLaunched l S) (apart : AllApart l) (
         sections = λ j b. sections-kept j b (ℕ-discrete j r);
         places = λ j b. places-kept j b (ℕ-discrete j r);
         each = λ j b. turned j b (ℕ-discrete j r);
-        memory = turn-cells (L r within) mine q ran ∙ ap (λ (M : List ℕ). goesOn l quantum total r (st k r) q M .cells) (s .memory)
+        memory = turn-cells (L r within) mine q ran ∙ ap (λ (M : List ℕ). goesOn l quantum total r (st k r) q M .point .cells) (s .memory)
             ∙ sym (memory-gone l quantum total k waiting);
         nobodys-cells = λ i y. left .elsewhere i (outside-own (sectionsAt l r) (lentTo l r .directory) i (y r within)) ∙ s .nobodys-cells i y;
         nobodys-values = values-behind ∙ s .nobodys-values;
@@ -276,7 +273,7 @@ module _ (l : Lends) (S : List ℕ) (L : AllLaunched l S) (apart : AllApart l) (
           places-kept j b (no d) = ap (λ (y : Seat). y .places) (getD-set-other seats r j seat nobody d) ∙ s .places j b
 
           turned : (j : ℕ) → j < countOf l → Dec (j ≡ r)
-              → InTurn (lentTo l j) (sectionsAt l j) (st (k + 1) j) (seatAt (set seats r seat) j .outcome) (endsAt ends′ j) (partOf
+              → InTurn (tableAt l j) (lentTo l j) (st (k + 1) j) (seatAt (set seats r seat) j .outcome) (endsAt ends′ j) (partOf
               (l .lengths) kinds valuesKind j vs′) cs′
           turned j b (yes d) = rw (d, getD-set-same seats r seat nobody room) turned-mine
           turned j b (no d) = rw (getD-set-other seats r j seat nobody d) (turned-other j b d)

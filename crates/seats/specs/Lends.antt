@@ -20,11 +20,15 @@ pub record Lends : Type 0 where
   pub origins : List ℕ
   pub lengths : List ℕ
 
--- What routine r is lent: its parts, and the one memory.
+-- What routine r is lent: its table, its list, its other parts, and the one memory.
+abbrev pub tableAt : Lends → ℕ → List ℤ
+tableAt l r = partOf (l .lengths) kinds tableKind r (l .tables)
+
+abbrev pub listedAt : Lends → ℕ → List ℤ
+listedAt l r = partOf (l .lengths) kinds listedKind r (l .listed)
+
 abbrev pub lentTo : Lends → ℕ → Lent
 lentTo l r = record {
-  table = partOf (l .lengths) kinds tableKind r (l .tables);
-  listed = partOf (l .lengths) kinds listedKind r (l .listed);
   directory = partOf (l .lengths) kinds directoryKind r (l .directories);
   cells = l .cells;
   values = partOf (l .lengths) kinds valuesKind r (l .values);
@@ -32,7 +36,7 @@ lentTo l r = record {
 }
 
 abbrev pub sectionsAt : Lends → ℕ → Sections
-sectionsAt l r = sectionsOf (lentTo l r .table)
+sectionsAt l r = sectionsOf (tableAt l r)
 
 abbrev pub countOf : Lends → ℕ
 countOf l = length (l .lengths) / 5

@@ -10,7 +10,7 @@ use Rattle.machine.specs.Machine.{going}
 use Rattle.interpreter.specs.Claim.{runFaults, Begins}
 use Rattle.interpreter.specs.Starts.{Launched, First}
 use Rattle.interpreter.specs.Outcomes.{outcomeShown}
-use Rattle.seats.specs.Lends.{Lends, lentTo, sectionsAt, countOf}
+use Rattle.seats.specs.Lends.{Lends, tableAt, listedAt, lentTo, sectionsAt, countOf}
 use Rattle.parts.specs.Parts.{window, spanOf}
 use Rattle.seats.specs.Parts.{kinds, tableKind, directoryKind, valuesKind}
 use Rattle.seats.specs.SeatAt.{seatAt}
@@ -47,12 +47,12 @@ startSeat l r = record { sections = sectionsAt l r; places = placesOf l r; outco
 
 abbrev pub LaidOut : Lends → ℕ → List ℕ → List ℕ → Type 0
 LaidOut l r ends S =
-    Launched (lentTo l r .table) (sectionsAt l r) (lentTo l r .listed) (lentTo l r .directory) (l .cells) (lentTo l r .values) (lentTo l r .origins)
+    Launched (tableAt l r) (sectionsAt l r) (listedAt l r) (lentTo l r .directory) (l .cells) (lentTo l r .values) (lentTo l r .origins)
     (endsAt ends r) (successorsAt S r)
 
 -- What becomes of routine r: its run alone is refused, or it has a seat.
 abbrev pub SeatedAs : Seated → Lends → ℕ → List ℕ → List ℕ → Type 0
-SeatedAs (one.Refused f) l r ends S = First (runFaults store (lentTo l r)) f
+SeatedAs (one.Refused f) l r ends S = First (runFaults (tableAt l r) (listedAt l r) (lentTo l r) store) f
 SeatedAs (one.Begun s) l r ends S = (s ≡ startSeat l r) × LaidOut l r ends S
 
 -- The scratch of earlier routines is as it was.
@@ -75,8 +75,8 @@ pub record ReadyTo (l : Lends) (r : ℕ) (seats : List Seat) (ends S : List ℕ)
 -- The first routine that its run alone refuses, by the store's facts.
 pub record RefusedAt (l : Lends) (r : ℕ) (f : Refusal) : Type 0 where
   pub within : r < countOf l
-  pub earlier : (k : ℕ) → k < r → Begins (lentTo l k)
-  pub first : First (runFaults store (lentTo l r)) f
+  pub earlier : (k : ℕ) → k < r → Begins (tableAt l k) (listedAt l k) (lentTo l k)
+  pub first : First (runFaults (tableAt l r) (listedAt l r) (lentTo l r) store) f
 
 abbrev pub AllSeatedAs : AllSeated → Lends → List Seat → List ℕ → List ℕ → Type 0
 AllSeatedAs (all.Refused r f) l seats ends S = RefusedAt l r f

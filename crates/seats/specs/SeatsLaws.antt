@@ -1,6 +1,6 @@
 -- Laws of what is laid out before the turns.
 use Prim.Native.Nat.{ℕ, _+_, _-_, _*_, _≤_, _<_}
-use mathlib.Core.Path.{_≡_, refl, sym, subst, _∙_}
+use mathlib.Core.Path.{_≡_, refl, sym, _∙_}
 use mathlib.Core.List.{List}
 use native.Mathlib.Omega.{arith}
 use native.Mathlib.Decide.{ℕ-discrete}
@@ -24,7 +24,7 @@ use Rattle.parts.specs.Parts.{window, between, spanOf}
 use Rattle.seats.specs.Parts.{kinds}
 use Rattle.parts.specs.PartsLaws.{between-part}
 use Rattle.parts.specs.ReplacedLaws.{window-before, put-replaced}
-use Rattle.seats.specs.Lends.{Lends, lentTo, sectionsAt, countOf}
+use Rattle.seats.specs.Lends.{Lends, tableAt, listedAt, lentTo, sectionsAt, countOf}
 use Rattle.interpreter.specs.ClaimLaws.{launched-begins}
 use Rattle.seats.specs.SeatAt.{nobody}
 use Rattle.seats.specs.Seats.{endsAt, successorsAt, startSeat, LaidOut, SeatedAs, SeatResult, Ready, ReadyTo, RefusedAt}
@@ -55,10 +55,8 @@ scratch-long r ends S b e f = (
   mid-len (2048 * r) (2048 * r + 2048) S (omega arith) ∙ flow-size r,
 )
 
-abbrev lentParts : Lends → Span → Span → Span → Span → Span → Lent
-lentParts l t i d v o = record {
-  table = between t (l .tables);
-  listed = between i (l .listed);
+abbrev lentParts : Lends → Span → Span → Span → Lent
+lentParts l d v o = record {
   directory = between d (l .directories);
   cells = l .cells;
   values = between v (l .values);
@@ -69,8 +67,11 @@ module _ (l : Lends) (r : ℕ) (few : r < 8) {t i d v o : Span} (table : t ≡ s
     (listed : i ≡ spanOf (l .lengths) kinds 1 r (length (l .listed)))
     (directory : d ≡ spanOf (l .lengths) kinds 2 r (length (l .directories))) (values : v ≡ spanOf (l .lengths) kinds 3 r (length (l .values)))
     (origins : o ≡ spanOf (l .lengths) kinds 4 r (length (l .origins))) where
-  parts-lent : lentParts l t i d v o ≡ lentTo l r
-  parts-lent = rw (
+  abbrev StartsIn : Start → List ℕ → List ℕ → Type 0
+  StartsIn x W X = Starts x (between t (l .tables)) (between i (l .listed)) (lentParts l d v o) W X
+
+  parts-lent : (x : Start) (W X : List ℕ) → StartsIn x W X → Starts x (tableAt l r) (listedAt l r) (lentTo l r) W X
+  parts-lent x W X y = rw (
     table,
     listed,
     directory,
@@ -81,7 +82,7 @@ module _ (l : Lends) (r : ℕ) (few : r < 8) {t i d v o : Span} (table : t ≡ s
     between-part (l .lengths) kinds 2 r (length (l .directories)) (l .directories) refl,
     between-part (l .lengths) kinds 3 r (length (l .values)) (l .values) refl,
     between-part (l .lengths) kinds 4 r (length (l .origins)) (l .origins) refl,
-  )
+  ) at y
 
   module _ (ends S W X : List ℕ) (ends-long : length ends ≡ 4096) (flow-long : length S ≡ 16384)
       (n : length W ≡ length (window (512 * r) (512 * r + 512 - 512 * r) ends)) (m : length X ≡ length (window (2048 * r) (2048 * r + 2048 - 2048 * r) S)) where
@@ -108,18 +109,18 @@ module _ (l : Lends) (r : ℕ) (few : r < 8) {t i d v o : Span} (table : t ≡ s
       flow-front = take-put (2048 * r) (2048 * r + 2048 - 2048 * r) S X (omega arith);
     }
 
-    pub seat-refused : {x : Start} {f : Refusal} → x ≡ begin.Refused f → Starts x (lentParts l t i d v o) W X → SeatResult l r (one.Refused f) ends S ends′ S′
-    seat-refused {x} {f} e y = fronts (one.Refused f) (rw (e, parts-lent) at y)
+    pub seat-refused : {x : Start} {f : Refusal} → x ≡ begin.Refused f → StartsIn x W X → SeatResult l r (one.Refused f) ends S ends′ S′
+    seat-refused {x} {f} e y = fronts (one.Refused f) (rw e at (parts-lent x W X y))
 
-    pub seat-begun : {x : Start} {h : Sections} {u : Outcome} → x ≡ begin.Begun h → Starts x (lentParts l t i d v o) W X → u ≡ outcomeShown h going 0 0
+    pub seat-begun : {x : Start} {h : Sections} {u : Outcome} → x ≡ begin.Begun h → StartsIn x W X → u ≡ outcomeShown h going 0 0
         → SeatResult l r (one.Begun (record { sections = h; places = record { table = t; directory = d; values = v }; outcome = u })) ends S ends′ S′
-    seat-begun {x} {h} {u} e y z = fronts (one.Begun _) (begun-as (subst (λ (p : Lent). Starts (begin.Begun h) p W X) parts-lent (rw e at y)))
+    seat-begun {x} {h} {u} e y z = fronts (one.Begun _) (begun-as (rw e at (parts-lent x W X y)))
       where
-        begun-as : Launched (lentTo l r .table) h (lentTo l r .listed) (lentTo l r .directory) (l .cells) (lentTo l r .values) (lentTo l r .origins) W X
+        begun-as : Launched (tableAt l r) h (listedAt l r) (lentTo l r .directory) (l .cells) (lentTo l r .values) (lentTo l r .origins) W X
             → (_≡_ {A = Seat} (record { sections = h; places = record { table = t; directory = d; values = v }; outcome = u }) (startSeat l r))
             × LaidOut l r ends′ S′
         begun-as L =
-            let s : h ≡ sectionsAt l r = formed-sections (lentTo l r .table) h (L .formed) in (
+            let s : h ≡ sectionsAt l r = formed-sections (tableAt l r) h (L .formed) in (
               rw (z, table, directory, values, s),
               rw (ends-here, flow-here, ← s) L,
             )

@@ -1,5 +1,5 @@
 -- A call that is due at a level of the interpreter: the callee begins, and ends the run or returns.
-use Prim.Native.Nat.{ℕ, zero, suc, _+_, _-_, _*_, _≤_, _<_}
+use Prim.Native.Nat.{ℕ, suc, _+_, _-_, _*_, _≤_, _<_}
 use mathlib.Core.Path.{_≡_, refl, sym, ap, ap₂, subst, _∙_}
 use mathlib.Core.Bool.{Bool, true, false}
 use mathlib.Core.List.{List, [], _∷_, _++_, append-assoc}
@@ -12,23 +12,18 @@ use lib.Seq.{ext-getD, getD-take, getD-drop}
 use Rattle.arrays.specs.Tabulate.{tabulate}
 use Rattle.arrays.specs.TabulateLaws.{getD-tabulate, length-tabulate}
 use Rattle.words.specs.declared.sections.Sections.{Sections}
-use Rattle.statements.specs.Statements.{statementAt}
 use Rattle.statements.specs.Decode.{decodeStart, decodedAt}
 use Rattle.statements.specs.declared.CallSite.{CallSite}
-use Rattle.statements.specs.declared.Statement.the-variants.{Call}
-use Rattle.statements.specs.declared.StatementRead.the-variants.{Read}
 use Rattle.blocks.specs.Flow.{Successors}
 use Rattle.blocks.specs.Shape.{entriesAt}
 use Rattle.rules.specs.Calls.{Routine, argument}
 use Rattle.rules.specs.Sets.{routinesOf}
 use Rattle.rules.specs.SetLaws.{length-routines}
-use Rattle.machine.specs.Machine.{value, going, Point}
-use Rattle.machine.specs.SetMachine.{Frame, Stack, stack, settled, stackAfter, lastValues, tableOf, sectionsOf, environmentOf, waiting, begun, resumed, resultOf}
+use Rattle.machine.specs.Machine.{value, Point}
+use Rattle.machine.specs.SetMachine.{Frame, Stack, stack, stackAfter, lastValues, tableOf, sectionsOf, waiting, begun, resumed, resultOf}
 use Rattle.machine.specs.SetSound.{resume-kept, caller-waits, Calls, calls}
 use Rattle.answers.specs.declared.stops.Outcome.{Outcome}
-use Rattle.entry.specs.Ends.{endsOf}
 use Rattle.interpreter.specs.StartLaws.{first-due}
-use Rattle.parts.specs.Parts.{window}
 use Rattle.sets.specs.Tables.{tablesIn}
 use Rattle.sets.specs.TableLaws.{length-tables}
 use Rattle.set_runs.specs.Lent.{readIn, sectionsIn, roomOf, flowOf, siteOf, calledValues}
@@ -36,7 +31,7 @@ use Rattle.set_runs.specs.LentLaws.{statements-inside}
 use Rattle.set_runs.specs.Levels.{Stands, Begins, final, HasReturned, HasHalted, Callable, MayCall, Along}
 use Rattle.set_runs.specs.StackLaws.{later, settled-due, settled-ended, next-call}
 use Rattle.set_runs.specs.StretchLaws.{sound-here}
-use Rattle.set_runs.specs.RoutineLaws.{few, sections-here, limits-here, Paused, AtCall}
+use Rattle.set_runs.specs.RoutineLaws.{sections-here, limits-here, Paused, AtCall}
 use Rattle.set_runs.specs.declared.SetOutcome.{SetOutcome}
 
 take-tabulate : {A : Type 0} (n m : ℕ) (f : ℕ → A) (d : A) → n ≤ m → take n (tabulate m f) ≡ tabulate n f
@@ -82,8 +77,8 @@ module _ {W : List ℤ} {L D S : List ℕ} {room : ℕ} (C : Callable W L D S ro
     stands : Stands rs D room gs n Q
     stands = record { goes = x .goes; origins = q .origins; invariant = q .invariant }
 
-    called : Calls rs D room (C .setting) (stack gs n Q) (q .invariant) c
-    called = calls rs D room (C .setting) (stack gs n Q) (q .invariant) c (x .reads)
+    called : Calls rs D room [] (C .setting) (stack gs n Q) (q .invariant) c
+    called = calls rs D room [] (C .setting) (stack gs n Q) (q .invariant) c (x .reads)
 
     -- "below the caller's"
     pub callee-below : k < n
@@ -152,7 +147,11 @@ module _ {W : List ℤ} {L D S : List ℕ} {room : ℕ} (C : Callable W L D S ro
               length-tabulate (sectionsOf rs D (siteAt a .callee) .variables) (λ j. getD (q .point .origins) (argument (siteAt a) j) 0),
               ltb-false p (sectionsOf rs D (siteAt a .callee) .variables) e,
             ) in
-            omega (arith, List·getD-eq-default (tabulate (sectionsOf rs D (siteAt a .callee) .variables) (λ j. getD (q .point .origins) (argument (siteAt a) j) 0)) 0 l)
+            omega (
+              arith,
+              List·getD-eq-default
+                  (tabulate (sectionsOf rs D (siteAt a .callee) .variables) (λ j. getD (q .point .origins) (argument (siteAt a) j) 0)) 0 l,
+            )
 
     begins : Begins rs D room (F ∷ gs) k B (s + 1) (take (countAt a) (calledValues vs c)) cs
     begins = record {
@@ -162,7 +161,7 @@ module _ {W : List ℤ} {L D S : List ℕ} {room : ℕ} (C : Callable W L D S ro
         invariant = record {
           known = in-set;
           running = called .invariant;
-          waits = (callee-below, caller-waits rs D room (C .setting) (stack gs n Q) (q .invariant) c (x .reads), q .invariant .waits);
+          waits = (callee-below, caller-waits rs D room [] (C .setting) (stack gs n Q) (q .invariant) c (x .reads), q .invariant .waits);
         };
       };
       due = sym (first-due (tableOf rs D k) (sectionsOf rs D k));
@@ -230,7 +229,8 @@ module _ {W : List ℤ} {L D S : List ℕ} {room : ℕ} (C : Callable W L D S ro
             origins = q .origins;
             invariant = record {
               known = q .invariant .known;
-              running = resume-kept rs D room (C .setting) k in-set F (caller-waits rs D room (C .setting) (stack gs n Q) (q .invariant) c (x .reads)) (y′ .point)
+              running = resume-kept rs D room [] (C .setting) k in-set F (caller-waits rs D room [] (C .setting) (stack gs n Q) (q .invariant) c (x .reads))
+                  (y′ .point)
                   (y′ .stands .invariant .running);
               waits = q .invariant .waits;
             };

@@ -3,7 +3,7 @@ use Prim.Native.Nat.{ℕ, _≤_, _<_}
 use mathlib.Core.Path.{_≡_, refl, sym, ap, _∙_}
 use mathlib.Core.Logic.{⊎-elim}
 use mathlib.Core.Bool.{Bool, true, false, false≢true, _&&_}
-use mathlib.Core.List.{List, []}
+use mathlib.Core.List.{List}
 use native.Mathlib.Nat.{eq-or-lt-of-le}
 use native.Mathlib.Omega.{arith}
 use borrow.Author.Tests.{le-leb, lt-leb, leb-true, leb-false}
@@ -19,7 +19,7 @@ use Rattle.rules.specs.declared.SetVerdict.{SetVerdict}
 use Rattle.rules.specs.declared.SetVerdict.the-variants as whole
 use Rattle.rules.specs.declared.Verdict.{Verdict}
 use Rattle.rules.specs.declared.Verdict.the-variants.{Accepted, Refused}
-use Rattle.interpreter.specs.SetClaim.{SetLent, SetLeaves, SetNotBegun, SetRunJudged}
+use Rattle.interpreter.specs.Claim.{Lent, Leaves, NotBegun, SetRunJudged}
 use Rattle.sets.specs.Checked.{memberWords, SetAnswered}
 use Rattle.sets.specs.declared.SetChecked.{SetChecked}
 use Rattle.sets.specs.declared.SetChecked.the-variants as checked
@@ -54,24 +54,24 @@ first-same Ts n m r s a b = go (leb n m) (leb-true n m) (leb-false n m)
     go true p q = ⊎-elim (λ (e : n ≡ m). same e) (λ (e : n < m). absurd (not-both Ts n r (a .refused-it) (b .earlier n e))) (eq-or-lt-of-le (p refl))
     go false p q = absurd (not-both Ts m s (b .refused-it) (a .earlier m (q refl)))
 
-module _ (l : SetLent) (limit : ℕ) where
-  abbrev answered : ℕ → Refusal → SetLeaves
+module _ (Ts : List (List ℤ)) (l : Lent) (limit : ℕ) where
+  abbrev answered : ℕ → Refusal → Leaves
   answered n r = leaves (record { outcome = outcome.Refused r; routine = n }) (l .values) (l .cells)
 
-  not-begun : (n m : ℕ) (r s : Refusal) → n ≡ m → r ≡ s → SetNotBegun m s l (answered n r)
+  not-begun : (n m : ℕ) (r s : Refusal) → n ≡ m → r ≡ s → NotBegun m s l (answered n r)
   not-begun n m r s e f = record { answer = ap (λ (k : Refusal). reads (outcome.Refused k)) f; routine = e; values = refl; cells = refl }
 
   -- The set is accepted.
-  accepted-judged : (m : SetLeaves) → AllAccepted (l .tables) → RunsAccepted l limit m → SetRunJudged l limit m
+  accepted-judged : (m : Leaves) → AllAccepted Ts → RunsAccepted Ts l limit m → SetRunJudged Ts l limit m
   accepted-judged m a r = record {
     wrong-count = λ e. absurd (false≢true (sym e ∙ a .count));
-    refused = λ n x f. absurd (not-both (l .tables) n x (f .refused-it) (a .each n (f .below)));
+    refused = λ n x f. absurd (not-both Ts n x (f .refused-it) (a .each n (f .below)));
     not-entered = λ b f fs e. r .not-entered f fs e;
     ran = λ b e. r .ran e;
   }
 
   -- It is refused.
-  refused-by : (b : Bool) (n : ℕ) (r : Refusal) → countRight (l .tables) ≡ b → SetRefused b (l .tables) n r → SetRunJudged l limit (answered n r)
+  refused-by : (b : Bool) (n : ℕ) (r : Refusal) → countRight Ts ≡ b → SetRefused b Ts n r → SetRunJudged Ts l limit (answered n r)
   refused-by false n r e j = record {
     wrong-count = λ f. not-begun n 0 r RoutineCount (j .0) (j .1);
     refused = λ m s f. absurd (false≢true (sym e ∙ f .count));
@@ -80,9 +80,9 @@ module _ (l : SetLent) (limit : ℕ) where
   }
   refused-by true n r e j = record {
     wrong-count = λ f. absurd (false≢true (sym f ∙ e));
-    refused = λ m s f. let q = first-same (l .tables) n m r s j f in not-begun n m r s (q .0) (q .1);
-    not-entered = λ a f fs q. absurd (not-both (l .tables) n r (j .refused-it) (a .each n (j .below)));
-    ran = λ a q. absurd (not-both (l .tables) n r (j .refused-it) (a .each n (j .below)));
+    refused = λ m s f. let q = first-same Ts n m r s j f in not-begun n m r s (q .0) (q .1);
+    not-entered = λ a f fs q. absurd (not-both Ts n r (j .refused-it) (a .each n (j .below)));
+    ran = λ a q. absurd (not-both Ts n r (j .refused-it) (a .each n (j .below)));
   }
 
   -- ---- in the words of the code
@@ -95,11 +95,11 @@ module _ (l : SetLent) (limit : ℕ) where
         middle true b = refl
         middle false b = refl
 
-    pub no-ends : ends < 4096 → SetRunAnswered (roomEnough mem ends succ) l limit run.NoRoom (l .values) (l .cells)
+    pub no-ends : ends < 4096 → SetRunAnswered (roomEnough mem ends succ) Ts l limit run.NoRoom (l .values) (l .cells)
     unfolding SetRunAnswered
     no-ends q = (room-small q, refl, refl)
 
-    pub no-successors : succ < 16384 → SetRunAnswered (roomEnough mem ends succ) l limit run.NoRoom (l .values) (l .cells)
+    pub no-successors : succ < 16384 → SetRunAnswered (roomEnough mem ends succ) Ts l limit run.NoRoom (l .values) (l .cells)
     unfolding SetRunAnswered
     no-successors q =
         (ap (λ (b : Bool). leb memberWords mem && leb 4096 ends && b) (lt-leb 16384 succ q) ∙ and-two (leb memberWords mem) (leb 4096 ends), refl, refl)
@@ -110,8 +110,8 @@ module _ (l : SetLent) (limit : ℕ) where
         and-two false b = refl
 
     module _ (p : 4096 ≤ ends) (q : 16384 ≤ succ) where
-      pub no-member : {c : SetChecked} → SetAnswered mem (l .tables) c → c ≡ checked.NoRoom
-          → SetRunAnswered (roomEnough mem ends succ) l limit run.NoRoom (l .values) (l .cells)
+      pub no-member : {c : SetChecked} → SetAnswered mem Ts c → c ≡ checked.NoRoom
+          → SetRunAnswered (roomEnough mem ends succ) Ts l limit run.NoRoom (l .values) (l .cells)
       unfolding SetRunAnswered SetAnswered
       no-member a e =
           let s : mem < memberWords = rw e at a in (ap (λ (b : Bool). b && leb 4096 ends && leb 16384 succ) (lt-leb memberWords mem s), refl, refl)
@@ -119,24 +119,24 @@ module _ (l : SetLent) (limit : ℕ) where
       enough : memberWords ≤ mem → roomEnough mem ends succ ≡ true
       enough m = rw (le-leb memberWords mem m, le-leb 4096 ends p, le-leb 16384 succ q) refl
 
-      module _ {c : SetChecked} {v : SetVerdict} (a : SetAnswered mem (l .tables) c) (e : c ≡ checked.Judged v) where
-        judged : (memberWords ≤ mem) × SetJudged (l .tables) v
+      module _ {c : SetChecked} {v : SetVerdict} (a : SetAnswered mem Ts c) (e : c ≡ checked.Judged v) where
+        judged : (memberWords ≤ mem) × SetJudged Ts v
         unfolding SetAnswered
         judged = rw e at a
 
         pub member-enough : memberWords ≤ mem
         member-enough = judged .0
 
-        pub set-accepted : v ≡ whole.Accepted → AllAccepted (l .tables)
+        pub set-accepted : v ≡ whole.Accepted → AllAccepted Ts
         unfolding SetJudged
         set-accepted f = rw f at (judged .1)
 
-        pub ran-accepted : {o : SetOutcome} {us ds : List ℕ} → v ≡ whole.Accepted → RunsAccepted l limit (leaves o us ds)
-            → SetRunAnswered (roomEnough mem ends succ) l limit (run.Ran o) us ds
+        pub ran-accepted : {o : SetOutcome} {us ds : List ℕ} → v ≡ whole.Accepted → RunsAccepted Ts l limit (leaves o us ds)
+            → SetRunAnswered (roomEnough mem ends succ) Ts l limit (run.Ran o) us ds
         unfolding SetRunAnswered
         ran-accepted f r = (enough member-enough, accepted-judged _ (set-accepted f) r)
 
         pub ran-refused : {n : ℕ} {r : Refusal} → v ≡ whole.Refused n r
-            → SetRunAnswered (roomEnough mem ends succ) l limit (run.Ran (record { outcome = outcome.Refused r; routine = n })) (l .values) (l .cells)
+            → SetRunAnswered (roomEnough mem ends succ) Ts l limit (run.Ran (record { outcome = outcome.Refused r; routine = n })) (l .values) (l .cells)
         unfolding SetRunAnswered SetJudged
-        ran-refused {n} {r} f = (enough member-enough, refused-by (countRight (l .tables)) n r refl (rw f at (judged .1)))
+        ran-refused {n} {r} f = (enough member-enough, refused-by (countRight Ts) n r refl (rw f at (judged .1)))

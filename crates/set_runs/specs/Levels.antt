@@ -2,7 +2,7 @@
 -- callers wait beneath it.
 use Prim.Native.Nat.{ℕ, _+_, _-_, _*_, _≤_, _<_}
 use mathlib.Core.Path.{_≡_}
-use mathlib.Core.List.{List, _++_}
+use mathlib.Core.List.{List, [], _++_}
 use lib.IntN.{ℤ}
 use lib.ListN.{length, getD}
 use Rattle.rules.specs.BoundsRules.{ownRows}
@@ -29,7 +29,7 @@ module _ (rs : List Routine) (D : List ℕ) (room : ℕ) where
   pub record Stands (gs : List Frame) (n : ℕ) (P : Point) : Type 0 where
     pub goes : P .status ≡ going
     pub origins : (p : ℕ) → getD (P .origins) p 0 ≤ sectionsOf rs D n .objects
-    pub invariant : StackInvariant rs D room (stack gs n P)
+    pub invariant : StackInvariant rs D room [] (stack gs n P)
 
   -- It is at its first statement with the rows of its variables in force, as a routine is that is called.
   pub record Begins (gs : List Frame) (n : ℕ) (P : Point) (made : ℕ) (vs cs : List ℕ) : Type 0 where
@@ -80,7 +80,7 @@ module _ (W : List ℤ) (L D S : List ℕ) where
   -- What a run of the set has throughout.
   pub record Callable (room : ℕ) : Type 0 where
     pub accepted : AllAccepted (tablesIn W L)
-    pub setting : SetSetting set D room
+    pub setting : SetSetting set D room []
     pub flow-long : length S ≡ 16384
     pub flows : (n : ℕ) → n < length L → (a : ℕ) → a < sectionsOf set D n .statements
         → entriesAt (flowOf S n) a ≡ successorsOf (tableOf set D n) (sectionsOf set D n) (environmentOf set D n) D a

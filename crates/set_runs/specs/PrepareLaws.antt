@@ -1,15 +1,15 @@
 -- Laws of what a run of a set begins with: the tables as they were checked, the successors, the entry.
-use Prim.Native.Nat.{ℕ, _+_, _-_, _*_, _^_, _≤_, _<_, min}
+use Prim.Native.Nat.{ℕ, _+_, _-_, _*_, _≤_, _<_}
 use mathlib.Core.Path.{_≡_, refl, sym, ap, ap₂, subst, _∙_}
 use mathlib.Core.Logic.{⊎-elim}
-use mathlib.Core.Bool.{Bool, true, false, _&&_}
+use mathlib.Core.Bool.{Bool, true}
 use mathlib.Core.List.{List, []}
 use native.Mathlib.Nat.{eq-or-lt-of-le}
 use native.Mathlib.Omega.{arith}
 use borrow.Author.Tests.{le-leb, leb-true}
 use lib.Dec.{leb}
 use lib.IntN.{ℤ, pos}
-use lib.ListN.{length, getD, set, take, drop, length-take, length-drop}
+use lib.ListN.{length, getD, take, drop, length-take, length-drop}
 use lib.Seq.{ext-getD, getD-take}
 use borrow.Rule.Slice.PartMut.{putMid}
 use Rattle.words.specs.Sections.{Limits}
@@ -31,8 +31,9 @@ use Rattle.rules.specs.declared.Environment.{Environment}
 use Rattle.entry.specs.Entered.{entered}
 use Rattle.entry.specs.Entry.{entryRefusals}
 use Rattle.entry.specs.declared.EntryVerdict.{EntryVerdict}
-use Rattle.interpreter.specs.SetClaim.{entryFaults, lastNumber}
-use Rattle.parts.specs.Parts.{window, spanOf, Replaced}
+use Rattle.interpreter.specs.AloneLaws.{lends}
+use Rattle.interpreter.specs.Claim.{entryFaults}
+use Rattle.parts.specs.Parts.{window, spanOf}
 use Rattle.parts.specs.PartsLaws.{between-part}
 use Rattle.parts.specs.ReplacedLaws.{put-replaced, window-before}
 use Rattle.parts.specs.declared.Span.{Span}
@@ -42,7 +43,7 @@ use Rattle.sets.specs.Tables.{tablesIn}
 use Rattle.sets.specs.TableLaws.{length-tables}
 use Rattle.set_runs.specs.Lent.{lentOf, flowOf}
 use Rattle.set_runs.specs.LentLaws.{right, first-right, member-first, member-later, none-listed}
-use Rattle.set_runs.specs.Prepared.{Holds, FlowLaid, AllLaid, lentSet}
+use Rattle.set_runs.specs.Prepared.{Holds, FlowLaid, AllLaid}
 
 -- A window that is all of a slice's part n.
 module _ (W : List ℤ) (L : List ℕ) (n : ℕ) {own : Span} (q : own ≡ spanOf L 1 0 n (length W)) where
@@ -84,7 +85,17 @@ module _ (W : List ℤ) (L : List ℕ) (accepted : AllAccepted (tablesIn W L)) w
         → length (window (own .start) (own .end - own .start) W) ≤ length old
     copy-fits {own} old q m =
         let h = limits (sectionsOf (lentOf W L n)) (head-limits (lentOf W L n) (right W L accepted n l)) in
-        omega (arith, ap length (lent-window W L n q), head-long (lentOf W L n) (right W L accepted n l), h .objects, h .variables, h .statements, h .start, h .rows)
+        omega (
+          arith,
+          ap length (lent-window W L n q),
+          head-long (lentOf W L n)
+              (right W L accepted n l),
+          h .objects,
+          h .variables,
+          h .statements,
+          h .start,
+          h .rows,
+        )
 
     pub copied-member : {own : Span} {old new : List ℤ} {r : ℕ} → own ≡ spanOf L 1 0 n (length W) → n ≡ 0
         → Holds (window (own .start) (own .end - own .start) W) old r new → Holds M old r new
@@ -114,7 +125,8 @@ module _ (W : List ℤ) (L : List ℕ) (accepted : AllAccepted (tablesIn W L)) w
       put-member h = record {
         long = h .long;
         within = omega (arith, h .within, h .long, room);
-        front = h .front ∙ (ap₂ (λ (F T : List ℤ). withObjects (objectWords F) T) (lent-window W L 0 p) (lent-window W L n q) ∙ sym (member-later W L accepted n l z));
+        front = h .front ∙ (ap₂ (λ (F T : List ℤ). withObjects (objectWords F) T) (lent-window W L 0 p) (lent-window W L n q)
+            ∙ sym (member-later W L accepted n l z));
       }
 
     -- ---- its successors
@@ -170,7 +182,7 @@ module _ (W : List ℤ) (L : List ℕ) (accepted : AllAccepted (tablesIn W L)) w
 
   pub entered-last : (D cs vs os : List ℕ) {n r : ℕ} {old room : List ℤ} {h : Sections} {E : Environment} {v : EntryVerdict} → n ≡ length L - 1
       → Holds (memberOf Ts n) old r room → h ≡ sectionsOf (take r room) → E ≡ environmentOf (take r room) h → v ≡ entered (entryRefusals h E D cs vs os)
-      → v ≡ entered (entryFaults (lentSet W L D cs vs os))
+      → v ≡ entered (entryFaults (tablesIn W L) (lends D cs vs os))
   entered-last D cs vs os {n} {r} {old} {room} {h} {E} e k f g x =
       let T = memberOf Ts n in
       let last : n ≡ length (routinesOf Ts) - 1 = omega (arith, e, length-routines Ts, length-tables W L) in

@@ -9,7 +9,6 @@ use Rattle.blocks.specs.Flow.{successors, tableFlow}
 use Rattle.blocks.specs.Shape.{entriesAt}
 use Rattle.blocks.specs.Written.{written}
 use Rattle.rules.specs.Sets.{memberOf}
-use Rattle.interpreter.specs.SetClaim.{SetLent}
 use Rattle.parts.specs.Parts.{Replaced}
 use Rattle.sets.specs.Tables.{tablesIn}
 use Rattle.set_runs.specs.Lent.{flowOf}
@@ -29,7 +28,3 @@ pub record AllLaid (W : List ℤ) (L : List ℕ) (n : ℕ) (S : List ℕ) : Type
   pub long : length S ≡ 16384
   pub flows : (k : ℕ) → k < n → (a : ℕ) → a < sectionsOf (memberOf (tablesIn W L) k) .statements
       → entriesAt (flowOf S k) a ≡ getD (tableFlow (memberOf (tablesIn W L) k) (sectionsOf (memberOf (tablesIn W L) k))) a (successors 0 0 0)
-
--- What is lent, with the tables by their numbers.
-abbrev pub lentSet : List ℤ → List ℕ → List ℕ → List ℕ → List ℕ → List ℕ → SetLent
-lentSet W L D cs vs os = record { tables = tablesIn W L; directory = D; cells = cs; values = vs; origins = os }

@@ -1,61 +1,51 @@
 -- Laws of a level of the interpreter of a set: how it begins, what its stretches ask and leave, a call, a return.
-use Prim.Native.Nat.{ℕ, zero, suc, _+_, _-_, _*_, _^_, _≤_, _<_}
+use Prim.Native.Nat.{ℕ, _+_, _-_, _*_, _^_, _≤_, _<_}
 use mathlib.Core.Path.{_≡_, refl, sym, ap, ap₂, subst, _∙_}
-use mathlib.Core.Logic.{_⊎_, inl, inr, ⊎-elim}
-use mathlib.Core.Bool.{Bool, true, false, _&&_, cond}
-use mathlib.Core.List.{List, [], _∷_, _++_, append-assoc}
-use native.Mathlib.Numerals.{add-one}
+use mathlib.Core.Logic.{_⊎_, ⊎-elim}
+use mathlib.Core.Bool.{Bool, true, false, cond}
+use mathlib.Core.List.{List, []}
 use native.Mathlib.Omega.{arith}
 use borrow.Author.Tests.{lt-ltb, ltb-true, ltb-false, leb-true}
 use lib.Dec.{leb, ltb}
 use lib.IntN.{ℤ}
-use lib.ListN.{length, getD, set, take, drop, length-take, length-drop, List·getD-eq-default}
-use lib.Seq.{ext-getD, getD-take, getD-drop}
-use Rattle.arrays.specs.Tabulate.{tabulate}
-use Rattle.arrays.specs.TabulateLaws.{getD-tabulate, length-tabulate}
+use lib.ListN.{length, getD, drop, length-take, length-drop}
 use Rattle.words.specs.SectionsLaws.{both, limits}
 use Rattle.words.specs.Sections.{Limits, inLimits, statementStart}
 use Rattle.words.specs.declared.sections.Sections.{Sections}
 use Rattle.statements.specs.Statements.{statementAt}
-use Rattle.statements.specs.Decode.{decodeStart, decodedAt}
+use Rattle.statements.specs.Decode.{decodedAt}
 use Rattle.statements.specs.DecodeLaws.{read-decoded}
 use Rattle.statements.specs.declared.CallSite.{CallSite}
-use Rattle.statements.specs.declared.Statement.{Statement}
 use Rattle.statements.specs.declared.Statement.the-variants.{Call}
 use Rattle.statements.specs.declared.StatementRead.the-variants.{Read}
 use Rattle.table.specs.Form as form
 use Rattle.table.specs.FormLaws.{formed-head, head-limits}
-use Rattle.blocks.specs.Shape.{entriesAt}
-use Rattle.rules.specs.BoundsRules.{ownRows}
-use Rattle.rules.specs.Calls.{Routine, routineAt, argument}
-use Rattle.rules.specs.Sets.{memberOf, routineOf, routinesOf, countRight, AllAccepted}
-use Rattle.rules.specs.SetLaws.{length-routines, routine-at, member-formed}
+use Rattle.rules.specs.Calls.{Routine, routineAt}
+use Rattle.rules.specs.Sets.{memberOf, routineOf, routinesOf, countRight}
+use Rattle.rules.specs.SetLaws.{routine-at, member-formed}
 use Rattle.rules.specs.Verdict as verdict
 use Rattle.rules.specs.declared.Environment.{Environment}
-use Rattle.machine.specs.Machine.{value, Status, going, stopped, stuck, Point, successorsOf}
-use Rattle.machine.specs.SetMachine.{Frame, Stack, stack, settled, stackAfter, lastValues, tableOf, sectionsOf, environmentOf, waiting, begun, resumed, resultOf}
-use Rattle.machine.specs.SetSound.{SetSetting, StackInvariant, resume-kept, caller-waits, calls}
+use Rattle.machine.specs.Machine.{Status, going, stopped, stuck, Point}
+use Rattle.machine.specs.SetMachine.{Frame, stack, settled, stackAfter, tableOf, sectionsOf, environmentOf}
+use Rattle.machine.specs.SetSound.{StackInvariant}
 use Rattle.answers.specs.declared.stops.Outcome.{Outcome}
 use Rattle.answers.specs.declared.stops.Outcome.the-variants.{Done, Spent, Stopped}
 use Rattle.checks.specs.Checked.{checkOf, sizeIn}
 use Rattle.steps.specs.Bare.{Prepared}
 use Rattle.entry.specs.Ends.{endsOf}
-use Rattle.interpreter.specs.BareRun.{Result, bareRun, SafeRun, Ends}
+use Rattle.interpreter.specs.BareRun.{Result, bareRun}
 use Rattle.interpreter.specs.EndsLaws.{ends-long, ends-small, ends-sizes}
 use Rattle.interpreter.specs.Outcomes.{outcomeShown}
-use Rattle.interpreter.specs.StartLaws.{first-due}
-use Rattle.parts.specs.Parts.{window, Replaced}
+use Rattle.parts.specs.Parts.{window}
 use Rattle.sets.specs.Tables.{tablesIn}
 use Rattle.sets.specs.TableLaws.{length-tables}
-use Rattle.set_runs.specs.Lent.{readIn, sectionsIn, roomOf, flowOf, siteOf, calledValues, halts, pauseOf}
+use Rattle.set_runs.specs.Lent.{readIn, sectionsIn, roomOf, flowOf, siteOf, halts, pauseOf}
 use Rattle.set_runs.specs.LentLaws.{decoded-same, ends-same, sections-are, words-are, statements-inside}
-use Rattle.set_runs.specs.Levels.{Stands, Begins, final, HasReturned, HasHalted, Leaves, Callable, MayRun, RanOn, Called, MayCall, LevelLeaves, Along}
-use Rattle.set_runs.specs.StackLaws.{later, stays, settled-due, settled-stopped, settled-ended, next-call, rests-stopped}
-use Rattle.set_runs.specs.StretchLaws.{sound-here, Stretch, stretch, stretch-safe}
-use Rattle.set_runs.specs.declared.SetOutcome.{SetOutcome}
+use Rattle.set_runs.specs.Levels.{final, HasReturned, HasHalted, Leaves, Callable, MayRun, RanOn, Along}
+use Rattle.set_runs.specs.StackLaws.{later, stays, settled-due, settled-stopped, rests-stopped}
+use Rattle.set_runs.specs.StretchLaws.{sound-here, stretch, stretch-safe}
 use Rattle.set_runs.specs.declared.Level.{Level}
 use Rattle.set_runs.specs.declared.Level.the-variants.{Returns, Halts}
-use Rattle.set_runs.specs.declared.levels.Pause.{Pause}
 use Rattle.set_runs.specs.declared.levels.Pause.the-variants as pause
 
 never : {A : Type 0} → _≡_ {A = ℕ} 0 1 → A
@@ -87,7 +77,11 @@ module _ {W : List ℤ} {L D S : List ℕ} {room : ℕ} (C : Callable W L D S ro
 
   pub few : n < 8
   unfolding countRight
-  few = omega (arith, leb-true (length (tablesIn W L)) 8 (both (leb 1 (length (tablesIn W L))) (leb (length (tablesIn W L)) 8) (C .accepted .count) .1), in-tables)
+  few = omega (
+    arith,
+    leb-true (length (tablesIn W L)) 8 (both (leb 1 (length (tablesIn W L))) (leb (length (tablesIn W L)) 8) (C .accepted .count) .1),
+    in-tables,
+  )
 
   pub sections-here : sectionsIn W L n ≡ h
   sections-here = sections-are W L (C .accepted) n known ∙ sym (ap (λ (r : Routine). r .sections) routine-is)
@@ -132,7 +126,8 @@ module _ {W : List ℤ} {L D S : List ℕ} {room : ℕ} (C : Callable W L D S ro
         subst (λ (k : Sections). statementStart k (k .statements) ≤ length X) sections-here (statements-inside W L (C .accepted) n known) in
         let l : length (endsOf E (A .point .rows)) ≡ 512 = ends-long E (A .point .rows) in
         let small : (i : ℕ) → getD (endsOf E (A .point .rows)) i 0 < 2 ^ 34 =
-        subst (λ (F : Environment). (i : ℕ) → getD (endsOf F (A .point .rows)) i 0 < 2 ^ 34) (sym environment-is) (ends-small M h limits-here (A .point .rows)) in
+        subst (λ (F : Environment). (i : ℕ) → getD (endsOf F (A .point .rows)) i 0 < 2 ^ 34) (sym environment-is)
+        (ends-small M h limits-here (A .point .rows)) in
         let sizes : (p : ℕ) → sizeIn (endsOf E (A .point .rows)) p ≤ 8 =
         subst (λ (F : Environment). (p : ℕ) → sizeIn (endsOf F (A .point .rows)) p ≤ 8) (sym environment-is) (ends-sizes M h (A .point .rows)) in
         rw e (record {
@@ -164,7 +159,7 @@ module _ {W : List ℤ} {L D S : List ℕ} {room : ℕ} (C : Callable W L D S ro
   pub record Paused (limit : ℕ) (gs : List Frame) (P : Point) (o : Outcome) (ends vs cs : List ℕ) : Type 0 where
     pub point : Point
     pub origins : (p : ℕ) → getD (point .origins) p 0 ≤ h .objects
-    pub invariant : StackInvariant rs D room (stack gs n point)
+    pub invariant : StackInvariant rs D room [] (stack gs n point)
     pub outcome : o ≡ outcomeShown h (point .status) (point .steps) (point .due)
     pub numbered : (k : ℕ) → point .status ≡ stopped k → (1 ≤ k) × (k ≤ 6)
     pub in-force : roomOf ends n ≡ endsOf E (point .rows)
@@ -208,7 +203,8 @@ module _ {W : List ℤ} {L D S : List ℕ} {room : ℕ} (C : Callable W L D S ro
       }
 
   pub paused-later : {limit at steps : ℕ} {gs : List Frame} {P : Point} {ends vs cs : List ℕ} {o : Outcome} {ends′ vs′ cs′ : List ℕ}
-      (A : Along W L D S n room limit gs P at steps ends vs cs) (r : RanOn W L D S n limit at steps ends vs cs o ends′ vs′ cs′) → steps ≤ paused A r .point .steps
+      (A : Along W L D S n room limit gs P at steps ends vs cs) (r : RanOn W L D S n limit at steps ends vs cs o ends′ vs′ cs′)
+      → steps ≤ paused A r .point .steps
   unfolding paused
   paused-later {limit} {at} {steps} {gs} {P} {ends} A r =
       let s = stretch rs D room (C .setting) n X (flowOf S n) decodes (C .flows n known) (limit - steps) gs (roomOf ends n) (A .point) (A .stands)
@@ -222,7 +218,8 @@ module _ {W : List ℤ} {L D S : List ℕ} {room : ℕ} (C : Callable W L D S ro
 
     -- ---- the level ends
 
-    halted : final rs D room limit gs n Q ≡ stack gs n Q → HasHalted rs D room limit gs n P (record { outcome = outcomeShown h (Q .status) (Q .steps) (Q .due); routine = n }) vs cs
+    halted : final rs D room limit gs n Q ≡ stack gs n Q
+        → HasHalted rs D room limit gs n P (record { outcome = outcomeShown h (Q .status) (Q .steps) (Q .due); routine = n }) vs cs
     halted e = record { above = []; point = Q; state = q .ahead ∙ e; outcome = refl; numbered = q .numbered; values = q .values; cells = q .cells }
 
     returned : Q .status ≡ going → h .statements ≤ Q .due → HasReturned rs D room limit gs n P (Q .steps) vs cs

@@ -1,42 +1,38 @@
 -- The run of an accepted set from the level of its last routine: it ends where the machine of the set ends.
-use Prim.Native.Nat.{ℕ, _+_, _-_, _*_, _≤_, _<_}
+use Prim.Native.Nat.{ℕ, _-_, _≤_, _<_}
 use mathlib.Core.Path.{_≡_, refl, sym, ap, ap₂, subst, _∙_}
 use mathlib.Core.Bool.{Bool, cond}
-use mathlib.Core.List.{List, [], _∷_, _++_, append-nil}
+use mathlib.Core.List.{List, [], _∷_, append-nil}
 use native.Mathlib.Omega.{arith}
 use borrow.Author.Tests.{le-ltb}
-use lib.Dec.{ltb}
 use lib.IntN.{ℤ}
 use lib.ListN.{length, getD, take, length-take}
 use Rattle.sums.specs.Numbers.{maxValue}
-use Rattle.answers.specs.Answers.{Answer, reads}
+use Rattle.answers.specs.Answers.{reads}
 use Rattle.answers.specs.Answers as says
 use Rattle.answers.specs.declared.refusals.Refusal.{Refusal}
-use Rattle.answers.specs.declared.stops.Outcome.{Outcome}
 use Rattle.answers.specs.declared.stops.Outcome.the-variants.{Done, Refused}
-use Rattle.words.specs.declared.sections.Sections.{Sections}
 use Rattle.blocks.specs.Flow.{successors, tableFlow}
 use Rattle.blocks.specs.Shape.{entriesAt}
 use Rattle.rules.specs.Calls.{Routine, routineAt}
-use Rattle.rules.specs.Sets.{memberOf, routineOf, routinesOf, AllAccepted}
+use Rattle.rules.specs.Sets.{routinesOf, AllAccepted}
 use Rattle.rules.specs.SetLaws.{length-routines, routine-at}
-use Rattle.machine.specs.Machine.{Status, going, Point, start}
+use Rattle.machine.specs.Machine.{Status, Point, start}
 use Rattle.machine.specs.SetMachine.{Frame, Stack, stack, startStack, stackAfter, lastValues, tableOf, sectionsOf, environmentOf}
 use Rattle.machine.specs.SetRun.{set-setting, start-invariant}
 use Rattle.entry.specs.Entered.{entered}
 use Rattle.entry.specs.declared.EntryVerdict.{EntryVerdict}
 use Rattle.entry.specs.declared.EntryVerdict.the-variants as entry
-use Rattle.interpreter.specs.Claim.{answerOf}
-use Rattle.interpreter.specs.ClaimLaws.{entered-none}
-use Rattle.interpreter.specs.PointLaws.{reads-shown}
-use Rattle.interpreter.specs.SetClaim.{SetLent, SetLeaves, SetNotBegun, lastNumber, entryFaults, stateOf, answerAt, EndsAt, Ran}
-use Rattle.interpreter.specs.SetPointLaws.{begun, ends-ran}
+use Rattle.interpreter.specs.AnswerLaws.{reads-shown}
+use Rattle.interpreter.specs.AloneLaws.{lends}
+use Rattle.interpreter.specs.Claim.{Lent, answerOf, lastNumber, entryFaults, stateOf, EndsAt}
+use Rattle.interpreter.specs.SetBegunLaws.{begun, ends-ran}
 use Rattle.interpreter.specs.StartLaws.{admitted, origin-inside, first-due}
 use Rattle.sets.specs.Tables.{tablesIn}
 use Rattle.sets.specs.TableLaws.{length-tables}
-use Rattle.set_runs.specs.Levels.{Stands, Begins, final, HasReturned, HasHalted, Leaves, Callable, MayCall, LevelLeaves}
+use Rattle.set_runs.specs.Levels.{Begins, final, HasReturned, HasHalted, Leaves, Callable, MayCall, LevelLeaves}
 use Rattle.set_runs.specs.Lent.{flowOf}
-use Rattle.set_runs.specs.Prepared.{AllLaid, lentSet}
+use Rattle.set_runs.specs.Prepared.{AllLaid}
 use Rattle.set_runs.specs.PrepareLaws.{some-lengths, few-lengths}
 use Rattle.set_runs.specs.SetRuns.{leaves, outcomeOf, RunsAccepted}
 use Rattle.set_runs.specs.StackLaws.{stays, settled-alone, rests-ended}
@@ -47,10 +43,10 @@ use Rattle.set_runs.specs.declared.Level.the-variants.{Returns, Halts}
 never : {A : Type 0} → _≡_ {A = ℕ} 0 1 → A
 never z = absurd (omega arith)
 
-module _ (W : List ℤ) (L D cs vs os : List ℕ) (accepted : AllAccepted (tablesIn W L)) (none : entryFaults (lentSet W L D cs vs os) ≡ [])
+module _ (W : List ℤ) (L D cs vs os : List ℕ) (accepted : AllAccepted (tablesIn W L)) (none : entryFaults (tablesIn W L) (lends D cs vs os) ≡ [])
     (small-values : (x : ℕ) → getD vs x 0 ≤ maxValue) (small-cells : (i : ℕ) → getD cs i 0 ≤ maxValue) where
-  abbrev l : SetLent
-  l = lentSet W L D cs vs os
+  abbrev l : Lent
+  l = lends D cs vs os
 
   abbrev Ts : List (List ℤ)
   Ts = tablesIn W L
@@ -70,10 +66,11 @@ module _ (W : List ℤ) (L D cs vs os : List ℕ) (accepted : AllAccepted (table
   callable : {S : List ℕ} → AllLaid W L (length L) S → Callable W L D S (length cs)
   callable {S} a = record {
     accepted = accepted;
-    setting = set-setting Ts accepted D cs vs os (begun l accepted none small-values small-cells);
+    setting = set-setting Ts accepted D cs vs os (begun Ts l accepted none small-values small-cells);
     flow-long = a .long;
     flows = λ k m.
-        subst (λ (r : Routine). (i : ℕ) → i < r .sections .statements → entriesAt (flowOf S k) i ≡ getD (tableFlow (r .table) (r .sections)) i (successors 0 0 0))
+        subst (λ (r : Routine). (i : ℕ) → i < r .sections .statements
+        → entriesAt (flowOf S k) i ≡ getD (tableFlow (r .table) (r .sections)) i (successors 0 0 0))
         (sym (routine-at Ts k (omega (arith, m, length-tables W L)))) (a .flows k m);
   }
 
@@ -83,7 +80,7 @@ module _ (W : List ℤ) (L D cs vs os : List ℕ) (accepted : AllAccepted (table
     stands = record {
       goes = refl;
       origins = origin-inside (sectionsOf rs D n) (environmentOf rs D n) D cs vs os (admitted (sectionsOf rs D n) (environmentOf rs D n) D cs vs os none);
-      invariant = start-invariant Ts accepted D cs vs os (begun l accepted none small-values small-cells);
+      invariant = start-invariant Ts accepted D cs vs os (begun Ts l accepted none small-values small-cells);
     };
     due = sym (first-due (tableOf rs D n) (sectionsOf rs D n));
     rows = refl;
@@ -108,16 +105,16 @@ module _ (W : List ℤ) (L D cs vs os : List ℕ) (accepted : AllAccepted (table
 
   -- ---- where the run ends
 
-  state-is : (limit : ℕ) → final rs D (length cs) limit [] n first ≡ stateOf l limit
+  state-is : (limit : ℕ) → final rs D (length cs) limit [] n first ≡ stateOf Ts l limit
   unfolding start startStack
   state-is limit =
       let z : limit - 0 ≡ limit = omega arith in
       ap₂ (λ (t : ℕ) (K : Stack). stackAfter rs D t K) z (settled-alone rs D n first)
 
   module _ (limit : ℕ) where
-    ends-at : (K : Stack) (o : SetOutcome) (us ds : List ℕ) → stateOf l limit ≡ K
+    ends-at : (K : Stack) (o : SetOutcome) (us ds : List ℕ) → stateOf Ts l limit ≡ K
         → reads (o .outcome) ≡ answerOf (routineAt rs (K .routine) .sections) (K .point .status) (K .point .steps) (K .point .due) → o .routine ≡ K .routine
-        → us ≡ lastValues rs D (K .callers) (K .point .values) → ds ≡ K .point .cells → EndsAt l limit (leaves o us ds)
+        → us ≡ lastValues rs D (K .callers) (K .point .values) → ds ≡ K .point .cells → EndsAt Ts l limit (leaves o us ds)
     ends-at K o us ds e a r v c = record {
       answer = a ∙ ap (λ (X : Stack). answerOf (routineAt rs (X .routine) .sections) (X .point .status) (X .point .steps) (X .point .due)) (sym e);
       routine = r ∙ ap (λ (X : Stack). X .routine) (sym e);
@@ -125,10 +122,11 @@ module _ (W : List ℤ) (L D cs vs os : List ℕ) (accepted : AllAccepted (table
       cells = c ∙ ap (λ (X : Stack). X .point .cells) (sym e);
     }
 
-    returned : (s : ℕ) (us ds : List ℕ) → HasReturned rs D (length cs) limit [] n first s us ds → EndsAt l limit (leaves (record { outcome = Done s; routine = n }) us ds)
+    returned : (s : ℕ) (us ds : List ℕ) → HasReturned rs D (length cs) limit [] n first s us ds
+        → EndsAt Ts l limit (leaves (record { outcome = Done s; routine = n }) us ds)
     returned s us ds y =
         let Q = y .point in
-        let e : stateOf l limit ≡ stack [] n Q =
+        let e : stateOf Ts l limit ≡ stack [] n Q =
         sym (state-is limit) ∙ (y .ahead ∙ (ap (stackAfter rs D (limit - Q .steps)) (settled-alone rs D n Q)
         ∙ stays rs D (stack [] n Q) (rests-ended rs D [] n Q (y .ended)) (limit - Q .steps))) in
         let a : answerOf (sectionsOf rs D n) (Q .status) (Q .steps) (Q .due) ≡ says.done s =
@@ -137,39 +135,40 @@ module _ (W : List ℤ) (L D cs vs os : List ℕ) (accepted : AllAccepted (table
         ∙ ap says.done (y .steps)) in
         ends-at (stack [] n Q) (record { outcome = Done s; routine = n }) us ds e (sym a) refl (sym (y .values)) (sym (y .cells))
 
-    halted : (o : SetOutcome) (us ds : List ℕ) → HasHalted rs D (length cs) limit [] n first o us ds → EndsAt l limit (leaves o us ds)
+    halted : (o : SetOutcome) (us ds : List ℕ) → HasHalted rs D (length cs) limit [] n first o us ds → EndsAt Ts l limit (leaves o us ds)
     halted o us ds y =
-        let e : stateOf l limit ≡ stack (y .above) (o .routine) (y .point) =
+        let e : stateOf Ts l limit ≡ stack (y .above) (o .routine) (y .point) =
         sym (state-is limit) ∙ (y .state ∙ ap (λ (fs : List Frame). stack fs (o .routine) (y .point)) (append-nil (y .above))) in
         ends-at (stack (y .above) (o .routine) (y .point)) o us ds e
         (ap reads (y .outcome) ∙ reads-shown (sectionsOf rs D (o .routine)) (y .point .status) (y .point .steps) (y .point .due) (y .numbered))
         refl (y .values) (y .cells)
 
-    level-ends : (level : Level) (us ds : List ℕ) → Leaves rs D (length cs) limit [] n first level us ds → EndsAt l limit (leaves (outcomeOf n level) us ds)
+    level-ends : (level : Level) (us ds : List ℕ) → Leaves rs D (length cs) limit [] n first level us ds → EndsAt Ts l limit (leaves (outcomeOf n level) us ds)
     level-ends (Returns s) us ds y = returned s us ds y
     level-ends (Halts o) us ds y = halted o us ds y
 
     -- What the level of the last routine leaves is the claim.
     pub run-claim : {k : ℕ} (S : List ℕ) {us ds : List ℕ} (level : Level) → k ≡ length L - 1 → LevelLeaves W L D S k limit 0 vs cs level us ds
-        → RunsAccepted l limit (leaves (outcomeOf k level) us ds)
+        → RunsAccepted Ts l limit (leaves (outcomeOf k level) us ds)
     run-claim {k} S {us} {ds} level e f =
         let q : k ≡ n = omega (arith, e, last-is) in
         record {
           not-entered = λ x xs y. let z : [] ≡ x ∷ xs = sym none ∙ y in let o : _≡_ {A = ℕ} 0 1 = cc in never o;
-          ran = λ z. ends-ran l accepted none small-values small-cells limit (leaves (outcomeOf k level) us ds)
-              (subst (λ (i : ℕ). EndsAt l limit (leaves (outcomeOf i level) us ds)) (sym q)
+          ran = λ z. ends-ran Ts l accepted none small-values small-cells limit (leaves (outcomeOf k level) us ds)
+              (subst (λ (i : ℕ). EndsAt Ts l limit (leaves (outcomeOf i level) us ds)) (sym q)
               (level-ends level us ds ((rw q at f) [] first begins)));
         }
 
 -- ---- the entry refuses
 
-pub entry-refuses : (l : SetLent) (limit n : ℕ) {v : EntryVerdict} {r : Refusal} → n ≡ lastNumber l → v ≡ entered (entryFaults l) → v ≡ entry.Refused r
-    → RunsAccepted l limit (leaves (record { outcome = Refused r; routine = n }) (l .values) (l .cells))
+pub entry-refuses : (Ts : List (List ℤ)) (l : Lent) (limit n : ℕ) {v : EntryVerdict} {r : Refusal} → n ≡ lastNumber Ts → v ≡ entered (entryFaults Ts l)
+    → v ≡ entry.Refused r
+    → RunsAccepted Ts l limit (leaves (record { outcome = Refused r; routine = n }) (l .values) (l .cells))
 unfolding entered
-entry-refuses l limit n {v} {r} e f g = go (entryFaults l) refl (sym f ∙ g)
+entry-refuses Ts l limit n {v} {r} e f g = go (entryFaults Ts l) refl (sym f ∙ g)
   where
-    go : (fs : List Refusal) → entryFaults l ≡ fs → entered fs ≡ entry.Refused r
-        → RunsAccepted l limit (leaves (record { outcome = Refused r; routine = n }) (l .values) (l .cells))
+    go : (fs : List Refusal) → entryFaults Ts l ≡ fs → entered fs ≡ entry.Refused r
+        → RunsAccepted Ts l limit (leaves (record { outcome = Refused r; routine = n }) (l .values) (l .cells))
     go [] q z = let o : _≡_ {A = ℕ} 0 1 = cc in never o
     go (x ∷ xs) q z = let same : x ≡ r = cc in record {
       not-entered = λ f fs w.

@@ -21,20 +21,21 @@ use Rattle.statements.specs.Decode.{decodedAt}
 use Rattle.statements.specs.DecodeLaws.{read-decoded}
 use Rattle.blocks.specs.Flow.{Successors}
 use Rattle.blocks.specs.Shape.{entriesAt}
-use Rattle.rules.specs.Calls.{Routine, routineAt}
+use Rattle.rules.specs.Calls.{Routine}
 use Rattle.rules.specs.Sets.{before}
 use Rattle.rules.specs.declared.Environment.{Environment}
-use Rattle.machine.specs.Machine.{high, Status, going, stopped, stuck, Point, successorsOf, statementStep, nextPoint, pointAfter}
+use Rattle.machine.specs.Machine.{high, Status, going, stopped, stuck, Point, successorsOf, statementStep, nextPoint}
+use Rattle.machine.specs.AlonePoints.{pointAfter}
 use Rattle.machine.specs.Soundness.{Sound}
 use Rattle.machine.specs.RunSound.{Invariant}
-use Rattle.machine.specs.SetMachine.{Frame, Stack, stack, settled, stackAfter, tableOf, sectionsOf, environmentOf}
+use Rattle.machine.specs.SetMachine.{Frame, stack, settled, stackAfter, tableOf, sectionsOf, environmentOf}
 use Rattle.machine.specs.SetSound.{SetSetting, StackInvariant, next-kept, stack-sound}
-use Rattle.steps.specs.Bare.{Move, move, statementMove, bareMove, Inside, Ready}
+use Rattle.steps.specs.Bare.{Move, statementMove, bareMove, Inside, Ready}
 use Rattle.entry.specs.Ends.{endsOf}
 use Rattle.answers.specs.declared.stops.Outcome.the-variants.{Done, Stopped}
 use Rattle.checks.specs.Checked.{checkOf}
 use Rattle.interpreter.specs.BareRun.{Result, result, follow, bareRun, Onward, SafeRun}
-use Rattle.interpreter.specs.Agreement.{stepShown, moveShown, resultShown}
+use Rattle.interpreter.specs.Agreement.{stepShown, resultShown}
 use Rattle.interpreter.specs.AgreementLaws.{Stepped, stepped, inside, if-true, spent-or-done, shown-going, shown-stopped}
 use Rattle.interpreter.specs.NumberLaws.{stopped-number}
 use Rattle.interpreter.specs.StepLaws.{next-going}
@@ -59,7 +60,7 @@ other-read x t e k c q = k c (inner t (Call c) (sym e ∙ q))
     inner : (x y : Statement) → Read x ≡ Read y → x ≡ y
     inner x y e = cc
 
-module _ (rs : List Routine) (D : List ℕ) (room : ℕ) (S : SetSetting rs D room) where
+module _ (rs : List Routine) (D : List ℕ) (room : ℕ) (S : SetSetting rs D room []) where
   abbrev T : ℕ → List ℤ
   T n = tableOf rs D n
 
@@ -76,7 +77,7 @@ module _ (rs : List Routine) (D : List ℕ) (room : ℕ) (S : SetSetting rs D ro
     known = A .invariant .known
 
     pub sound-here : Sound (T n) (h n) (E n) D room [] P
-    sound-here = stack-sound rs D room S (stack gs n P) (A .invariant) .running
+    sound-here = stack-sound rs D room [] S (stack gs n P) (A .invariant) .running
 
     pub reads-here : (a : ℕ) → a < h n .statements → (s : Statement) × (statementAt (T n) (h n) a ≡ Read s)
     reads-here a l = S .formed n known .formed .statements a l
@@ -111,7 +112,7 @@ module _ (rs : List Routine) (D : List ℕ) (room : ℕ) (S : SetSetting rs D ro
       -- Where the statement is no call.
       module _ (other : (c : CallSite) → statementAt (T n) (h n) (P .due) ≡ Read (Call c) → ⊥) where
         kept : Invariant (T n) (h n) (E n) D room [] (after P)
-        kept = next-kept (T n) (h n) (E n) D room (S .setting n (A .invariant .known)) (before n rs) (S .walked n (A .invariant .known)) P
+        kept = next-kept (T n) (h n) (E n) D room (S .setting n (A .invariant .known)) [] (before n rs) (S .walked n (A .invariant .known)) P
             (A .invariant .running) other (P .status)
 
         free : statementStep (E n) D (Read s) next P .status ≡ stuck → ⊥
@@ -147,7 +148,7 @@ module _ (rs : List Routine) (D : List ℕ) (room : ℕ) (S : SetSetting rs D ro
       pub point : Point
       pub left : ℕ
       pub origins : (p : ℕ) → getD (point .origins) p 0 ≤ h n .objects
-      pub invariant : StackInvariant rs D room (stack gs n point)
+      pub invariant : StackInvariant rs D room [] (stack gs n point)
       pub shown : o ≡ resultShown (E n) (h n) point
       pub numbered : (k : ℕ) → point .status ≡ stopped k → (1 ≤ k) × (k ≤ 6)
       pub less : left ≤ l
@@ -177,14 +178,16 @@ module _ (rs : List Routine) (D : List ℕ) (room : ℕ) (S : SetSetting rs D ro
     goesOn l P m =
         follow (m .said) (λ b. bareRun X (h n) (m .ends) D F l (P .steps + 1) b (m .values) (m .cells)) (P .steps) (P .due) (m .ends) (m .values) (m .cells)
 
-    module _ (l : ℕ) (gs : List Frame) (W : List ℕ) (P : Point) (A : Stands rs D room gs n P) (ends : W ≡ endsOf (E n) (P .rows)) (due : P .due < h n .statements)
+    module _ (l : ℕ) (gs : List Frame) (W : List ℕ) (P : Point) (A : Stands rs D room gs n P) (ends : W ≡ endsOf (E n) (P .rows))
+        (due : P .due < h n .statements)
         (s : Statement) (read : statementAt (T n) (h n) (P .due) ≡ Read s) where
       -- A call is due.
       call-here : (c : CallSite) → s ≡ Call c → Stretch (suc l) gs P (goesOn l P (bareMove X (h n) W D F (P .due) (P .values) (P .cells)))
       unfolding statementMove
       call-here c e =
           stays-here (suc l) gs P _ A
-          (ap (goesOn l P) (move-is gs W P A ends due s read ∙ ap (λ (x : Statement). statementMove W D x (P .due) (entriesAt F (P .due)) (P .values) (P .cells)) e)
+          (ap (goesOn l P) (move-is gs W P A ends due s read
+          ∙ ap (λ (x : Statement). statementMove W D x (P .due) (entriesAt F (P .due)) (P .values) (P .cells)) e)
           ∙ rw ends (shown-going X (h n) (E n) D F P true (A .goes) (lt-ltb _ _ due)))
           (λ d. inr (c, read ∙ ap Read e))
 
@@ -215,7 +218,8 @@ module _ (rs : List Routine) (D : List ℕ) (room : ℕ) (S : SetSetting rs D ro
             }
 
         -- or a check stops it.
-        stops-here : (k : ℕ) → Q .status ≡ stopped k → Stretch (suc l) gs P (result (Stopped (P .steps + 1) (checkOf k (Q .due))) (endsOf (E n) (Q .rows)) (Q .values) (Q .cells))
+        stops-here : (k : ℕ) → Q .status ≡ stopped k
+            → Stretch (suc l) gs P (result (Stopped (P .steps + 1) (checkOf k (Q .due))) (endsOf (E n) (Q .rows)) (Q .values) (Q .cells))
         unfolding pointAfter
         stops-here k g = record {
           point = Q;
@@ -238,7 +242,8 @@ module _ (rs : List Routine) (D : List ℕ) (room : ℕ) (S : SetSetting rs D ro
         by-status stuck g = absurd (kept gs W P A ends due s read other .has-step g)
 
         step-here : Stretch (suc l) gs P (goesOn l P (bareMove X (h n) W D F (P .due) (P .values) (P .cells)))
-        step-here = subst (λ (m : Move). Stretch (suc l) gs P (goesOn l P m)) (sym (step-stepped gs W P A ends due s read other .same)) (by-status (Q .status) refl)
+        step-here = subst (λ (m : Move). Stretch (suc l) gs P (goesOn l P m)) (sym (step-stepped gs W P A ends due s read other .same))
+            (by-status (Q .status) refl)
 
     -- The run without origins of at most l steps from P agrees with the machine of the set.
     pub stretch : (l : ℕ) (gs : List Frame) (W : List ℕ) (P : Point) → Stands rs D room gs n P → W ≡ endsOf (E n) (P .rows)
@@ -260,7 +265,8 @@ module _ (rs : List Routine) (D : List ℕ) (room : ℕ) (S : SetSetting rs D ro
         by-due : (b : Bool) → ltb (P .due) (h n .statements) ≡ b
             → ((Q : Point) → Stands rs D room gs n Q
             → Stretch l gs Q (bareRun X (h n) (endsOf (E n) (Q .rows)) D F l (Q .steps) (Q .due) (Q .values) (Q .cells)))
-            → Stretch (suc l) gs P (cond b (goesOn l P (bareMove X (h n) W D F (P .due) (P .values) (P .cells))) (result (Done (P .steps)) W (P .values) (P .cells)))
+            → Stretch (suc l) gs P
+            (cond b (goesOn l P (bareMove X (h n) W D F (P .due) (P .values) (P .cells))) (result (Done (P .steps)) W (P .values) (P .cells)))
         by-due true e rest = let r = reads-here gs n P A (P .due) (ltb-true _ _ e) in by-kind (ltb-true _ _ e) (r .0) (r .1) (kind-of (r .0)) rest
         by-due false e rest = stays-here (suc l) gs P _ A (rw ends (shown-going X (h n) (E n) D F P false (A .goes) e))
             (λ d. absurd (omega (arith, d, ltb-false (P .due) (h n .statements) e)))
@@ -280,7 +286,8 @@ module _ (rs : List Routine) (D : List ℕ) (room : ℕ) (S : SetSetting rs D ro
           inside = step-inside gs W P A ends due s read (other-read _ s read k);
         }
 
-    module _ (l : ℕ) (gs : List Frame) (W : List ℕ) (P : Point) (A : Stands rs D room gs n P) (ends : W ≡ endsOf (E n) (P .rows)) (due : P .due < h n .statements)
+    module _ (l : ℕ) (gs : List Frame) (W : List ℕ) (P : Point) (A : Stands rs D room gs n P) (ends : W ≡ endsOf (E n) (P .rows))
+        (due : P .due < h n .statements)
         (s : Statement) (read : statementAt (T n) (h n) (P .due) ≡ Read s) where
       abbrev SafeAfter : Move → Type 0
       SafeAfter m = Onward (m .said) (λ b. SafeRun X (h n) (m .ends) D F l b (m .values) (m .cells))
@@ -288,7 +295,8 @@ module _ (rs : List Routine) (D : List ℕ) (room : ℕ) (S : SetSetting rs D ro
       safe-call : (c : CallSite) → s ≡ Call c → SafeAfter (bareMove X (h n) W D F (P .due) (P .values) (P .cells))
       unfolding statementMove
       safe-call c e =
-          subst SafeAfter (sym (move-is gs W P A ends due s read ∙ ap (λ (x : Statement). statementMove W D x (P .due) (entriesAt F (P .due)) (P .values) (P .cells)) e)) tt
+          subst SafeAfter (sym (move-is gs W P A ends due s read
+          ∙ ap (λ (x : Statement). statementMove W D x (P .due) (entriesAt F (P .due)) (P .values) (P .cells)) e)) tt
 
       module _ (other : (c : CallSite) → statementAt (T n) (h n) (P .due) ≡ Read (Call c) → ⊥)
           (rest : (Q : Point) → Stands rs D room gs n Q → SafeRun X (h n) (endsOf (E n) (Q .rows)) D F l (Q .due) (Q .values) (Q .cells)) where

@@ -18,7 +18,6 @@ ghost use lib.ListN.{length};
 ghost use Rattle.rules.specs.Sets.{AllAccepted};
 ghost use Rattle.sets.specs.Checked.{memberWords};
 ghost use Rattle.sets.specs.Tables.{tablesIn};
-ghost use Rattle.set_runs.specs.Prepared.{lentSet};
 ghost use Rattle.set_runs.specs.SetRuns.{leaves, outcomeOf, RunsAccepted, roomEnough, SetRunAnswered};
 
 // How a run of a set ends, and in which routine.
@@ -67,8 +66,12 @@ fn run_accepted(
 ) -> SetOutcome
     requires { ⌜ AllAccepted (tablesIn (now tables) (now lengths)) × (memberWords ≤ length (now member)) × (length (now ends) ≡ 4096)
         × (length (now successors) ≡ 16384) ⌝ }
-    ensures { λ r. ⌜ RunsAccepted (lentSet (now (tables .entry)) (now (lengths .entry)) (now (directory .entry)) (now (cells .entry)) (now (values .entry))
-        (now (origins .entry))) limit (leaves r (now (values .exit)) (now (cells .exit))) ⌝ }
+    ensures { λ r. ⌜ RunsAccepted (tablesIn (now (tables .entry)) (now (lengths .entry))) (record {
+      directory = now (directory .entry);
+      cells = now (cells .entry);
+      values = now (values .entry);
+      origins = now (origins .entry);
+    }) limit (leaves r (now (values .exit)) (now (cells .exit))) ⌝ }
 {
     let entry = enter_last(tables, lengths, member, directory, cells, values, origins);
     let last = lengths.len() - 1;
@@ -112,7 +115,12 @@ pub fn run_set(
     successors: &mut [u32],
 ) -> SetRun
     ensures { λ r. ⌜ SetRunAnswered (roomEnough (length (now (member .entry))) (length (now (ends .entry))) (length (now (successors .entry))))
-        (lentSet (now (tables .entry)) (now (lengths .entry)) (now (directory .entry)) (now (cells .entry)) (now (values .entry)) (now (origins .entry)))
+        (tablesIn (now (tables .entry)) (now (lengths .entry))) (record {
+          directory = now (directory .entry);
+          cells = now (cells .entry);
+          values = now (values .entry);
+          origins = now (origins .entry);
+        })
         limit r (now (values .exit)) (now (cells .exit)) ⌝ }
 {
     if ends.len() < 4096 {

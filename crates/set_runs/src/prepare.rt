@@ -11,10 +11,10 @@ ghost use mathlib.Core.Path.{_≡_};
 ghost use lib.ListN.{length};
 ghost use Rattle.rules.specs.Sets.{memberOf, AllAccepted};
 ghost use Rattle.entry.specs.Entered.{entered};
-ghost use Rattle.interpreter.specs.SetClaim.{entryFaults};
+ghost use Rattle.interpreter.specs.Claim.{entryFaults};
 ghost use Rattle.sets.specs.Checked.{memberWords};
 ghost use Rattle.sets.specs.Tables.{tablesIn};
-ghost use Rattle.set_runs.specs.Prepared.{Holds, FlowLaid, AllLaid, lentSet};
+ghost use Rattle.set_runs.specs.Prepared.{Holds, FlowLaid, AllLaid};
 
 // A table, into the room: how many words it has.
 fn copy_table(table: &[i32], member: &mut [i32]) -> usize
@@ -88,8 +88,12 @@ pub(crate) fn enter_last(
     origins: &[u32],
 ) -> EntryVerdict
     requires { ⌜ AllAccepted (tablesIn (now tables) (now lengths)) × (memberWords ≤ length (now member)) ⌝ }
-    ensures { λ r. ⌜ r ≡ entered (entryFaults (lentSet (now (tables .entry)) (now (lengths .entry)) (now (directory .entry)) (now (cells .entry))
-        (now (values .entry)) (now (origins .entry)))) ⌝ }
+    ensures { λ r. ⌜ r ≡ entered (entryFaults (tablesIn (now (tables .entry)) (now (lengths .entry))) (record {
+      directory = now (directory .entry);
+      cells = now (cells .entry);
+      values = now (values .entry);
+      origins = now (origins .entry);
+    })) ⌝ }
 {
     let last = lengths.len() - 1;
     let count = put_member(tables, lengths, last, member);
