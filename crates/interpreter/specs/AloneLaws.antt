@@ -99,7 +99,7 @@ module _ (T : List ℤ) (h : Sections) (L : List ℤ) (formed : formOf T ≡ Wel
   -- What the code answers at a point reads as what the machine shows there.
   pub reads-at : (t : ℕ) → reads (outcomeShown h (pointAlone T h D cs vs os t .status) (pointAlone T h D cs vs os t .steps) (pointAlone T h D cs vs os t .due))
       ≡ answerAlone T h D cs vs os t
-  reads-at t = reads-shown h (pointAlone T h D cs vs os t .status) (pointAlone T h D cs vs os t .steps) (pointAlone T h D cs vs os t .due)
+  reads-at t = reads-shown h (pointAlone T h D cs vs os t .status) (pointAlone T h D cs vs os t .steps) (pointAlone T h D cs vs os t .due) (unstuck t)
       (λ n s. stopped-number T h (environmentOf T h) D t n (start T h (environmentOf T h) D cs vs os) first-going s)
 
   -- The states of the set of one are the points of the routine.

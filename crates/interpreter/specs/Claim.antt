@@ -12,10 +12,10 @@ use lib.IntN.{ℤ}
 use lib.ListN.{length, getD}
 use Rattle.answers.specs.Answers.{Answer, reads}
 use Rattle.answers.specs.Answers as says
-use Rattle.answers.specs.Refusals.{number, place, pointer}
 use Rattle.answers.specs.declared.refusals.Refusal.{Refusal}
 use Rattle.answers.specs.declared.refusals.Refusal.the-variants.{RoutineCount}
 use Rattle.answers.specs.declared.stops.Outcome.{Outcome}
+use Rattle.answers.specs.declared.stops.Outcome.the-variants.{Refused}
 use Rattle.words.specs.declared.sections.Sections.{Sections}
 use Rattle.conditions.specs.declared.Condition.{Condition}
 use Rattle.statements.specs.Statements.{statementAt}
@@ -54,18 +54,19 @@ pub record Leaves : Type 0 where
   pub values : List ℕ
   pub cells : List ℕ
 
--- A refused run, with the refusal f of routine n: its answer reads as that refusal's number, place and pointer; no cell and no value is changed.
+-- A run that the refusal f of routine n refuses answers it (which reads as its number, place and pointer); no cell and no value is changed.
 pub record NotBegun (n : ℕ) (f : Refusal) (l : Lent) (m : Leaves) : Type 0 where
-  pub answer : reads (m .answer) ≡ says.refused (number f) (place f) (pointer f)
+  pub answer : m .answer ≡ Refused f
   pub routine : m .routine ≡ n
   pub values : m .values ≡ l .values
   pub cells : m .cells ≡ l .cells
 
--- How a run ends at a point: "done, spent (the allowance is used and a statement is due) or stopped". (No begun run gets stuck: `has-step`.)
+-- How a run ends at a point: "done, spent (the allowance is used and a statement is due) or stopped". (No begun run gets stuck: `has-step`; it would not be
+-- done, but stopped by a check that there is not.)
 abbrev pub answerOf : Sections → Status → ℕ → ℕ → Answer
 answerOf h going steps due = cond (ltb due (h .statements)) (says.spent steps due) (says.done steps)
 answerOf h (stopped n) steps due = says.stopped steps due n
-answerOf h stuck steps due = says.done steps
+answerOf h stuck steps due = says.stopped steps due 0
 
 -- "A run begins in the last routine".
 abbrev pub lastNumber : List (List ℤ) → ℕ

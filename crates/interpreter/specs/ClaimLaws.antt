@@ -188,7 +188,7 @@ same-run [] [] T L D cs vs os limit r vs′ cs′ s a = a
 same-run [] (g ∷ gs) T L D cs vs os limit r vs′ cs′ s a = absurd s
 same-run (f ∷ fs) [] T L D cs vs os limit r vs′ cs′ s a = absurd s
 same-run (f ∷ fs) (g ∷ gs) T L D cs vs os limit r vs′ cs′ s a =
-    record { answer = a .answer ∙ ap (λ (x : Refusal). reads (outcome.Refused x)) s; routine = a .routine; values = a .values; cells = a .cells }
+    record { answer = a .answer ∙ ap outcome.Refused s; routine = a .routine; values = a .values; cells = a .cells }
 
 pub run-judged : (T L : List ℤ) (D cs vs os : List ℕ) (limit : ℕ) (r : Outcome) (vs′ cs′ : List ℕ)
     → RunAnswer T L (lends D cs vs os) (runFaults T L (lends D cs vs os) store) limit (leaves r vs′ cs′)

@@ -103,7 +103,7 @@ module _ (Ts : List (List ℤ)) (l : Lent) (L : List ℤ) (setting : SetSetting 
   unfolding startStack
   last-known = begins .known
 
-  unstuck : (t : ℕ) → state t .point .status ≢ stuck
+  pub unstuck : (t : ℕ) → stateOf Ts l t .point .status ≢ stuck
   unstuck t = right t .running .has-step
 
   next : (t : ℕ) → state (t + 1) ≡ nextStack rs D (state t)
@@ -168,11 +168,11 @@ module _ (Ts : List (List ℤ)) (l : Lent) (L : List ℤ) (setting : SetSetting 
     where
       by-time : shown limit ≡ says.done (steps (state t)) → due (state t) ≡ true → (t ≡ limit) ⊎ (t < limit) → ⊥
       by-time e d (inl q) =
-          let f = done-steps (h limit) (status (state limit)) (steps (state limit)) (state limit .point .due) (steps (state t)) (unstuck limit) e in
+          let f = done-steps (h limit) (status (state limit)) (steps (state limit)) (state limit .point .due) (steps (state t)) e in
           let x : due (state limit) ≡ true = ap (λ (n : ℕ). due (state n)) (sym q) ∙ d in
           omega (arith, f .0, ltb-true (state limit .point .due) (h limit .statements) x)
       by-time e d (inr q) =
-          let f = done-steps (h limit) (status (state limit)) (steps (state limit)) (state limit .point .due) (steps (state t)) (unstuck limit) e in
+          let f = done-steps (h limit) (status (state limit)) (steps (state limit)) (state limit .point .due) (steps (state t)) e in
           omega (arith, f .1, later limit t q g d)
 
       by-due : shown limit ≡ says.done (steps (state t)) → (b : Bool) → due (state t) ≡ b → h t .statements ≤ state t .point .due
@@ -200,7 +200,7 @@ module _ (Ts : List (List ℤ)) (l : Lent) (L : List ℤ) (setting : SetSetting 
     went-on e s = by-due (due (state (t + 1))) refl
       where
         ends : (status (state limit) ≡ stopped n) × (steps (state limit) ≡ steps (state t) + 1) × (state limit .point .due ≡ a)
-        ends = stopped-steps (h limit) (status (state limit)) (steps (state limit)) (state limit .point .due) (steps (state t) + 1) a n e
+        ends = stopped-steps (h limit) (status (state limit)) (steps (state limit)) (state limit .point .due) (steps (state t) + 1) a n (unstuck limit) e
 
         contrary : status (state limit) ≡ going → ⊥
         contrary x = let q = ends .0 in let z : _≡_ {A = ℕ} 0 1 = cc in omega arith

@@ -1,6 +1,7 @@
 -- A run of an accepted set that the entry does not refuse is begun; so of it, too, it is left to show where it ends.
 use Prim.Native.Nat.{ℕ, _-_, _≤_, _<_}
 use mathlib.Core.Path.{_≡_, sym, ap, _∙_}
+use mathlib.Core.Logic.{_≢_}
 use mathlib.Core.Bool.{true}
 use mathlib.Core.List.{List, []}
 use native.Mathlib.Omega.{arith}
@@ -16,11 +17,12 @@ use Rattle.rules.specs.EnvironmentLaws.{environment-declares}
 use Rattle.rules.specs.Sets.{routinesOf, countRight, AllAccepted}
 use Rattle.rules.specs.SetLaws.{all-formed, length-routines}
 use Rattle.rules.specs.declared.Environment.{Environment}
+use Rattle.machine.specs.Machine.{stuck}
 use Rattle.machine.specs.Soundness.{Begun}
 use Rattle.machine.specs.SetRun.{set-setting, start-invariant}
 use Rattle.interpreter.specs.BegunLaws.{entry-begun}
 use Rattle.interpreter.specs.StartLaws.{admitted}
-use Rattle.interpreter.specs.Claim.{Lent, Leaves, lastNumber, entryFaults, EndsAt, Ran}
+use Rattle.interpreter.specs.Claim.{Lent, Leaves, lastNumber, entryFaults, stateOf, EndsAt, Ran}
 use Rattle.interpreter.specs.PointLaws as points
 
 -- The pointers of the last routine are variables.
@@ -51,6 +53,10 @@ module _ (Ts : List (List ℤ)) (l : Lent) (accepted : AllAccepted Ts) (entered 
       few : (p : ℕ) → isPointer (routineAt (routinesOf Ts) (lastNumber Ts) .environment) p ≡ true
           → p < routineAt (routinesOf Ts) (lastNumber Ts) .sections .variables
       few p e = pointers-below Ts accepted (lastNumber Ts) (last-within Ts accepted) p e
+
+  pub unstuck : (t : ℕ) → stateOf Ts l t .point .status ≢ stuck
+  unstuck = points.unstuck Ts l [] (set-setting Ts accepted D (l .cells) (l .values) (l .origins) begun)
+      (start-invariant Ts accepted D (l .cells) (l .values) (l .origins) begun) (begun .origins)
 
   pub ends-ran : (limit : ℕ) (m : Leaves) → EndsAt Ts l limit m → Ran Ts l [] limit m
   ends-ran limit m x =

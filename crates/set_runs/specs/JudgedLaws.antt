@@ -59,7 +59,7 @@ module _ (Ts : List (List ℤ)) (l : Lent) (limit : ℕ) where
   answered n r = leaves (record { outcome = outcome.Refused r; routine = n }) (l .values) (l .cells)
 
   not-begun : (n m : ℕ) (r s : Refusal) → n ≡ m → r ≡ s → NotBegun m s l (answered n r)
-  not-begun n m r s e f = record { answer = ap (λ (k : Refusal). reads (outcome.Refused k)) f; routine = e; values = refl; cells = refl }
+  not-begun n m r s e f = record { answer = ap outcome.Refused f; routine = e; values = refl; cells = refl }
 
   -- The set is accepted.
   accepted-judged : (m : Leaves) → AllAccepted Ts → RunsAccepted Ts l limit m → SetRunJudged Ts l limit m

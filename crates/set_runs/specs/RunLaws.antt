@@ -26,7 +26,7 @@ use Rattle.entry.specs.declared.EntryVerdict.the-variants as entry
 use Rattle.interpreter.specs.AnswerLaws.{reads-shown}
 use Rattle.interpreter.specs.AloneLaws.{lends}
 use Rattle.interpreter.specs.Claim.{Lent, answerOf, lastNumber, entryFaults, stateOf, EndsAt}
-use Rattle.interpreter.specs.SetBegunLaws.{begun, ends-ran}
+use Rattle.interpreter.specs.SetBegunLaws.{begun, unstuck, ends-ran}
 use Rattle.interpreter.specs.StartLaws.{admitted, origin-inside, first-due}
 use Rattle.sets.specs.Tables.{tablesIn}
 use Rattle.sets.specs.TableLaws.{length-tables}
@@ -140,7 +140,8 @@ module _ (W : List ℤ) (L D cs vs os : List ℕ) (accepted : AllAccepted (table
         let e : stateOf Ts l limit ≡ stack (y .above) (o .routine) (y .point) =
         sym (state-is limit) ∙ (y .state ∙ ap (λ (fs : List Frame). stack fs (o .routine) (y .point)) (append-nil (y .above))) in
         ends-at (stack (y .above) (o .routine) (y .point)) o us ds e
-        (ap reads (y .outcome) ∙ reads-shown (sectionsOf rs D (o .routine)) (y .point .status) (y .point .steps) (y .point .due) (y .numbered))
+        (ap reads (y .outcome) ∙ reads-shown (sectionsOf rs D (o .routine)) (y .point .status) (y .point .steps) (y .point .due)
+        (λ z. unstuck Ts l accepted none small-values small-cells limit (ap (λ (K : Stack). K .point .status) e ∙ z)) (y .numbered))
         refl (y .values) (y .cells)
 
     level-ends : (level : Level) (us ds : List ℕ) → Leaves rs D (length cs) limit [] n first level us ds → EndsAt Ts l limit (leaves (outcomeOf n level) us ds)
@@ -175,7 +176,7 @@ entry-refuses Ts l limit n {v} {r} e f g = go (entryFaults Ts l) refl (sym f ∙
           let u : x ∷ xs ≡ f ∷ fs = sym q ∙ w in
           let i : x ≡ f = cc in
           let j : r ≡ f = sym same ∙ i in
-          record { answer = ap (λ (k : Refusal). reads (Refused k)) j; routine = e; values = refl; cells = refl };
+          record { answer = ap Refused j; routine = e; values = refl; cells = refl };
       ran = λ w. let u : x ∷ xs ≡ [] = sym q ∙ w in let o : _≡_ {A = ℕ} 0 1 = cc in never o;
     }
 
