@@ -44,8 +44,8 @@ fn register_both(tables: &[i32], lengths: &[u32], cells: &mut [u32], values: &mu
             let other_seat = seats[1];
             let outcome = seat.outcome;
             let other_outcome = other_seat.outcome;
-            text::console::write_text(lines::report::entry_line(boat, row, outcome));
-            text::console::write_text(lines::report::entry_line(
+            text::console::show_text(lines::report::entry_line(boat, row, outcome));
+            text::console::show_text(lines::report::entry_line(
                 other_boat,
                 other_row,
                 other_outcome,

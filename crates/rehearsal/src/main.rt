@@ -29,7 +29,7 @@ pub(crate) fn read_routine(name: &[u8], table: &mut [i32]) -> usize
     let mut bytes = io::large_buffer();
     let size = io::read_full(file, &mut bytes);
     libc::close(file);
-    text::console::write_text(lines::verdict_line(files::check_file(&bytes[..size])));
+    text::console::show_text(lines::verdict_line(files::check_file(&bytes[..size])));
     files::encoding::read_words(&bytes[..size], table)
 }
 
@@ -42,11 +42,11 @@ fn register(table: &[i32], cells: &mut [u32], values: &mut [u32], origins: &[u32
     let boat = values[2];
     let listed = [0i32; 0];
     let outcome = interpreter::run(table, &listed, &directory, cells, values, origins, LIMIT);
-    text::console::write_text(lines::report::entry_line(boat, row, outcome));
+    text::console::show_text(lines::report::entry_line(boat, row, outcome));
 }
 
 fn show_first_row(before: u32, after: u32) {
-    text::console::write_text(lines::report::first_row_line(before, after));
+    text::console::show_text(lines::report::first_row_line(before, after));
 }
 
 // The entry table, row by row.
@@ -54,7 +54,7 @@ pub(crate) fn show_rows(cells: &[u32])
     requires { ⌜ 13 ≤ length (now cells) ⌝ }
 {
     for row in 1usize..13 {
-        text::console::write_text(lines::report::row_line(row as u32, cells[row]));
+        text::console::show_text(lines::report::row_line(row as u32, cells[row]));
     }
 }
 
@@ -68,7 +68,7 @@ fn first_club() {
         values[2] = boat;
         register(&table[..count], &mut cells, &mut values, &[1, 0, 0]);
     }
-    text::console::write_text(lines::report::left_line(values[1]));
+    text::console::show_text(lines::report::left_line(values[1]));
     show_first_row(201, cells[OTHER_ROW]);
     io::write_all(STDOUT_FILENO, b"The scorer opens another block.\n");
     let mut next = [NEXT_ROW, ROWS, 105];

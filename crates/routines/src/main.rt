@@ -15,7 +15,7 @@ fn show(letter: u8) {
     let line = lines::verdict_line(files::check_file(&bytes[..size]));
     let head = [b'(', letter, b')', b' '];
     io::write_all(STDOUT_FILENO, &head);
-    text::console::write_text(line);
+    text::console::show_text(line);
 }
 
 fn main() {

@@ -21,5 +21,5 @@ fn main() {
     let size = io::read_full(STDIN_FILENO, &mut bytes);
     skip_rest();
     let line = lines::verdict_line(files::check_file(&bytes[..size]));
-    text::console::write_text(line);
+    text::console::show_text(line);
 }

@@ -1,4 +1,4 @@
--- `text::console::write_text` meets its contract.
+-- `text::console::write_text` meets its contract: the slice is inside the text's bytes.
 use mathlib.Core.Path.{_≡_}
 use native.Mathlib.Omega.{arith}
 use borrow.Author.Needs.{needs}
