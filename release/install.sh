@@ -8,7 +8,7 @@ documents=$prefix/share/doc/mizzengrape
 
 mkdir -p "$prefix/bin" "$prefix/lib/pkgconfig" "$prefix/lib/cmake/mizzengrape" "$prefix/include" "$documents/routines" "$documents/examples" \
     "$documents/editors/vscode" "$prefix/share/man/man1" "$prefix/share/bash-completion/completions" "$prefix/share/mizzengrape/python" \
-    "$prefix/share/mizzengrape/rust/src"
+    "$prefix/share/mizzengrape/rust/src/extern_c"
 install -m 755 tool/target/release/mizzengrape "$prefix/bin/mizzengrape"
 "$prefix/bin/mizzengrape" man > "$prefix/share/man/man1/mizzengrape.1"
 "$prefix/bin/mizzengrape" completion > "$prefix/share/bash-completion/completions/mizzengrape"
@@ -29,6 +29,7 @@ done
 install -m 644 examples/python/mizzengrape.py "$prefix/share/mizzengrape/python"
 install -m 644 examples/rust/Cargo.toml examples/rust/build.rs "$prefix/share/mizzengrape/rust"
 install -m 644 examples/rust/src/*.rs "$prefix/share/mizzengrape/rust/src"
+install -m 644 examples/rust/src/extern_c/*.rs "$prefix/share/mizzengrape/rust/src/extern_c"
 
 install -m 644 release/README.md CHANGELOG.md LICENSE docs/FORMAT.md docs/LANGUAGE.md docs/EDITORS.md docs/TRUST.md "$documents"
 install -m 644 routines/*.c routines/*.img "$documents/routines"

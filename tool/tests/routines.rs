@@ -13,27 +13,42 @@ fn folder(name: &str) -> PathBuf {
     Path::new(env!("CARGO_MANIFEST_DIR")).join("..").join(name)
 }
 
-fn stems(folder: &Path, ending: &str) -> BTreeSet<String> {
-    let entries = fs::read_dir(folder).expect("a folder").map(|entry| entry.expect("a file").path());
-    let wanted = entries.filter(|path| path.extension().map_or("", |e| e.to_str().unwrap_or("?")) == ending);
-    wanted.map(|path| path.file_stem().expect("a name").to_string_lossy().into_owned()).collect()
-}
-
 fn routine(name: &str) -> Program {
     let text = fs::read_to_string(folder("routines").join(format!("{name}.c"))).expect("a routine");
     Program::of_text(&format!("{name}.c"), text, false).unwrap_or_else(|wrong| panic!("{wrong}"))
 }
 
-/// `mizzengrape asm routines/NAME.c -o crates/rehearsal/data/NAME` makes them anew.
+/// `mizzengrape asm routines/NAME.c -o crates/rehearsal/data/NAME` makes them anew: a table NAME, or those of a set.
 #[test]
 fn tables_are_those_of_the_texts() {
-    let tables = folder("crates/rehearsal/data");
-    assert!(stems(&folder("routines"), "c").is_superset(&stems(&tables, "")));
-    for name in stems(&tables, "") {
-        let words = &routine(&name).tables[0];
-        let bytes: Vec<u8> = words.iter().flat_map(|word| word.to_le_bytes()).collect();
-        assert_eq!(bytes, fs::read(tables.join(&name)).expect("a table"), "{name}");
+    let data = folder("crates/rehearsal/data");
+    let mut made = BTreeSet::new();
+    for name in ["first_club", "second_club", "handicap"] {
+        let tables = routine(name).tables;
+        for (number, words) in tables.iter().enumerate() {
+            let file = if tables.len() == 1 { name.to_string() } else { format!("{name}.{number}.tbl") };
+            let bytes: Vec<u8> = words.iter().flat_map(|word| word.to_le_bytes()).collect();
+            assert_eq!(bytes, fs::read(data.join(&file)).expect("a table"), "{file}");
+            made.insert(file);
+        }
     }
+    let files = fs::read_dir(data).expect("a folder").map(|entry| entry.expect("a file").file_name());
+    assert_eq!(files.map(|name| name.to_string_lossy().into_owned()).collect::<BTreeSet<_>>(), made);
+}
+
+/// The rehearsal scores the day of `race_day.img`: it has the same corrected times.
+#[test]
+fn the_rehearsal_scores_the_same_day() {
+    let rehearsed = fs::read_to_string(folder("crates/rehearsal/stdout")).expect("what the rehearsal writes");
+    let line = |line: &str| line.split_once(": corrected time ").map(|(_, time)| time.to_string());
+    let rehearsed: Vec<String> = rehearsed.lines().filter_map(line).collect();
+    let scored = run("handicap", "race_day.img").out;
+    let wanted = |line: &&str| line.contains("][2] (cell") || line.starts_with("guest:");
+    let time = |line: &str| line.rsplit(' ').next().unwrap_or_default().to_string();
+    let (guest, rows): (Vec<&str>, Vec<&str>) =
+        scored.lines().filter(wanted).partition(|line| line.starts_with("guest:"));
+    let scored: Vec<String> = rows.into_iter().chain(guest).map(time).collect();
+    assert_eq!(rehearsed, scored);
 }
 
 fn image(name: &str) -> String {

@@ -1,4 +1,4 @@
--- What a rehearsal tells a scorer: each late boat's row, or why it got none; the rows left; the row that two laptops must not share.
+-- What a rehearsal tells a scorer: each late boat's row, or why it got none; the rows left; the row that two laptops must not share; corrected times.
 use mathlib.Core.Bool.{cond}
 use Prim.Native.Nat.{ℕ}
 use mathlib.Core.List.{List, _++_}
@@ -51,3 +51,7 @@ firstRowLine before after =
     cond (eqb before after)
     ((bytesOf "the other laptop's first row still holds " ++ numeral before) ++ bytesOf "\n")
     (((bytesOf "the other laptop's first row held " ++ numeral before) ++ (bytesOf " and now holds " ++ numeral after)) ++ bytesOf "\n")
+
+-- Point 14: what "the handicap formula" makes of a boat's elapsed time.
+unfoldable pub correctedLine : ℕ → ℕ → List ℕ
+correctedLine boat seconds = ((bytesOf "boat " ++ numeral boat) ++ (bytesOf ": corrected time " ++ numeral seconds)) ++ bytesOf "\n"

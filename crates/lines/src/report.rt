@@ -9,7 +9,7 @@ ghost use mathlib.Core.List.{_++_};
 ghost use Prim.Native.Nat.{_+_, _≤_};
 ghost use lib.ListN.{length};
 ghost use Rattle.text.specs.Text.{textOf, decimal, Grown, Line};
-ghost use Rattle.lines.specs.Report.{refusedText, stoppedText, entryText, entryLine, leftLine, rowLine, firstRowLine};
+ghost use Rattle.lines.specs.Report.{refusedText, stoppedText, entryText, entryLine, leftLine, rowLine, firstRowLine, correctedLine};
 
 // A phrase and a number behind it.
 fn put(text: Text, phrase: &[u8], n: u64) -> Text
@@ -103,4 +103,12 @@ pub fn first_row_line(before: u32, after: u32) -> Text
     }
     let start = put(text, b"the other laptop's first row held ", before as u64);
     put(start, b" and now holds ", after as u64).push(b'\n')
+}
+
+// The corrected time of the boat with this number, in seconds.
+pub fn corrected_line(number: u32, seconds: u32) -> Text
+    ensures { λ t. ⌜ Line (correctedLine number seconds) t ⌝ }
+{
+    let head = put(Text::new(), b"boat ", number as u64);
+    put(head, b": corrected time ", seconds as u64).push(b'\n')
 }

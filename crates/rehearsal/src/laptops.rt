@@ -5,6 +5,7 @@ use crate::LIMIT;
 use crate::ROWS;
 use crate::read_routine;
 use crate::show_rows;
+use crate::word_of;
 use dispatcher::Said;
 use libc::STDOUT_FILENO;
 ghost use Prim.Native.Nat.{_≤_};
@@ -67,14 +68,6 @@ fn read_both(tables: &mut [i32]) -> Words {
     let one = read_routine(b"first_club", tables);
     let other = read_routine(b"first_club", &mut tables[one..]);
     Words { one, other }
-}
-
-// A length as a word; a table has at most 7,704.
-fn word_of(length: usize) -> u32 {
-    if length > 7704 {
-        return 0;
-    }
-    length as u32
 }
 
 pub(crate) fn both_laptops() {

@@ -1,11 +1,13 @@
 // The incident replayed with the blocks touching: rows 1 to 4 of the memory are this laptop's block, rows 5 to 8 the other laptop's, rows 9 to 12 the
 // block that the scorer opens next. The routines for late entries of both clubs stand in data/ as files. Then the first club's routine on both laptops,
-// in turn.
+// in turn; and a day that is scored by routines that call each other.
 mod laptops; // laptops.rt: both laptops in turn
+mod scores; // scores.rt: the handicap formula, called from two scoring routines
 
 use libc::STDOUT_FILENO;
 ghost use Prim.Native.Nat.{_≤_};
 ghost use lib.ListN.{length};
+ghost use Rattle.io.specs.Counts.{Counts};
 
 pub(crate) const FIRST_ROW: u32 = 1; // of this laptop's block
 
@@ -17,20 +19,45 @@ pub(crate) const ROWS: u32 = 4; // of each block
 
 pub(crate) const LIMIT: u32 = 1000;
 
-// Prints the verdict on the routine in a file and answers its words.
-pub(crate) fn read_routine(name: &[u8], table: &mut [i32]) -> usize
-    ensures { λ r. ⌜ r ≤ length (now (table .exit)) ⌝ }
+// How many bytes of a file there are.
+fn read_file(name: &[u8], bytes: &mut [u8]) -> usize
+    ensures { λ r. ⌜ Counts r (now (bytes .exit)) ⌝ }
 {
     let file = os::open_read(name);
     if file < 0 {
         os::fail(name);
         return 0;
     }
-    let mut bytes = io::large_buffer();
-    let size = io::read_full(file, &mut bytes);
+    let size = io::read_full(file, bytes);
     libc::close(file);
+    size
+}
+
+// How many words the table in a file has.
+pub(crate) fn read_table(name: &[u8], table: &mut [i32]) -> usize
+    ensures { λ r. ⌜ r ≤ length (now (table .exit)) ⌝ }
+{
+    let mut bytes = io::large_buffer();
+    let size = read_file(name, &mut bytes);
+    files::encoding::read_words(&bytes[..size], table)
+}
+
+// Prints the verdict on the routine in a file and answers its words.
+pub(crate) fn read_routine(name: &[u8], table: &mut [i32]) -> usize
+    ensures { λ r. ⌜ r ≤ length (now (table .exit)) ⌝ }
+{
+    let mut bytes = io::large_buffer();
+    let size = read_file(name, &mut bytes);
     text::console::show_text(lines::verdict_line(files::check_file(&bytes[..size])));
     files::encoding::read_words(&bytes[..size], table)
+}
+
+// A length as a word; a table has at most 7,704.
+pub(crate) fn word_of(length: usize) -> u32 {
+    if length > 7704 {
+        return 0;
+    }
+    length as u32
 }
 
 // Runs the routine for one late boat; the values are row pointer, count of rows and boat.
@@ -101,4 +128,9 @@ fn main() {
         b"Both laptops in turn, a step each, their blocks touching.\n",
     );
     laptops::both_laptops();
+    io::write_all(
+        STDOUT_FILENO,
+        b"The day is scored: one routine has the handicap formula, and both scoring routines call it.\n",
+    );
+    scores::score_day();
 }
