@@ -1,10 +1,11 @@
 //! Measurements of the fast forms and of the proved implementation, as ratios in one run.
 
+use crate::bench_counts::{counts, Work};
 use crate::generate::{accepted, accepted_with_rows, accepted_with_sizes};
 use crate::linked::Proved;
 use crate::proved::{Fast, Implementation};
 use crate::turns::Parts;
-use crate::{bench_calls, bench_edits, fast_check, fast_run};
+use crate::{bench_calls, bench_edits, bench_peers, fast_check, fast_run};
 use oracle::answer::{RunAnswer, RunInput};
 use oracle::dispatch::{Member, Turns};
 use oracle::draft::*;
@@ -16,7 +17,7 @@ use std::time::Instant;
 const STATEMENTS: usize = 1_024;
 
 /// The parts of the benchmark, in their order.
-pub const PARTS: [(&str, fn()); 8] = [
+pub const PARTS: [(&str, fn()); 9] = [
     ("check", check),
     ("run", run),
     ("rows", rows),
@@ -25,6 +26,7 @@ pub const PARTS: [(&str, fn()); 8] = [
     ("turns", turns),
     ("edits", bench_edits::edits),
     ("calls", bench_calls::calls),
+    ("peers", bench_peers::peers),
 ];
 
 /// Nanoseconds for one call: the best of many short rounds, as other work on
@@ -37,6 +39,12 @@ pub fn best(rounds: usize, mut call: impl FnMut()) -> f64 {
             start.elapsed().as_nanos() as f64
         })
         .fold(f64::INFINITY, f64::min)
+}
+
+/// The same of two calls in turn: each begins with the caches and the branch prediction that the other one left.
+fn best_in_turn(rounds: usize, mut first: impl FnMut(), mut second: impl FnMut()) -> [f64; 2] {
+    let times = (0..rounds).map(|_| [best(1, &mut first), best(1, &mut second)]);
+    times.fold([f64::INFINITY; 2], |least, times| [least[0].min(times[0]), least[1].min(times[1])])
 }
 
 /// A loop of ten statements: accesses, additions, comparisons.
@@ -245,6 +253,14 @@ fn check_forms(title: &str, tables: &[Vec<i32>]) {
             _ => {}
         }
     }
+    let all = |form: Form| move || assert!(tables.iter().all(|table| form(black_box(table))));
+    let [_, (_, fast, _), _, (_, proved, _)] = forms;
+    let [fast, proved] = best_in_turn(100, all(fast), all(proved)).map(|each| each / statements);
+    println!(
+        "check, in turn, {title}: {fast:.1} ns a statement fast, {proved:.1} proved, {:.2}",
+        proved / fast
+    );
+    counts(Work::Check { statements: STATEMENTS * tables.len() }, title, tables);
 }
 
 fn run_table(title: &str, beside: &str, table: &[i32], cells: u32) {
@@ -266,6 +282,7 @@ fn run_table(title: &str, beside: &str, table: &[i32], cells: u32) {
             _ => {}
         }
     }
+    counts(Work::Run, title, &[table.to_vec()]);
 }
 
 #[cfg(test)]

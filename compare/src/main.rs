@@ -3,7 +3,9 @@
 
 mod bench;
 mod bench_calls;
+mod bench_counts;
 mod bench_edits;
+mod bench_peers;
 mod damaged_edits;
 mod differ;
 mod differ_edits;
@@ -41,7 +43,7 @@ const USAGE: &str = "usage: compare vectors DIR
        compare differ SEED COUNT [FIRST]
        compare edits SEED COUNT [FIRST]
        compare show SEED NUMBER [turns|edits|sets]
-       compare bench [check|run|rows|sizes|facts|turns|edits|calls]
+       compare bench [check|run|rows|sizes|facts|turns|edits|calls|peers]
        compare stack [KIB]";
 
 fn main() -> ExitCode {
@@ -67,6 +69,9 @@ fn main() -> ExitCode {
         ["bench", name] => {
             let part = bench::PARTS.iter().find(|(part, _)| *part == name).map(|(_, part)| part());
             part.map(|()| true).ok_or(USAGE.to_string())
+        }
+        ["work", work, form, amount] => {
+            number(amount).and_then(|amount| bench_counts::work(work, form, amount as u32))
         }
         ["stack"] => Ok(match stack::least() {
             Some(kib) => {

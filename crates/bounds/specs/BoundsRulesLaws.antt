@@ -26,7 +26,7 @@ use Rattle.rules.specs.declared.Bounds.{Bounds}
 use Rattle.rules.specs.declared.Environment.{Environment}
 use Rattle.rules.specs.declared.Effect.{Effect}
 use Rattle.rules.specs.declared.Effect.the-variants.{Keep, Forget, Shift, Copy, Object}
-use Rattle.bounds.specs.Stays.{endStays, boundsStay, stays}
+use Rattle.bounds.specs.Stays.{endStays, boundsStay, changedBy, replacedBy, leftAlone, endSame, boundsSame, madeSame}
 use Rattle.bounds.specs.StaysLaws.{stored, stored-known}
 use Rattle.bounds.specs.Transfer.{sourceOf, effectOnOne}
 use Rattle.bounds.specs.TransferLaws.{effect-on-one, effect-on-read, source-within}
@@ -60,63 +60,89 @@ effect-short E f (Store p i k x) m r = tt
 effect-short E f (Check c) m r = tt
 effect-short E f (Declare p r) m l = tt
 
--- ---- bounds that an effect leaves as they are
+-- ---- bounds that an effect makes the same again, or leaves as they are
 
--- An end that stays is known, and the same after the effect.
-record Stays (v : ℕ) (e : KnownEnd) : Type 0 where
+record Same (v : ℕ) (e : KnownEnd) : Type 0 where
   forgotten : forgetEnd v e ≡ e
   moved : (s k : ℕ) → shiftEnd s v k e ≡ e
 
-end-stays : (v : ℕ) (e : KnownEnd) → endStays v e ≡ true → Stays v e
-unfolding endStays forgetEnd boundsRules.shiftEnd
-end-stays v Unknown h = absurd (false≢true h)
-end-stays v (Known e) h =
+end-same : (v : ℕ) (e : KnownEnd) → endSame v e ≡ true → Same v e
+unfolding endSame forgetEnd boundsRules.shiftEnd
+end-same v Unknown h = record { forgotten = refl; moved = λ s k. refl }
+end-same v (Known e) h =
     let n : names e v ≡ false = not-true (names e v) h in
     record {
       forgotten = ap (λ (b : Bool). cond b Unknown (Known e)) n;
       moved = λ s k. ap (λ (b : Bool). cond b (shiftConstant (weight s v e) k e) (Known e)) n;
     }
 
-module _ (v : ℕ) (b : Bounds) (h : boundsStay v b ≡ true) where
-  lower-stays : Stays v (b .lower)
-  unfolding boundsStay
-  lower-stays = end-stays v (b .lower) (both (endStays v (b .lower)) (endStays v (b .upper)) h .0)
+module _ (v : ℕ) (b : Bounds) (h : boundsSame v b ≡ true) where
+  lower-same : Same v (b .lower)
+  unfolding boundsSame
+  lower-same = end-same v (b .lower) (both (endSame v (b .lower)) (endSame v (b .upper)) h .0)
 
-  upper-stays : Stays v (b .upper)
-  unfolding boundsStay
-  upper-stays = end-stays v (b .upper) (both (endStays v (b .lower)) (endStays v (b .upper)) h .1)
+  upper-same : Same v (b .upper)
+  unfolding boundsSame
+  upper-same = end-same v (b .upper) (both (endSame v (b .lower)) (endSame v (b .upper)) h .1)
 
-  stay-forgotten : forgetBounds v b ≡ b
+  same-forgotten : forgetBounds v b ≡ b
   unfolding forgetBounds
-  stay-forgotten = let e₁ = lower-stays .forgotten in let e₂ = upper-stays .forgotten in rw (e₁, e₂)
+  same-forgotten = let e₁ = lower-same .forgotten in let e₂ = upper-same .forgotten in rw (e₁, e₂)
 
-  stay-moved : (k : ℕ) → shiftBounds v k b ≡ b
+  same-moved : (k : ℕ) → shiftBounds v k b ≡ b
   unfolding boundsRules.shiftBounds
-  stay-moved k = let e₁ = lower-stays .moved (b .size) k in let e₂ = upper-stays .moved (b .size) k in rw (e₁, e₂)
+  same-moved k = let e₁ = lower-same .moved (b .size) k in let e₂ = upper-same .moved (b .size) k in rw (e₁, e₂)
 
--- Bounds that stay are what the effect makes of them.
-stays-same : (e : Effect) (p : ℕ) (own source : Bounds) → stays e p own ≡ true → effectOnOne e p own source ≡ own
-unfolding stays
-stays-same Keep p own source h = refl
-stays-same (Forget v) p own source h = stay-forgotten v own h
-stays-same (Shift v k) p own source h = stay-moved v own h k
-stays-same (Copy v q) p own source h =
-    let t = both (not (eqb p v)) (boundsStay v own) h in
-    ap (λ (b : Bool). forgetBounds v (cond b source own)) (not-true (eqb p v) (t .0)) ∙ stay-forgotten v own (t .1)
-stays-same (Object v z n) p own source h =
-    let t = both (not (eqb p v)) (boundsStay v own) h in
-    ap (λ (b : Bool). cond b (objectBounds v z n) (forgetBounds v own)) (not-true (eqb p v) (t .0)) ∙ stay-forgotten v own (t .1)
+-- Bounds with these two numbers of the effect are what it makes of them.
+made-same : (e : Effect) (p : ℕ) (own source : Bounds) → madeSame (changedBy e) (replacedBy e) p own ≡ true → effectOnOne e p own source ≡ own
+unfolding madeSame
+made-same Keep p own source h = refl
+made-same (Forget v) p own source h = same-forgotten v own (both (not (eqb p 17)) (boundsSame v own) h .1)
+made-same (Shift v k) p own source h = same-moved v own (both (not (eqb p 17)) (boundsSame v own) h .1) k
+made-same (Copy v q) p own source h =
+    let t = both (not (eqb p v)) (boundsSame v own) h in
+    ap (λ (b : Bool). forgetBounds v (cond b source own)) (not-true (eqb p v) (t .0)) ∙ same-forgotten v own (t .1)
+made-same (Object v z n) p own source h =
+    let t = both (not (eqb p v)) (boundsSame v own) h in
+    ap (λ (b : Bool). cond b (objectBounds v z n) (forgetBounds v own)) (not-true (eqb p v) (t .0)) ∙ same-forgotten v own (t .1)
 
-pub stays-known : (e : Effect) (K : List Bounds) (p : ℕ) → stays e p (known K p) ≡ true → effectOn e K p ≡ known K p
-stays-known e K p h = effect-on-one e K p ∙ stays-same e p (known K p) (known K (sourceOf e)) h
+-- An end that stays is known, and the same.
+end-stays : (v : ℕ) (e : KnownEnd) → endStays v e ≡ true → endSame v e ≡ true
+unfolding endStays endSame
+end-stays v Unknown h = refl
+end-stays v (Known e) h = h
+
+bounds-stay : (v : ℕ) (b : Bounds) → boundsStay v b ≡ true → boundsSame v b ≡ true
+unfolding boundsStay boundsSame
+bounds-stay v b h =
+    let t = both (endStays v (b .lower)) (endStays v (b .upper)) h in
+    let e₁ = end-stays v (b .lower) (t .0) in
+    let e₂ = end-stays v (b .upper) (t .1) in
+    rw (e₁, e₂)
+
+left-same : (e : Effect) (p : ℕ) (b : Bounds) → leftAlone (changedBy e) (replacedBy e) p b ≡ true → madeSame (changedBy e) (replacedBy e) p b ≡ true
+unfolding leftAlone madeSame
+left-same e p b h =
+    let t = both (not (eqb p (replacedBy e))) (boundsStay (changedBy e) b) h in
+    let e₁ = t .0 in
+    let e₂ = bounds-stay (changedBy e) b (t .1) in
+    rw (e₁, e₂)
+
+pub same-known : (e : Effect) (K : List Bounds) (p : ℕ) → madeSame (changedBy e) (replacedBy e) p (known K p) ≡ true → effectOn e K p ≡ known K p
+same-known e K p h = effect-on-one e K p ∙ made-same e p (known K p) (known K (sourceOf e)) h
+
+pub left-known : (e : Effect) (K : List Bounds) (p : ℕ) → leftAlone (changedBy e) (replacedBy e) p (known K p) ≡ true → effectOn e K p ≡ known K p
+left-known e K p h = same-known e K p (left-same e p (known K p) h)
 
 -- ---- known bounds after an effect, one pointer after the other
 
 module _ {l K : List Bounds} (e : Effect) {p : ℕ} (q : Filled l K 16 (effectOn e K) p) (h : p < 16) (long : length K ≡ 16) where
-  pub filled-stays : stays e p (stored K p) ≡ true → Filled l K 16 (effectOn e K) (p + 1)
-  filled-stays t =
-      let s : stays e p (known K p) ≡ true = rw (sym (stored-known K p (omega arith))) t in
-      filled-kept nothingKnown q h (filled-next nothingKnown q ∙ sym (stays-known e K p s))
+  pub filled-same : {c r : ℕ} {st : Bool} → c ≡ changedBy e → r ≡ replacedBy e → st ≡ madeSame c r p (stored K p) → st ≡ true
+      → Filled l K 16 (effectOn e K) (p + 1)
+  filled-same x y z t =
+      let u : madeSame (changedBy e) (replacedBy e) p (stored K p) ≡ true = sym (rw (x, y) at z) ∙ t in
+      let s : madeSame (changedBy e) (replacedBy e) p (known K p) ≡ true = rw (sym (stored-known K p (omega arith))) u in
+      filled-kept nothingKnown q h (filled-next nothingKnown q ∙ sym (same-known e K p s))
 
   pub filled-anew : {b : Bounds} (s : ℕ) → Short e → s ≡ sourceOf e → b ≡ effectOnOne e p (stored K p) (stored K s)
       → Filled (set l p b) K 16 (effectOn e K) (p + 1)

@@ -1,6 +1,6 @@
 -- Bounds that an effect leaves as they are.
 use Prim.Native.Nat.{ℕ}
-use mathlib.Core.Bool.{Bool, false, not, _&&_}
+use mathlib.Core.Bool.{Bool, true, false, not, _&&_}
 use lib.Dec.{eqb}
 use Rattle.rules.specs.BoundsRules.{names}
 use Rattle.rules.specs.declared.KnownEnd.{KnownEnd}
@@ -43,3 +43,14 @@ replacedBy (Object v z n) = v
 -- As `stays`, given the two numbers of the effect.
 unfoldable pub leftAlone : ℕ → ℕ → ℕ → Bounds → Bool
 leftAlone changed replaced p b = not (eqb p replaced) && boundsStay changed b
+
+-- Bounds that an effect makes the same again: besides those that it leaves as they are, ends that are not known.
+unfoldable pub endSame : ℕ → KnownEnd → Bool
+endSame v Unknown = true
+endSame v (Known e) = not (names e v)
+
+unfoldable pub boundsSame : ℕ → Bounds → Bool
+boundsSame v b = endSame v (b .lower) && endSame v (b .upper)
+
+unfoldable pub madeSame : ℕ → ℕ → ℕ → Bounds → Bool
+madeSame changed replaced p b = not (eqb p replaced) && boundsSame changed b

@@ -6,7 +6,7 @@ pub mod touched; // touched.rt: whether an effect touches declared bounds: only 
 use rules::Bounds;
 use rules::Effect;
 use stays::changed_by;
-use stays::left_alone;
+use stays::made_same;
 use stays::replaced_by;
 use transfer::effect_on;
 use transfer::source_of;
@@ -57,7 +57,7 @@ pub fn bounds_after(effect: Effect, known: KnownBounds) -> KnownBounds
     let mut next = known;
     for p in 0..16 {
         let own = known.each[p];
-        if !left_alone(changed, replaced, p, own) {
+        if !made_same(changed, replaced, p, own) {
             next.each[p] = effect_on(effect, p, own, source);
         }
     }

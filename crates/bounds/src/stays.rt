@@ -5,7 +5,7 @@ use rules::KnownEnd;
 use table::variables::End;
 ghost use mathlib.Core.Path.{_≡_};
 ghost use Rattle.rules.specs.BoundsRules.{names};
-ghost use Rattle.bounds.specs.Stays.{endStays, boundsStay, leftAlone, changedBy, replacedBy};
+ghost use Rattle.bounds.specs.Stays.{endStays, boundsStay, leftAlone, changedBy, replacedBy, endSame, boundsSame, madeSame};
 
 pub(crate) fn end_names(end: End, v: usize) -> bool
     ensures { λ r. ⌜ r ≡ names end v ⌝ }
@@ -76,4 +76,29 @@ pub(crate) fn left_alone(changed: usize, replaced: usize, p: usize, own: Bounds)
     ensures { λ r. ⌜ r ≡ leftAlone changed replaced p own ⌝ }
 {
     (p != replaced) & bounds_stay(changed, own)
+}
+
+// An end that is the same after a change of v: it does not name v, or is not known.
+fn end_same(v: usize, end: KnownEnd) -> bool
+    ensures { λ r. ⌜ r ≡ endSame v end ⌝ }
+{
+    let KnownEnd::Known(e) = end else {
+        return true;
+    };
+    !end_names(e, v)
+}
+
+fn bounds_same(v: usize, b: Bounds) -> bool
+    ensures { λ r. ⌜ r ≡ boundsSame v b ⌝ }
+{
+    let lower = b.lower;
+    let upper = b.upper;
+    end_same(v, lower) & end_same(v, upper)
+}
+
+// An effect with these two numbers makes the bounds `own` of p the same again: it leaves them as they are, or nothing is known of an end.
+pub(crate) fn made_same(changed: usize, replaced: usize, p: usize, own: Bounds) -> bool
+    ensures { λ r. ⌜ r ≡ madeSame changed replaced p own ⌝ }
+{
+    (p != replaced) & bounds_same(changed, own)
 }

@@ -8,6 +8,7 @@ use rules::lookups::is_pointer;
 ghost use mathlib.Core.Path.{_≡_};
 ghost use mathlib.Core.Bool.{true, false};
 ghost use lib.ListN.{getD};
+ghost use Rattle.bounds.specs.Stays.{changedBy, replacedBy, leftAlone};
 ghost use Rattle.bounds.specs.Touched.{seenAs, touched, namedIn, touches};
 
 // What is asked for each statement: which variables are pointers, and the declared bounds in force. An environment, with its 64 rows, is large to pass.
@@ -19,6 +20,13 @@ pub struct Seen {
 // For each variable, whether some pointer's declared bounds name it; for 17, whether some are not known.
 pub struct Named {
     pub each: [bool; 18],
+}
+
+// The effect leaves the known bounds `own` of p as they are: declared ones need not be shown again.
+pub fn leaves_alone(effect: Effect, p: usize, own: Bounds) -> bool
+    ensures { λ r. ⌜ r ≡ leftAlone (changedBy effect) (replacedBy effect) p own ⌝ }
+{
+    left_alone(changed_by(effect), replaced_by(effect), p, own)
 }
 
 // Some pointer's declared bounds have to be shown again after the effect; where none have, all stay shown with any facts.

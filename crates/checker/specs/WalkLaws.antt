@@ -5,7 +5,7 @@ use mathlib.Core.Bool.{Bool, true, false}
 use mathlib.Core.List.{List, []}
 use native.Mathlib.Omega.{arith}
 use lib.IntN.{ℤ}
-use lib.ListN.{set, getD}
+use lib.ListN.{length, set, getD}
 use Rattle.facts.specs.Store.{joined, answered, changed}
 use Rattle.facts.specs.declared.FactSet.{FactSet}
 use Rattle.answers.specs.declared.refusals.Refusal.{Refusal}
@@ -29,7 +29,7 @@ use Rattle.rules.specs.Stored.{store, factsAfter, conditionFacts, loopFacts, ef
 use Rattle.rules.specs.Stored.{bundleBounds, bundleFaults, blockFaults, boundsAfter, calledState, callFaults}
 use Rattle.rules.specs.Stored.{stateAfter, assumed, atHead, unshownIn, rowUnshown, declaredIn, bundleAfter, sidesJoined, blockAfter}
 use Rattle.rules.specs.Stored.{entriesUnshown, entryFacts, safeIn, accessSafe}
-use Rattle.listed.specs.Entries.{entriesOf}
+use Rattle.listed.specs.Entries.{entriesFrom, entriesOf, entryCount}
 use Rattle.reports.specs.Reports.{markedIf}
 use Rattle.rules.specs.BoundsRules.{inForce}
 use Rattle.rules.specs.Rules.{boundsAt, sameRows, rowsAt}
@@ -44,7 +44,7 @@ use Rattle.effects.specs.Marks.{targetsFrom}
 use Rattle.bounds.specs.Touched.{touches, seenAs, seenOf}
 use Rattle.bounds.specs.declared.touched.Seen.{Seen}
 use Rattle.declared.specs.UntouchedLaws.{unnamed}
-use Rattle.bundles.specs.Bundles.{lineMarks, WalksBundle}
+use Rattle.bundles.specs.Bundles.{lineMarks, Passes, WalksBundle}
 use Rattle.checker.specs.Walk.{InPlace, blockMarks, Walks}
 use Rattle.checker.specs.PlaceLaws.{after-plain, after-call, after-if, after-while, after-bundle, body-assigned}
 use Rattle.effects.specs.FactRulesLaws.{read-ranged, appliedOf, carried-out}
@@ -65,6 +65,8 @@ use Rattle.declared.specs.declared.force.Declared.{Declared}
 use Rattle.bundles.specs.BundleLaws.{stops, ends, carry, also-assoc, applied-facts, applied-effect}
 use Rattle.bundles.specs.BundleLaws.{lineFaults, declare-after, declare-keeps, declare-unmarked, nothing-asked, row-limits}
 use Rattle.rules.specs.Rules as walkRules
+use Rattle.rules.specs.FactRules as factRules
+use Rattle.reports.specs.declared.Report.{Report}
 use Rattle.rules.specs.RuleLaws.{same-rows}
 use Rattle.rules.specs.Calls.{Routine, resultEffect, resultFacts}
 use Rattle.declared.specs.Callee.{callChecked}
@@ -102,6 +104,25 @@ nil-passes : (E : Environment) (L : List ℤ) (rs : List Routine) (b : Block) (v
     → stateOf (w .facts) (w .rows .each) ≡ v → w .report .words ≡ M → Walks E L rs b v M w
 unfolding walkRules.blockFaults walkRules.blockAfter blockMarks
 nil-passes E L rs b v M e p q r = rw e (ends refl p q r)
+
+-- An empty block leaves what it was given.
+pub empty-walks : (E : Environment) (L : List ℤ) (rs : List Routine) (T : List ℤ) (h : Sections) (left a end : ℕ) (f : FactSet) (R : Rows) (M : Report) → end ≤ a
+    → Walks E L rs (parse left T h a end) (stateOf f (R .each)) (M .words) (record { verdict = Accepted; facts = f; rows = R; report = M })
+empty-walks E L rs T h left a end f R M z = nil-passes E L rs _ _ _ (parse-end left T h a end z) refl refl refl
+
+-- What a walk leaves that refuses nothing.
+abbrev pub settled : Walked → Walked
+settled w = record { verdict = Accepted; facts = w .facts; rows = w .rows; report = w .report }
+
+pub settled-walks : {xs : List Refusal} {g : State FactSet} {M : List ℕ} {w : Walked} → Passes xs g M w → w .verdict ≡ Accepted → Passes xs g M (settled w)
+settled-walks p x = record { said = sym x ∙ p .said; kept = p .kept; marked = p .marked }
+
+-- An empty list has no entries.
+pub no-entries : (L : List ℤ) (a : ℕ) (f : FactSet) → length L ≤ 0 → f ≡ entryFacts (entriesOf L a) f
+unfolding entriesOf entriesFrom factRules.entryFacts
+no-entries L a f h =
+    let n : entryCount L ≡ 0 = omega arith in
+    ap (λ (k : ℕ). entryFacts (entriesFrom L a 0 k) f) (sym n)
 
 unread-stops : (E : Environment) (L : List ℤ) (rs : List Routine) (b : Block) (v : State FactSet) (M : List ℕ) (a : ℕ) {w : Walked} → b ≡ unread a
     → w .verdict ≡ Refused (StatementRecord a) → Walks E L rs b v M w

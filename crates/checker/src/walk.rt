@@ -46,7 +46,7 @@ ghost use Rattle.checker.specs.Walk.{InPlace, Walks};
 // may be called: they stand in `words`, one after the other.
 // The fact set is changed in place by its own methods alone: a function in between would copy it in and out. Its frame stands on the stack once for each depth,
 // and each local has a place of its own there: `now` is the state of this block, `side` what a nested one is walked from and then what it leaves; nothing else
-// is large.
+// is large. What would be copied for nothing is left out: `side` has no value before the first nested block, and an empty block is not walked.
 pub fn walk(
     table: &[i32],
     sections: Sections,
@@ -80,7 +80,7 @@ pub fn walk(
         rows: begun_rows,
         report: reported,
     };
-    let mut side = now;
+    let mut side: Walked;
     while left > 0 {
         if at >= end {
             break;
@@ -159,44 +159,56 @@ pub fn walk(
                 let middle = inner + then_count;
                 let rest = middle + else_count;
                 let answers = answer(now.facts, ask_condition(condition));
-                side.facts = now.facts.after(assume(condition, answers));
-                side = walk(
-                    table,
-                    sections,
-                    listed,
-                    frame,
-                    force,
-                    inner,
-                    middle,
-                    left,
-                    side.facts,
-                    now.report,
-                    words,
-                    callees,
-                );
+                side = Walked {
+                    verdict: Verdict::Accepted,
+                    facts: now.facts.after(assume(condition, answers)),
+                    rows,
+                    report,
+                };
+                if inner < middle {
+                    side = walk(
+                        table,
+                        sections,
+                        listed,
+                        frame,
+                        force,
+                        inner,
+                        middle,
+                        left,
+                        side.facts,
+                        now.report,
+                        words,
+                        callees,
+                    );
+                }
                 let then_verdict = side.verdict;
                 let Verdict::Accepted = then_verdict else {
                     return side;
                 };
                 now.facts = now.facts.after(assume(negated(condition), answers));
-                now = walk(
-                    table,
-                    sections,
-                    listed,
-                    frame,
-                    force,
-                    middle,
-                    rest,
-                    left,
-                    now.facts,
-                    side.report,
-                    words,
-                    callees,
-                );
-                let other_verdict = now.verdict;
-                let Verdict::Accepted = other_verdict else {
-                    return now;
-                };
+                now.rows = rows;
+                let then_report = side.report;
+                now.report = then_report;
+                if middle < rest {
+                    now = walk(
+                        table,
+                        sections,
+                        listed,
+                        frame,
+                        force,
+                        middle,
+                        rest,
+                        left,
+                        now.facts,
+                        then_report,
+                        words,
+                        callees,
+                    );
+                    let other_verdict = now.verdict;
+                    let Verdict::Accepted = other_verdict else {
+                        return now;
+                    };
+                }
                 let then_rows = side.rows;
                 if !same_rows(then_rows, now.rows) {
                     let facts = now.facts;
@@ -215,7 +227,6 @@ pub fn walk(
             }
             Statement::While { condition, count } => {
                 let rest = inner + count;
-                side.facts = lose(table, sections, inner, count, now.facts);
                 let before = check_entries(listed, at, now.facts);
                 let Verdict::Accepted = before else {
                     let facts = now.facts;
@@ -226,9 +237,17 @@ pub fn walk(
                         report,
                     };
                 };
-                now.facts = assume_entries(listed, at, side.facts);
+                now.facts = lose(table, sections, inner, count, now.facts);
+                if 0 < listed.len() {
+                    now.facts = assume_entries(listed, at, now.facts);
+                }
                 let head = answer(now.facts, ask_condition(condition));
-                side.facts = now.facts.after(assume(condition, head));
+                side = Walked {
+                    verdict: Verdict::Accepted,
+                    facts: now.facts.after(assume(condition, head)),
+                    rows,
+                    report,
+                };
                 side = walk(
                     table,
                     sections,
@@ -239,7 +258,7 @@ pub fn walk(
                     rest,
                     left,
                     side.facts,
-                    now.report,
+                    report,
                     words,
                     callees,
                 );

@@ -40,13 +40,15 @@ fn beside_literal(table: &[i32], sections: Sections, v: u64, w: u64) -> bool
     names_integer(table, sections, v) | (names_pointer(table, sections, v) & is_zero(w))
 }
 
-// A condition stands in the first four fields: left, relation, form, right.
+// A condition stands in the first four fields: left, relation, form, right. Only what the form asks for is read.
 pub fn condition_right(table: &[i32], sections: Sections, f: Fields) -> bool
     ensures { λ r. ⌜ r ≡ conditionRight (now (table .entry)) sections f ⌝ }
 {
+    if is_zero(f.third) {
+        return is_below(6, f.second) & same_kind(table, sections, f.first, f.fourth);
+    }
     is_below(6, f.second)
-        & ((is_zero(f.third) & same_kind(table, sections, f.first, f.fourth))
-            | ((f.third == BIAS + 1) & beside_literal(table, sections, f.first, f.fourth)))
+        & ((f.third == BIAS + 1) & beside_literal(table, sections, f.first, f.fourth))
 }
 
 fn right_of(form: u64, w: u64) -> usize

@@ -129,17 +129,16 @@ missed-not : {a b c : Bool} → a ≡ true → b ≡ c → not b ≡ true → (a
 missed-not {a} {b} {c} p e t = ap (λ (x : Bool). x && not c) p ∙ (ap not (sym e) ∙ t)
 
 -- A pointer that is not asked, where its test says that it is shown.
-missed-unasked : (a b c : Bool) → (a && not b) ≡ false → (b ≡ true → c ≡ true) → (a && not c) ≡ false
+pub missed-unasked : (a b c : Bool) → (a && not b) ≡ false → (b ≡ true → c ≡ true) → (a && not c) ≡ false
 missed-unasked true true c t k = ap not (k refl)
 missed-unasked true false c t k = absurd (false≢true (sym t))
 missed-unasked false b c t k = refl
 
--- A pointer with the known bounds k: it is asked only where they are not the declared ones.
-module _ (E : Environment) (f : FactSet) (K : List Bounds) (p : ℕ) (d : p < length (E .declared)) {k : Bounds} (e : k ≡ known K p)
-    {same : Bool} (w : same ≡ sameBounds k (stored (E .declared) p)) where
-  pub unasked : (isPointer E p && not same) ≡ false → missed E f K p ≡ false
+-- A pointer with the known bounds k: it is not asked where they are the declared ones.
+module _ (E : Environment) (f : FactSet) (K : List Bounds) (p : ℕ) (d : p < length (E .declared)) {k : Bounds} (e : k ≡ known K p) where
+  pub unasked : {same : Bool} → same ≡ sameBounds k (stored (E .declared) p) → (isPointer E p && not same) ≡ false → missed E f K p ≡ false
   unfolding missed
-  unasked t =
+  unasked {same} w t =
       missed-unasked (isPointer E p) same (boundsShown f p (known K p) (declared E p)) t
       (λ s. same-shown f p (known K p) (declared E p) (rw (e, stored-known (E .declared) p d) at (sym w ∙ s)))
 
@@ -151,9 +150,9 @@ module _ (E : Environment) (f : FactSet) (K : List Bounds) (p : ℕ) (d : p < le
     unfolding missed
     asked-shown t = missed-shown (isPointer E p) said t
 
-    pub asked-missed : (isPointer E p && not same) ≡ true → not b ≡ true → missed E f K p ≡ true
+    pub asked-missed : (same : Bool) → (isPointer E p && not same) ≡ true → not b ≡ true → missed E f K p ≡ true
     unfolding missed
-    asked-missed a t = missed-not (both (isPointer E p) (not same) a .0) said t
+    asked-missed same a t = missed-not (both (isPointer E p) (not same) a .0) said t
 
 -- ---- accesses
 

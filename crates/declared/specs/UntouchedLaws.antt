@@ -6,8 +6,8 @@ use mathlib.Core.List.{List, []}
 use mathlib.Core.Logic.{_≢_}
 use native.Mathlib.Omega.{arith}
 use borrow.Author.Tests.{eq-eqb, ne-eqb, ltb-true, ltb-false}
-use lib.Dec.{ltb}
-use lib.ListN.{getD, List·getD-eq-default}
+use lib.Dec.{ltb, eqb}
+use lib.ListN.{length, getD, List·getD-eq-default}
 use Rattle.arrays.specs.Tabulate.{tabulate}
 use Rattle.arrays.specs.TabulateLaws.{length-tabulate, getD-tabulate}
 use Rattle.facts.specs.declared.FactSet.{FactSet}
@@ -24,11 +24,11 @@ use Rattle.rules.specs.declared.Environment.{Environment}
 use Rattle.rules.specs.declared.Effect.{Effect}
 use Rattle.rules.specs.declared.Effect.the-variants.{Forget}
 use Rattle.bounds.specs.Stays.{endStays, boundsStay, stays, changedBy, replacedBy, leftAlone}
-use Rattle.bounds.specs.StaysLaws.{left-alone}
+use Rattle.bounds.specs.StaysLaws.{stored, stored-known}
 use Rattle.bounds.specs.Touched.{touchedAt, touchedFrom, touched, namedIn, touches}
-use Rattle.bounds.specs.BoundsRulesLaws.{stays-known}
+use Rattle.bounds.specs.BoundsRulesLaws.{left-known}
 use Rattle.declared.specs.Shown.{sameKnown, sameBounds}
-use Rattle.declared.specs.ShownLaws.{same-shown, missed}
+use Rattle.declared.specs.ShownLaws.{same-shown, missed, missed-unasked}
 use Rattle.rules.specs.BoundsRules as boundsRules
 
 -- Bounds that stay are known, and so the same as themselves.
@@ -46,6 +46,20 @@ stay-shown f v p b h =
     let t = both (endStays v (b .lower)) (endStays v (b .upper)) h in
     same-shown f p b b (rw (eq-eqb (b .size) (b .size) refl, stay-same v (b .lower) (t .0), stay-same v (b .upper) (t .1)) refl)
 
+-- A pointer that is not asked: the effect leaves its bounds alone.
+pub unasked-alone : (E : Environment) (f : FactSet) (e : Effect) (p : ℕ) {alone : Bool} → p < 16 → p < length (E .declared)
+    → alone ≡ leftAlone (changedBy e) (replacedBy e) p (stored (E .declared) p) → (isPointer E p && not alone) ≡ false
+    → missed E f (boundsAfter e (E .declared)) p ≡ false
+unfolding missed leftAlone
+unasked-alone E f e p {alone} h d w t =
+    missed-unasked (isPointer E p) alone (boundsShown f p (known (boundsAfter e (E .declared)) p) (declared E p)) t shown
+  where
+    shown : alone ≡ true → boundsShown f p (known (boundsAfter e (E .declared)) p) (declared E p) ≡ true
+    shown s =
+        let u : leftAlone (changedBy e) (replacedBy e) p (declared E p) ≡ true = rw (stored-known (E .declared) p d) at (sym w ∙ s) in
+        rw (known-after e (E .declared) p h ∙ left-known e (E .declared) p u)
+        (stay-shown f (changedBy e) p (declared E p) (both (not (eqb p (replacedBy e))) (boundsStay (changedBy e) (declared E p)) u .1))
+
 module _ (E : Environment) (e : Effect) (other : isPointer E (replacedBy e) ≡ false) where
   -- A pointer whose bounds do not name what the effect changes, and are not replaced by it, stays shown.
   spared-at : (f : FactSet) (p : ℕ) → p < 16 → touchedAt E (Forget (changedBy e)) p ≡ false → missed E f (boundsAfter e (E .declared)) p ≡ false
@@ -57,7 +71,7 @@ module _ (E : Environment) (e : Effect) (other : isPointer E (replacedBy e) ≡ 
 
       kept : isPointer E p ≡ true → boundsStay (changedBy e) (declared E p) ≡ true → known (boundsAfter e (E .declared)) p ≡ declared E p
       kept i s = known-after e (E .declared) p h
-          ∙ stays-known e (E .declared) p (sym (left-alone e p (declared E p) h) ∙ rw (ne-eqb p (replacedBy e) (apart i), s) refl)
+          ∙ left-known e (E .declared) p (rw (ne-eqb p (replacedBy e) (apart i), s) refl)
 
       go : (a : Bool) → isPointer E p ≡ a → (b : Bool) → boundsStay (changedBy e) (declared E p) ≡ b
           → (isPointer E p && not (boundsShown f p (known (boundsAfter e (E .declared)) p) (declared E p))) ≡ false

@@ -6,6 +6,7 @@ pub mod force; // force.rt: the rows in force and what they put in force: the bo
 use answers::refusals::Refusal;
 use bounds::KnownBounds;
 use bounds::touched::Seen;
+use bounds::touched::leaves_alone;
 use bounds::transfer::effect_on;
 use bounds::transfer::source_of;
 use ends::address_safe;
@@ -47,8 +48,8 @@ pub fn check_effect(environment: Seen, facts: FactSet, effect: Effect, at: usize
     let mut p = 0;
     while p < 16 {
         let declared = environment.declared[p];
-        let known = effect_on(effect, p, declared, source);
-        if environment.pointers[p] & !same_bounds(known, declared) {
+        if environment.pointers[p] & !leaves_alone(effect, p, declared) {
+            let known = effect_on(effect, p, declared, source);
             if !bounds_shown(facts, p, known, declared) {
                 return not_shown(at, p);
             }

@@ -1,9 +1,11 @@
 // The variables that a loop's body assigns are dropped before the loop.
+use changes::ranging;
 use facts::FactSet;
 use reader::read_due;
 use statements::Simple;
 use statements::Statement;
 use statements::StatementRead;
+use sums::MAX_VALUE;
 use words::sections::Sections;
 ghost use mathlib.Core.Path.{_≡_};
 ghost use mathlib.Core.Bool.{false};
@@ -113,13 +115,13 @@ fn mark_targets(table: &[i32], sections: Sections, first: usize, count: usize) -
     marks
 }
 
-// Each marked variable dropped.
+// Each marked variable dropped: what `drop` does, without a function in between, which would copy the set once more.
 fn drop_marked(mut facts: FactSet, marks: Marks) -> FactSet
     ensures { λ r. ⌜ r ≡ droppedEach 16 (λ v. getD (marks .each) v false) facts ⌝ }
 {
     for v in 0..16 {
         if marks.each[v] {
-            facts = facts.drop(v);
+            facts = facts.after(ranging(v, 0, MAX_VALUE));
         }
     }
     facts

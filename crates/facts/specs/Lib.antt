@@ -1,6 +1,7 @@
 pub mod Store
 pub mod StoreLaws
 pub mod Rows
-pub mod Masks
+pub mod PlainLaws
 pub mod StoreLoops
 pub mod Words
+pub mod Grid

@@ -22,6 +22,9 @@ noRow = record { sums = [] }
 abbrev pub rowAt : FactSet → ℕ → Row
 rowAt f i = getD (f .rows) i noRow
 
+abbrev pub rowWith : List ℕ → Row
+rowWith l = record { sums = l }
+
 abbrev pub inRow : Row → ℕ → ℕ
 inRow row j = getD (row .sums) j 0
 

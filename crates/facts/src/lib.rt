@@ -62,22 +62,24 @@ impl FactSet {
     }
 
     // The facts after a change: the target anew, then the three facts besides; one that is shown already changes nothing. One function with one exit: a set
-    // that passes a function's boundary is copied.
-    pub fn after(mut self, change: Change) -> FactSet
+    // that passes a function's boundary is copied. The sums are changed in an array of arrays, where one sum is read and stored with no copy of its row.
+    pub fn after(self, change: Change) -> FactSet
         ensures { λ r. ⌜ r ≡ changed self change ⌝ }
     {
         let target = change.target;
         let base = change.base;
+        let mut mark = self.contradiction;
+        let mut sums = [[0; 17]; 17];
+        for i in 0..17 {
+            sums[i] = rows::sums_of(self.rows[i]);
+        }
         if target < 16 {
             if base < 17 {
-                let own = rows::own_row(self.rows[base], target, change.up);
-                let mask = rows::mask_row(target);
+                let own = rows::own_sums(sums[base], target, change.up);
                 for i in 0..17 {
-                    let row = self.rows[i];
-                    let to = sums::concat(row.sums[base], change.down);
-                    self.rows[i] = rows::rerouted_row(row, mask, to);
+                    sums[i][target] = sums::concat(sums[i][base], change.down);
                 }
-                self.rows[target] = own;
+                sums[target] = own;
             }
         }
         let facts = change.facts;
@@ -88,18 +90,22 @@ impl FactSet {
             let k = fact.k;
             if x < 17 {
                 if y < 17 {
-                    if !self.contradiction {
-                        let from = self.rows[x];
-                        if k < from.sums[y] {
-                            let through = self.rows[y];
-                            if sums::concat(through.sums[x], k) < sums::BIAS {
-                                self.contradiction = true;
+                    if !mark {
+                        if k < sums[x][y] {
+                            if sums::concat(sums[y][x], k) < sums::BIAS {
+                                mark = true;
                             } else {
+                                let through = sums[y];
+                                let plain = rows::all_plain(through);
                                 for i in 0..17 {
-                                    let row = self.rows[i];
-                                    let start = sums::concat(row.sums[x], k);
-                                    if start < row.sums[y] {
-                                        self.rows[i] = rows::lowered_row(row, start, through);
+                                    let start = sums::concat(sums[i][x], k);
+                                    if start < sums[i][y] {
+                                        sums[i] = rows::lowered_sums(
+                                            sums[i],
+                                            start,
+                                            through,
+                                            plain,
+                                        );
                                     }
                                 }
                             }
@@ -108,7 +114,15 @@ impl FactSet {
                 }
             }
         }
-        self
+        let blank = Row { sums: [0; 17] };
+        let mut next = FactSet {
+            rows: [blank; 17],
+            contradiction: mark,
+        };
+        for i in 0..17 {
+            next.rows[i] = rows::row_of(sums[i]);
+        }
+        next
     }
 
     // With x <= y + k besides.
@@ -145,6 +159,14 @@ impl FactSet {
         if other.contradiction {
             return self;
         }
+        self.join_both(other, pointers)
+    }
+
+    // The same where neither side contradicts: apart, so that the sides are copied only where each sum is asked for.
+    fn join_both(self, other: FactSet, pointers: [bool; 17]) -> FactSet
+        requires { ⌜ (contradictory self ≡ false) × (contradictory other ≡ false) ⌝ }
+        ensures { λ r. ⌜ r ≡ joined (λ n. getD pointers n false) self other ⌝ }
+    {
         let zero = rows::greatest_row(self.rows[16], other.rows[16]);
         let mut next = self;
         for i in 0..16 {

@@ -1,16 +1,16 @@
 // The rows of a fact set: the sums from one variable, or from zero, to each.
 use sums::BIAS;
+use sums::LIMIT;
 use sums::MAX_SUM;
-use sums::UNBOUNDED;
 use sums::concat;
 ghost use mathlib.Core.Path.{_≡_};
-ghost use mathlib.Core.Bool.{false, cond};
-ghost use Prim.Native.Nat.{_+_, _<_, _≤_, min, max};
+ghost use mathlib.Core.Bool.{true, false, cond};
+ghost use Prim.Native.Nat.{_+_, _≤_, min, max};
 ghost use lib.ListN.{getD, length};
-ghost use lib.Dec.{eqb};
-ghost use Rattle.facts.specs.Store.{newSum, newRow, ownRow};
+ghost use Rattle.sums.specs.Sums.{concatenated};
+ghost use Rattle.facts.specs.Store.{newSum, newRow, ownRow, rowWith};
 ghost use Rattle.facts.specs.Words.{loadedRow, RowSaved};
-ghost use Rattle.facts.specs.Rows.{shortenedRow, IsMask, Masks, maskRow, mergedRow, greatestRow, throughZero};
+ghost use Rattle.facts.specs.Rows.{isPlain, AllPlain, shortenedRow, greatestRow, throughZero};
 
 pub struct Row {
     pub sums: [u64; 17],
@@ -32,14 +32,6 @@ fn choose(first: bool, a: u64, b: u64) -> u64
     ensures { λ r. ⌜ r ≡ cond first a b ⌝ }
 {
     if first { a } else { b }
-}
-
-// b where every bit of the mask is set, a where none is; unlike a choice, a row of these is done several at a time.
-fn merge(mask: u64, a: u64, b: u64) -> u64
-    requires { ⌜ IsMask mask ⌝ }
-    ensures { λ r. ⌜ r ≡ cond (eqb mask 0) a b ⌝ }
-{
-    a ^ ((a ^ b) & mask)
 }
 
 fn new_sum(i: usize, j: usize) -> u64
@@ -64,46 +56,88 @@ pub(crate) fn new_row(i: usize) -> Row
     next
 }
 
-// The row with every sum lowered to the chain that begins with the sum `start` and goes on as `through`.
-pub(crate) fn lowered_row(row: Row, start: u64, through: Row) -> Row
-    ensures { λ r. ⌜ r ≡ shortenedRow row start through ⌝ }
+// The sums of a row, and a row of sums. Sixteen and the last one: a copy of 136 bytes is a call, one of 128 is not.
+pub(crate) fn sums_of(row: Row) -> [u64; 17]
+    ensures { λ r. ⌜ (rowWith r ≡ row) × (length r ≡ 17) ⌝ }
+{
+    let mut next = [0; 17];
+    for j in 0..16 {
+        next[j] = row.sums[j];
+    }
+    next[16] = row.sums[16];
+    next
+}
+
+pub(crate) fn row_of(sums: [u64; 17]) -> Row
+    ensures { λ r. ⌜ r ≡ rowWith sums ⌝ }
+{
+    let mut next = Row { sums: [0; 17] };
+    for j in 0..16 {
+        next.sums[j] = sums[j];
+    }
+    next.sums[16] = sums[16];
+    next
+}
+
+// Two plain sums are added with no test. All sums of a set that arises are plain, but no method asks that of its caller.
+fn is_plain(sum: u64) -> bool
+    ensures { λ r. ⌜ r ≡ isPlain sum ⌝ }
+{
+    (4294967296 <= sum) & (sum < LIMIT)
+}
+
+pub(crate) fn all_plain(sums: [u64; 17]) -> bool
+    ensures { λ r. ⌜ (r ≡ true → AllPlain sums 17) ⌝ }
+{
+    let mut plain = true;
+    for j in 0..17 {
+        plain = plain & is_plain(sums[j]);
+    }
+    plain
+}
+
+fn concat_plain(a: u64, b: u64) -> u64
+    requires { ⌜ (isPlain a ≡ true) × (isPlain b ≡ true) ⌝ }
+    ensures { λ r. ⌜ r ≡ concatenated a b ⌝ }
+{
+    a + b - BIAS
+}
+
+fn lowered_plain(row: [u64; 17], start: u64, through: [u64; 17]) -> [u64; 17]
+    requires { ⌜ (isPlain start ≡ true) × AllPlain through 17 ⌝ }
+    ensures { λ r. ⌜ rowWith r ≡ shortenedRow (rowWith row) start (rowWith through) ⌝ }
 {
     let mut next = row;
     for j in 0..17 {
-        next.sums[j] = least(row.sums[j], concat(start, through.sums[j]));
+        next[j] = least(row[j], concat_plain(start, through[j]));
+    }
+    next
+}
+
+// The row with every sum lowered to the chain that begins with the sum `start` and goes on as `through`; `plain` tells that all sums of `through` are.
+pub(crate) fn lowered_sums(row: [u64; 17], start: u64, through: [u64; 17], plain: bool) -> [u64; 17]
+    requires { ⌜ (plain ≡ true → AllPlain through 17) ⌝ }
+    ensures { λ r. ⌜ rowWith r ≡ shortenedRow (rowWith row) start (rowWith through) ⌝ }
+{
+    if plain {
+        if is_plain(start) {
+            return lowered_plain(row, start, through);
+        }
+    }
+    let mut next = row;
+    for j in 0..17 {
+        next[j] = least(row[j], concat(start, through[j]));
     }
     next
 }
 
 // The row of x itself where x is at most `up` above the variable whose row is `base`.
-pub(crate) fn own_row(base: Row, x: usize, up: u64) -> Row
-    ensures { λ r. ⌜ r ≡ ownRow base x up ⌝ }
+pub(crate) fn own_sums(base: [u64; 17], x: usize, up: u64) -> [u64; 17]
+    ensures { λ r. ⌜ rowWith r ≡ ownRow (rowWith base) x up ⌝ }
 {
     let mut next = base;
     for j in 0..17 {
-        next.sums[j] = choose(j == x, BIAS, concat(up, base.sums[j]));
-    }
-    next
-}
-
-// The row of masks that picks x alone. The one store matters: what a choice makes is compiled back into a choice for each sum.
-pub(crate) fn mask_row(x: usize) -> Row
-    requires { ⌜ x < 17 ⌝ }
-    ensures { λ r. ⌜ r ≡ maskRow x ⌝ }
-{
-    let mut next = Row { sums: [0; 17] };
-    next.sums[x] = UNBOUNDED;
-    next
-}
-
-// The row with another sum where a mask stands.
-pub(crate) fn rerouted_row(row: Row, mask: Row, to: u64) -> Row
-    requires { ⌜ Masks mask ⌝ }
-    ensures { λ r. ⌜ r ≡ mergedRow row mask to ⌝ }
-{
-    let mut next = row;
-    for j in 0..17 {
-        next.sums[j] = merge(mask.sums[j], row.sums[j], to);
+        next[j] = choose(j == x, BIAS, concat(up, base[j]));
     }
     next
 }

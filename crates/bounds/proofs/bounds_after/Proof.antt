@@ -3,14 +3,12 @@ use borrow.Author.Needs.{needs}
 use borrow.Author.Tests.{not-false}
 use Prim.Native.Nat.{_-_}
 use native.Mathlib.Omega.{arith}
-use mathlib.Core.Path.{sym, _∙_}
 use mathlib.Core.Logic.{⊎-elim}
 use Rattle.arrays.specs.TabulateLaws.{Filled, filled-none, filled-whole, length-under}
 use Rattle.rules.specs.Stored.{effectOn, boundsAfter}
 use Rattle.rules.specs.BoundsRules as boundsRules
-use Rattle.bounds.specs.StaysLaws.{stays-read}
 use Rattle.bounds.specs.TransferLaws.{source-below}
-use Rattle.bounds.specs.BoundsRulesLaws.{all-kept, filled-stays, filled-anew}
+use Rattle.bounds.specs.BoundsRulesLaws.{all-kept, filled-same, filled-anew}
 use Rattle.bounds.proofs.bounds_after.Statement.{statement}
 use Rattle.bounds.proofs.bounds_after.Tie as tie
 
@@ -38,7 +36,7 @@ bounds-after-spec =
     let start = at .before .before .before .before .before .before .before in
     ⊎-elim
     (λ w. rw (w .2) (filled-anew (start .args .effect) (at .loop .inv) (c .before .before .before .loop-test .taken) (search (length-under, needs)) (at .before .before .before .before .source-of .result) (start .pre) (at .before .before .before .before .source-of .ensures) (w .1 .ensures)))
-    (λ w. rw (w .1) (filled-stays (start .args .effect) (at .loop .inv) (c .before .before .before .loop-test .taken) (search (length-under, needs))
-    (sym (stays-read _ _ _ (c .before .before .before .loop-test .taken) (at .before .before .changed-by .ensures) (at .before .replaced-by .ensures) (c .before .left-alone .ensures)) ∙ not-false _ (w .0 .left))))
+    (λ w. rw (w .1) (filled-same (start .args .effect) (at .loop .inv) (c .before .before .before .loop-test .taken) (search (length-under, needs))
+    (at .before .before .changed-by .ensures) (at .before .replaced-by .ensures) (c .before .made-same .ensures) (not-false _ (w .0 .left))))
     (c .if2 .came))
     (λ c. filled-whole (c .before .loop .inv) (c .loop-test .left)))

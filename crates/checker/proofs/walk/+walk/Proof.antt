@@ -16,7 +16,7 @@ use Rattle.bundles.specs.declared.Walked.{Walked}
 use Rattle.checker.specs.WalkLaws.{Kept, Turn, carried-from, arm, placed, falls as left-falls, negated-offset, if-counts, while-count, bundle-count, if-offset, while-offset, plain-ranged, kept-none, kept-done, kept-end, kept-unread, plain-refused}
 use Rattle.checker.specs.PlaceLaws.{then-placed, else-placed, body-placed}
 use Rattle.checker.specs.WalkLaws.{turn-plain, turn-untouched, at-node, then-refused, else-refused, turn-if, body-refused, turn-while, bundle-refused, turn-bundle, row-named-within, same-force, row-refused, turn-row, sides-differ, ends-differ, before-refused, again-refused, call-refused}
-use Rattle.checker.specs.WalkLaws.{turn-call}
+use Rattle.checker.specs.WalkLaws.{turn-call, empty-walks, settled, settled-walks, no-entries}
 use Rattle.checker.proofs.walk.walk.Reads as walk
 use Rattle.checker.proofs.walk.walk.Kinds as walk-kinds
 use Rattle.checker.proofs.walk.+walk.Lts-walk as walk-lts
@@ -98,10 +98,10 @@ callees t = (
   join-reads.Learnt,
   force-of-reads.Asked,
   force-of-reads.Learnt,
-  lose-reads.Asked,
-  lose-reads.Learnt,
   check-entries-reads.Asked,
   check-entries-reads.Learnt,
+  lose-reads.Asked,
+  lose-reads.Learnt,
   assume-entries-reads.Asked,
   assume-entries-reads.Learnt,
   walk-bundle-reads.Asked,
@@ -113,12 +113,12 @@ callees t = (
 )
 
 abbrev Inv : walk-lts.InvT-loop
-Inv table sections listed frame first end allowed words called sizes spans pointers at₀ left₀ force₀ now₀ side₀ at left force now side = Kept table sections (environmentOf table sections) listed (calleesIn words called) end allowed (parse allowed table sections first end)
+Inv table sections listed frame first end allowed words called sizes spans pointers at₀ left₀ force₀ now₀ at left force now = Kept table sections (environmentOf table sections) listed (calleesIn words called) end allowed (parse allowed table sections first end)
     (stateOf (now₀ .facts) (force₀ .rows .each))
     (now₀ .report .words) at left (now .facts) force (now .report .words)
 
 abbrev μ : walk-lts.MeasureT-loop
-μ table sections listed frame first end allowed words called sizes spans pointers at₀ left₀ force₀ now₀ side₀ at left force now side = left
+μ table sections listed frame first end allowed words called sizes spans pointers at₀ left₀ force₀ now₀ at left force now = left
 
 -- the turn, once its statement is read
 turn : (t : ℕ) (d : walk-lts.After-known-told (callees t) (walk-at t) walk.Post Inv μ)
@@ -215,102 +215,34 @@ pub +walk-spec : {M : Type 1} → statement M
     (λ c κs. search needs)
     (λ c κs. if-offset (arm (turn t (c .before .before .before .before .before)) (c .before .before .before .statement2 .given .1)))
     (λ c κs. search needs)
-    (λ c κs. (
-      left-falls (turn t (c .before .before .before .before .before .before .before)) (c .before .before .before .before .before .before .before .before .before .before .before .before .before .before .before .before .before .before .before .before .before .pre .0),
-      (
-        c .before .before .before .before .before .before .before .before .before .before .before .before .before .before .before .before .before .before .before .before .before .pre .1 .0,
-        c .before .before .before .before .before .before .before .before .before .before .before .before .before .before .before .before .before .before .before .before .before .pre .1 .1,
-        (turn t (c .before .before .before .before .before .before .before)) .so-far .forced,
-        let u = arm (turn t (c .before .before .before .before .before .before .before)) (c .before .before .before .before .before .statement2 .given .1) in then-placed (u .read) (at-node u),
-        c .before .before .before .before .before .before .before .before .before .before .before .before .before .before .before .before .before .before .before .before .before .pre .1 .4,
-      ),
-    ))
+    (λ c κs. (left-falls (turn t (c .before .before .before .before .before .before .before .before)) (c .before .before .before .before .before .before .before .before .before .before .before .before .before .before .before .before .before .before .before .before .before .before .pre .0), (c .before .before .before .before .before .before .before .before .before .before .before .before .before .before .before .before .before .before .before .before .before .before .pre .1 .0, c .before .before .before .before .before .before .before .before .before .before .before .before .before .before .before .before .before .before .before .before .before .before .pre .1 .1, (turn t (c .before .before .before .before .before .before .before .before)) .so-far .forced, let u = arm (turn t (c .before .before .before .before .before .before .before .before)) (c .before .before .before .before .before .before .statement2 .given .1) in then-placed (u .read) (at-node u), c .before .before .before .before .before .before .before .before .before .before .before .before .before .before .before .before .before .before .before .before .before .before .pre .1 .4)))
     (λ c. search needs)
     (λ c. search needs)
-    (λ c. then-refused (arm (turn t (c .before .before .before .before .before .before .before .before .before .before)) (c .before .before .before .before .before .before .before .before .statement2 .given .1)) (assumed _ _ _
-    (c .before .before .before .before .before .before .ask-condition .ensures) (c .before .before .before .before .before .answer2 .ensures) (c .before .before .before .before .assume .ensures) (c .before .before .before .after2 .ensures)) (c .before .before .walk .ensures)
-    (c .enum-told8 .given .1))
+    (λ c. then-refused (arm (turn t (c .before .before .before .before .before .before .before .before .before .before)) (c .before .before .before .before .before .before .before .before .statement2 .given .1)) (assumed _ _ _ (c .before .before .before .before .before .before .ask-condition .ensures) (c .before .before .before .before .before .answer2 .ensures) (c .before .before .before .before .assume .ensures) (c .before .before .before .after2 .ensures)) {r = c .before .before .if4 .side} (⊎-elim (λ w. rw (w .2) (w .1 .ensures)) (λ w. rw (w .1) (empty-walks _ _ _ _ _ _ _ _ _ _ _ (w .0 .left))) (c .before .before .if4 .came)) (c .enum-told8 .given .1))
     (λ c κs. search needs)
     (λ c κs. negated-offset _ _ (c .negated .ensures) (if-offset (arm (turn t (c .before .before .before .before .before .before .before .before .before .before .before)) (c .before .before .before .before .before .before .before .before .before .statement2 .given .1))))
     (λ c κs. search needs)
-    (λ c κs. (
-      left-falls (turn t (c .before .before .before .before .before .before .before .before .before .before .before .before .before))
-          (c .before .before .before .before .before .before .before .before .before .before .before .before .before .before .before .before .before .before .before .before .before .before .before .before .before .before .before .pre .0),
-      (
-        c .before .before .before .before .before .before .before .before .before .before .before .before .before .before .before .before .before .before .before .before .before .before .before .before .before .before .before .pre .1 .0,
-        c .before .before .before .before .before .before .before .before .before .before .before .before .before .before .before .before .before .before .before .before .before .before .before .before .before .before .before .pre .1 .1,
-        (turn t
-            (c .before .before .before .before .before .before .before .before .before .before .before .before .before)) .so-far .forced,
-        let u = arm (turn t (c .before .before .before .before .before .before .before .before .before .before .before .before .before)) (c .before .before .before .before .before .before .before .before .before .before .before .statement2 .given .1) in else-placed (u .read) (at-node u),
-        c .before .before .before .before .before .before .before .before .before .before .before .before .before .before .before .before .before .before .before .before .before .before .before .before .before .before .before .pre .1 .4,
-      ),
-    ))
+    (λ c κs. (left-falls (turn t (c .before .before .before .before .before .before .before .before .before .before .before .before .before .before .before)) (c .before .before .before .before .before .before .before .before .before .before .before .before .before .before .before .before .before .before .before .before .before .before .before .before .before .before .before .before .before .pre .0), (c .before .before .before .before .before .before .before .before .before .before .before .before .before .before .before .before .before .before .before .before .before .before .before .before .before .before .before .before .before .pre .1 .0, c .before .before .before .before .before .before .before .before .before .before .before .before .before .before .before .before .before .before .before .before .before .before .before .before .before .before .before .before .before .pre .1 .1, (turn t (c .before .before .before .before .before .before .before .before .before .before .before .before .before .before .before)) .so-far .forced, let u = arm (turn t (c .before .before .before .before .before .before .before .before .before .before .before .before .before .before .before)) (c .before .before .before .before .before .before .before .before .before .before .before .before .before .statement2 .given .1) in else-placed (u .read) (at-node u), c .before .before .before .before .before .before .before .before .before .before .before .before .before .before .before .before .before .before .before .before .before .before .before .before .before .before .before .before .before .pre .1 .4)))
     (λ c. search needs)
     (λ c. search needs)
-    (λ c. else-refused (arm (turn t (c .before .before .before .before .before .before .before .before .before .before .before .before .before .before .before .before))
-    (c .before .before .before .before .before .before .before .before .before .before .before .before .before .before .statement2 .given .1)) (assumed _ _ _
-    (c .before .before .before .before .before .before .before .before .before .before .before .before .ask-condition .ensures) (c .before .before .before .before .before .before .before .before .before .before .before .answer2 .ensures)
-    (c .before .before .before .before .before .before .before .before .before .before .assume .ensures) (c .before .before .before .before .before .before .before .before .before .after2 .ensures))
-    (c .before .before .before .before .before .before .before .before .walk .ensures) (c .before .before .before .before .before .before .enum-told7 .given .1) (c .before .before .before .before .before .negated .ensures) (assumed _ _ _ (negated-asked _ _
-    (c .before .before .before .before .before .negated .ensures) (c .before .before .before .before .before .before .before .before .before .before .before .before .ask-condition .ensures))
-    (c .before .before .before .before .before .before .before .before .before .before .before .answer2 .ensures) (c .before .before .before .before .assume2 .ensures) (c .before .before .before .after3 .ensures)) (c .before .before .walk2 .ensures) (c .enum-told10 .given .1))
+    (λ c. else-refused (arm (turn t (c .before .before .before .before .before .before .before .before .before .before .before .before .before .before .before .before .before .before)) (c .before .before .before .before .before .before .before .before .before .before .before .before .before .before .before .before .statement2 .given .1)) (assumed _ _ _ (c .before .before .before .before .before .before .before .before .before .before .before .before .before .before .ask-condition .ensures) (c .before .before .before .before .before .before .before .before .before .before .before .before .before .answer2 .ensures) (c .before .before .before .before .before .before .before .before .before .before .before .before .assume .ensures) (c .before .before .before .before .before .before .before .before .before .before .before .after2 .ensures)) {r = c .before .before .before .before .before .before .before .before .before .before .if4 .side} (⊎-elim (λ w. rw (w .2) (w .1 .ensures)) (λ w. rw (w .1) (empty-walks _ _ _ _ _ _ _ _ _ _ _ (w .0 .left))) (c .before .before .before .before .before .before .before .before .before .before .if4 .came)) (c .before .before .before .before .before .before .before .before .enum-told7 .given .1) (c .before .before .before .before .before .before .before .negated .ensures) (assumed _ _ _ (negated-asked _ _ (c .before .before .before .before .before .before .before .negated .ensures) (c .before .before .before .before .before .before .before .before .before .before .before .before .before .before .ask-condition .ensures)) (c .before .before .before .before .before .before .before .before .before .before .before .before .before .answer2 .ensures) (c .before .before .before .before .before .before .assume2 .ensures) (c .before .before .before .before .before .after3 .ensures)) (c .before .before .walk2 .ensures) (c .enum-told10 .given .1))
     (λ c κs. search needs)
-    (λ c. sides-differ (arm (turn t (c .before .before .before .before .before .before .before .before .before .before .before .before .before .before .before .before .before .before .before .before))
-    (c .before .before .before .before .before .before .before .before .before .before .before .before .before .before .before .before .before .before .statement2 .given .1)) (assumed _ _ _
-    (c .before .before .before .before .before .before .before .before .before .before .before .before .before .before .before .before .ask-condition .ensures)
-    (c .before .before .before .before .before .before .before .before .before .before .before .before .before .before .before .answer2 .ensures)
-    (c .before .before .before .before .before .before .before .before .before .before .before .before .before .before .assume .ensures) (c .before .before .before .before .before .before .before .before .before .before .before .before .before .after2 .ensures))
-    (c .before .before .before .before .before .before .before .before .before .before .before .before .walk .ensures) (c .before .before .before .before .before .before .before .before .before .before .enum-told7 .given .1)
-    (c .before .before .before .before .before .before .before .before .before .negated .ensures) (assumed _ _ _ (negated-asked _ _ (c .before .before .before .before .before .before .before .before .before .negated .ensures)
-    (c .before .before .before .before .before .before .before .before .before .before .before .before .before .before .before .before .ask-condition .ensures))
-    (c .before .before .before .before .before .before .before .before .before .before .before .before .before .before .before .answer2 .ensures) (c .before .before .before .before .before .before .before .before .assume2 .ensures)
-    (c .before .before .before .before .before .before .before .after3 .ensures)) (c .before .before .before .before .before .before .walk2 .ensures) (c .before .before .before .before .enum-told9 .given .1) (c .before .before .same-rows .ensures) (not-true _
-    (c .before .if4 .taken)) refl)
+    (λ c. sides-differ (arm (turn t (c .before .before .before .before .before .before .before .before .before .before .before .before .before .before .before .before .before .before .before)) (c .before .before .before .before .before .before .before .before .before .before .before .before .before .before .before .before .before .statement2 .given .1)) (assumed _ _ _ (c .before .before .before .before .before .before .before .before .before .before .before .before .before .before .before .ask-condition .ensures) (c .before .before .before .before .before .before .before .before .before .before .before .before .before .before .answer2 .ensures) (c .before .before .before .before .before .before .before .before .before .before .before .before .before .assume .ensures) (c .before .before .before .before .before .before .before .before .before .before .before .before .after2 .ensures)) {r = c .before .before .before .before .before .before .before .before .before .before .before .if4 .side} (⊎-elim (λ w. rw (w .2) (w .1 .ensures)) (λ w. rw (w .1) (empty-walks _ _ _ _ _ _ _ _ _ _ _ (w .0 .left))) (c .before .before .before .before .before .before .before .before .before .before .before .if4 .came)) (c .before .before .before .before .before .before .before .before .before .enum-told7 .given .1) (c .before .before .before .before .before .before .before .before .negated .ensures) (assumed _ _ _ (negated-asked _ _ (c .before .before .before .before .before .before .before .before .negated .ensures) (c .before .before .before .before .before .before .before .before .before .before .before .before .before .before .before .ask-condition .ensures)) (c .before .before .before .before .before .before .before .before .before .before .before .before .before .before .answer2 .ensures) (c .before .before .before .before .before .before .before .assume2 .ensures) (c .before .before .before .before .before .before .after3 .ensures)) {o = settled (c .before .before .before .before .if5 .now)} (⊎-elim (λ w. rw (w .4) (settled-walks (w .1 .ensures) (w .3 .given .1))) (λ w. rw (w .1) (empty-walks _ _ _ _ _ _ _ _ _ _ _ (w .0 .left))) (c .before .before .before .before .if5 .came)) refl (c .before .before .same-rows .ensures) (not-true _ (c .before .if6 .taken)) refl)
     (λ c κs. search needs)
     (λ c κs. search needs)
     (λ c κs. search needs)
-    (λ c. omega (arith, (turn t (c .before .before .before .before .before .before .before .before .before .before .before .before .before .before .before .before .before .before .before .before .before .before .before)) .some))
-    (λ c. turn-if (arm (turn t (c .before .before .before .before .before .before .before .before .before .before .before .before .before .before .before .before .before .before .before .before .before .before .before))
-    (c .before .before .before .before .before .before .before .before .before .before .before .before .before .before .before .before .before .before .before .before .before .statement2 .given .1)) (assumed _ _ _
-    (c .before .before .before .before .before .before .before .before .before .before .before .before .before .before .before .before .before .before .before .ask-condition .ensures)
-    (c .before .before .before .before .before .before .before .before .before .before .before .before .before .before .before .before .before .before .answer2 .ensures)
-    (c .before .before .before .before .before .before .before .before .before .before .before .before .before .before .before .before .before .assume .ensures)
-    (c .before .before .before .before .before .before .before .before .before .before .before .before .before .before .before .before .after2 .ensures))
-    (c .before .before .before .before .before .before .before .before .before .before .before .before .before .before .before .walk .ensures) (c .before .before .before .before .before .before .before .before .before .before .before .before .before .enum-told7 .given .1)
-    (c .before .before .before .before .before .before .before .before .before .before .before .before .negated .ensures) (assumed _ _ _ (negated-asked _ _ (c .before .before .before .before .before .before .before .before .before .before .before .before .negated .ensures)
-    (c .before .before .before .before .before .before .before .before .before .before .before .before .before .before .before .before .before .before .before .ask-condition .ensures))
-    (c .before .before .before .before .before .before .before .before .before .before .before .before .before .before .before .before .before .before .answer2 .ensures)
-    (c .before .before .before .before .before .before .before .before .before .before .before .assume2 .ensures) (c .before .before .before .before .before .before .before .before .before .before .after3 .ensures))
-    (c .before .before .before .before .before .before .before .before .before .walk2 .ensures) (c .before .before .before .before .before .before .before .enum-told9 .given .1) (c .before .before .before .before .before .same-rows .ensures) (not-false _
-    (c .before .before .before .before .if4 .left))
-    (c .before .before .before .before .before .before .before .before .before .before .before .before .before .before .before .before .before .before .before .before .before .before .before .before .before .before .before .before .before .before .before .before .before .before
-    .before .before .before .pre .1 .1
-    .pointers) (c .before .before .before .join .ensures) (c .force-of .ensures))
     (λ c. omega (arith, (turn t (c .before .before .before .before .before .before .before .before .before .before .before .before .before .before .before .before .before .before .before .before .before .before)) .some))
-    (λ c. turn-if (arm (turn t (c .before .before .before .before .before .before .before .before .before .before .before .before .before .before .before .before .before .before .before .before .before .before))
-    (c .before .before .before .before .before .before .before .before .before .before .before .before .before .before .before .before .before .before .before .before .statement2 .given .1)) (assumed _ _ _
-    (c .before .before .before .before .before .before .before .before .before .before .before .before .before .before .before .before .before .before .ask-condition .ensures)
-    (c .before .before .before .before .before .before .before .before .before .before .before .before .before .before .before .before .before .answer2 .ensures)
-    (c .before .before .before .before .before .before .before .before .before .before .before .before .before .before .before .before .assume .ensures)
-    (c .before .before .before .before .before .before .before .before .before .before .before .before .before .before .before .after2 .ensures)) (c .before .before .before .before .before .before .before .before .before .before .before .before .before .before .walk .ensures)
-    (c .before .before .before .before .before .before .before .before .before .before .before .before .enum-told7 .given .1) (c .before .before .before .before .before .before .before .before .before .before .before .negated .ensures) (assumed _ _ _ (negated-asked _ _
-    (c .before .before .before .before .before .before .before .before .before .before .before .negated .ensures)
-    (c .before .before .before .before .before .before .before .before .before .before .before .before .before .before .before .before .before .before .ask-condition .ensures))
-    (c .before .before .before .before .before .before .before .before .before .before .before .before .before .before .before .before .before .answer2 .ensures) (c .before .before .before .before .before .before .before .before .before .before .assume2 .ensures)
-    (c .before .before .before .before .before .before .before .before .before .after3 .ensures)) (c .before .before .before .before .before .before .before .before .walk2 .ensures) (c .before .before .before .before .before .before .enum-told9 .given .1)
-    (c .before .before .before .before .same-rows .ensures) (not-false _ (c .before .before .before .if4 .left))
-    (c .before .before .before .before .before .before .before .before .before .before .before .before .before .before .before .before .before .before .before .before .before .before .before .before .before .before .before .before .before .before .before .before .before .before
-    .before .before .pre .1 .1
-    .pointers) (c .before .before .join .ensures)
-    (same-force ((turn t (c .before .before .before .before .before .before .before .before .before .before .before .before .before .before .before .before .before .before .before .before .before .before)) .so-far .forced) (c .before .same-rows2 .ensures) (not-false _ (c .if5 .left))))
+    (λ c. turn-if (arm (turn t (c .before .before .before .before .before .before .before .before .before .before .before .before .before .before .before .before .before .before .before .before .before .before)) (c .before .before .before .before .before .before .before .before .before .before .before .before .before .before .before .before .before .before .before .before .statement2 .given .1)) (assumed _ _ _ (c .before .before .before .before .before .before .before .before .before .before .before .before .before .before .before .before .before .before .ask-condition .ensures) (c .before .before .before .before .before .before .before .before .before .before .before .before .before .before .before .before .before .answer2 .ensures) (c .before .before .before .before .before .before .before .before .before .before .before .before .before .before .before .before .assume .ensures) (c .before .before .before .before .before .before .before .before .before .before .before .before .before .before .before .after2 .ensures)) {r = c .before .before .before .before .before .before .before .before .before .before .before .before .before .before .if4 .side} (⊎-elim (λ w. rw (w .2) (w .1 .ensures)) (λ w. rw (w .1) (empty-walks _ _ _ _ _ _ _ _ _ _ _ (w .0 .left))) (c .before .before .before .before .before .before .before .before .before .before .before .before .before .before .if4 .came)) (c .before .before .before .before .before .before .before .before .before .before .before .before .enum-told7 .given .1) (c .before .before .before .before .before .before .before .before .before .before .before .negated .ensures) (assumed _ _ _ (negated-asked _ _ (c .before .before .before .before .before .before .before .before .before .before .before .negated .ensures) (c .before .before .before .before .before .before .before .before .before .before .before .before .before .before .before .before .before .before .ask-condition .ensures)) (c .before .before .before .before .before .before .before .before .before .before .before .before .before .before .before .before .before .answer2 .ensures) (c .before .before .before .before .before .before .before .before .before .before .assume2 .ensures) (c .before .before .before .before .before .before .before .before .before .after3 .ensures)) {o = settled (c .before .before .before .before .before .before .before .if5 .now)} (⊎-elim (λ w. rw (w .4) (settled-walks (w .1 .ensures) (w .3 .given .1))) (λ w. rw (w .1) (empty-walks _ _ _ _ _ _ _ _ _ _ _ (w .0 .left))) (c .before .before .before .before .before .before .before .if5 .came)) refl (c .before .before .before .before .before .same-rows .ensures) (not-false _ (c .before .before .before .before .if6 .left)) (c .before .before .before .before .before .before .before .before .before .before .before .before .before .before .before .before .before .before .before .before .before .before .before .before .before .before .before .before .before .before .before .before .before .before .before .before .pre .1 .1 .pointers) (c .before .before .before .join .ensures) (c .force-of .ensures))
+    (λ c. omega (arith, (turn t (c .before .before .before .before .before .before .before .before .before .before .before .before .before .before .before .before .before .before .before .before .before)) .some))
+    (λ c. turn-if (arm (turn t (c .before .before .before .before .before .before .before .before .before .before .before .before .before .before .before .before .before .before .before .before .before)) (c .before .before .before .before .before .before .before .before .before .before .before .before .before .before .before .before .before .before .before .statement2 .given .1)) (assumed _ _ _ (c .before .before .before .before .before .before .before .before .before .before .before .before .before .before .before .before .before .ask-condition .ensures) (c .before .before .before .before .before .before .before .before .before .before .before .before .before .before .before .before .answer2 .ensures) (c .before .before .before .before .before .before .before .before .before .before .before .before .before .before .before .assume .ensures) (c .before .before .before .before .before .before .before .before .before .before .before .before .before .before .after2 .ensures)) {r = c .before .before .before .before .before .before .before .before .before .before .before .before .before .if4 .side} (⊎-elim (λ w. rw (w .2) (w .1 .ensures)) (λ w. rw (w .1) (empty-walks _ _ _ _ _ _ _ _ _ _ _ (w .0 .left))) (c .before .before .before .before .before .before .before .before .before .before .before .before .before .if4 .came)) (c .before .before .before .before .before .before .before .before .before .before .before .enum-told7 .given .1) (c .before .before .before .before .before .before .before .before .before .before .negated .ensures) (assumed _ _ _ (negated-asked _ _ (c .before .before .before .before .before .before .before .before .before .before .negated .ensures) (c .before .before .before .before .before .before .before .before .before .before .before .before .before .before .before .before .before .ask-condition .ensures)) (c .before .before .before .before .before .before .before .before .before .before .before .before .before .before .before .before .answer2 .ensures) (c .before .before .before .before .before .before .before .before .before .assume2 .ensures) (c .before .before .before .before .before .before .before .before .after3 .ensures)) {o = settled (c .before .before .before .before .before .before .if5 .now)} (⊎-elim (λ w. rw (w .4) (settled-walks (w .1 .ensures) (w .3 .given .1))) (λ w. rw (w .1) (empty-walks _ _ _ _ _ _ _ _ _ _ _ (w .0 .left))) (c .before .before .before .before .before .before .if5 .came)) refl (c .before .before .before .before .same-rows .ensures) (not-false _ (c .before .before .before .if6 .left)) (c .before .before .before .before .before .before .before .before .before .before .before .before .before .before .before .before .before .before .before .before .before .before .before .before .before .before .before .before .before .before .before .before .before .before .before .pre .1 .1 .pointers) (c .before .before .join .ensures) (same-force ((turn t (c .before .before .before .before .before .before .before .before .before .before .before .before .before .before .before .before .before .before .before .before .before)) .so-far .forced) (c .before .same-rows2 .ensures) (not-false _ (c .if7 .left))))
     (λ c. search needs)
     (λ c. let u = (arm (turn t (c .before .before .before)) (c .before .statement3 .given .1)) in omega (arith, placed u, while-count u))
-    (λ c κs. let u = (arm (turn t (c .before .before .before)) (c .before .statement3 .given .1)) in omega (arith, placed u, while-count u))
-    (λ c κs. (c .before .before .before .before .before .before .before .before .before .before .before .before .before .before .before .before .before .before .pre .1 .4, omega (arith, placed (turn t (c .before .before .before .before)))))
+    (λ c κs. (c .before .before .before .before .before .before .before .before .before .before .before .before .before .before .before .before .before .pre .1 .4, omega (arith, placed (turn t (c .before .before .before)))))
     (λ c. search needs)
     (λ c. search needs)
-    (λ c. before-refused (arm (turn t (c .before .before .before .before .before .before .before .before)) (c .before .before .before .before .before .before .statement3 .given .1)) (c .before .before .before .check-entries .ensures) refl (c .before .enum-told12 .given .1))
-    (λ c κs. (c .before .before .before .before .before .before .before .before .before .before .before .before .before .before .before .before .before .before .before .before .before .pre .1 .4, omega (arith, placed (turn t (c .before .before .before .before .before .before .before)))))
+    (λ c. before-refused (arm (turn t (c .before .before .before .before .before .before .before)) (c .before .before .before .before .before .statement3 .given .1)) (c .before .before .before .check-entries .ensures) refl (c .before .enum-told12 .given .1))
+    (λ c κs. let u = (arm (turn t (c .before .before .before .before .before .before)) (c .before .before .before .before .statement3 .given .1)) in omega (arith, placed u, while-count u))
+    (λ c κs. (c .before .before .before .before .before .before .before .before .before .before .before .before .before .before .before .before .before .before .before .before .before .before .pre .1 .4, omega (arith, placed (turn t (c .before .before .before .before .before .before .before .before)))))
     (λ c κs. while-offset (arm (turn t (c .before .before .before .before .before .before .before .before)) (c .before .before .before .before .before .before .statement3 .given .1)))
     (λ c κs. search needs)
     (λ c κs. while-offset (arm (turn t (c .before .before .before .before .before .before .before .before .before .before)) (c .before .before .before .before .before .before .before .before .statement3 .given .1)))
@@ -328,10 +260,7 @@ pub +walk-spec : {M : Type 1} → statement M
     ))
     (λ c. search needs)
     (λ c. search needs)
-    (λ c. body-refused (arm (turn t (c .before .before .before .before .before .before .before .before .before .before .before .before .before .before .before)) (c .before .before .before .before .before .before .before .before .before .before .before .before .before .statement3 .given .1))
-    (c .before .before .before .before .before .before .before .before .before .before .check-entries .ensures) (c .before .before .before .before .before .before .before .before .enum-told11 .given .1)
-    (c .before .before .before .before .before .before .before .before .before .before .before .lose .ensures) (c .before .before .before .before .before .before .before .assume-entries .ensures) (assumed _ _ _ (c .before .before .before .before .before .before .ask-condition2 .ensures)
-    (c .before .before .before .before .before .answer3 .ensures) (c .before .before .before .before .assume3 .ensures) (c .before .before .before .after4 .ensures)) (c .before .before .walk3 .ensures) (c .enum-told14 .given .1))
+    (λ c. body-refused (arm (turn t (c .before .before .before .before .before .before .before .before .before .before .before .before .before .before .before)) (c .before .before .before .before .before .before .before .before .before .before .before .before .before .statement3 .given .1)) (c .before .before .before .before .before .before .before .before .before .before .before .check-entries .ensures) (c .before .before .before .before .before .before .before .before .before .enum-told11 .given .1) (c .before .before .before .before .before .before .before .before .lose .ensures) (⊎-elim (λ w. ap (λ (r : Walked). r .facts) (w .2) ∙ w .1 .ensures) (λ w. ap (λ (r : Walked). r .facts) (w .1) ∙ no-entries _ _ _ (w .0 .left)) (c .before .before .before .before .before .before .before .if8 .came)) (assumed _ _ _ (c .before .before .before .before .before .before .ask-condition2 .ensures) (c .before .before .before .before .before .answer3 .ensures) (c .before .before .before .before .assume3 .ensures) (c .before .before .before .after4 .ensures)) (c .before .before .walk3 .ensures) (c .enum-told14 .given .1))
     (λ c κs. (
       c .before .before .before .before .before .before .before .before .before .before .before .before .before .before .before .before .before .before .before .before .before .before .before .before .before .before .before .before .before .pre .1 .4,
       omega (
@@ -342,40 +271,15 @@ pub +walk-spec : {M : Type 1} → statement M
     ))
     (λ c. search needs)
     (λ c. search needs)
-    (λ c. again-refused (arm (turn t (c .before .before .before .before .before .before .before .before .before .before .before .before .before .before .before .before .before .before .before))
-    (c .before .before .before .before .before .before .before .before .before .before .before .before .before .before .before .before .before .statement3 .given .1))
-    (c .before .before .before .before .before .before .before .before .before .before .before .before .before .before .check-entries .ensures) (c .before .before .before .before .before .before .before .before .before .before .before .before .enum-told11 .given .1)
-    (c .before .before .before .before .before .before .before .before .before .before .before .before .before .before .before .lose .ensures) (c .before .before .before .before .before .before .before .before .before .before .before .assume-entries .ensures) (assumed _ _ _
-    (c .before .before .before .before .before .before .before .before .before .before .ask-condition2 .ensures) (c .before .before .before .before .before .before .before .before .before .answer3 .ensures) (c .before .before .before .before .before .before .before .before .assume3 .ensures)
-    (c .before .before .before .before .before .before .before .after4 .ensures)) (c .before .before .before .before .before .before .walk3 .ensures) (c .before .before .before .before .enum-told13 .given .1) (c .before .before .before .check-entries2 .ensures) refl
-    (c .before .enum-told16 .given .1))
+    (λ c. again-refused (arm (turn t (c .before .before .before .before .before .before .before .before .before .before .before .before .before .before .before .before .before .before .before)) (c .before .before .before .before .before .before .before .before .before .before .before .before .before .before .before .before .before .statement3 .given .1)) (c .before .before .before .before .before .before .before .before .before .before .before .before .before .before .before .check-entries .ensures) (c .before .before .before .before .before .before .before .before .before .before .before .before .before .enum-told11 .given .1) (c .before .before .before .before .before .before .before .before .before .before .before .before .lose .ensures) (⊎-elim (λ w. ap (λ (r : Walked). r .facts) (w .2) ∙ w .1 .ensures) (λ w. ap (λ (r : Walked). r .facts) (w .1) ∙ no-entries _ _ _ (w .0 .left)) (c .before .before .before .before .before .before .before .before .before .before .before .if8 .came)) (assumed _ _ _ (c .before .before .before .before .before .before .before .before .before .before .ask-condition2 .ensures) (c .before .before .before .before .before .before .before .before .before .answer3 .ensures) (c .before .before .before .before .before .before .before .before .assume3 .ensures) (c .before .before .before .before .before .before .before .after4 .ensures)) (c .before .before .before .before .before .before .walk3 .ensures) (c .before .before .before .before .enum-told13 .given .1) (c .before .before .before .check-entries2 .ensures) refl (c .before .enum-told16 .given .1))
     (λ c κs. search needs)
-    (λ c. ends-differ (arm (turn t (c .before .before .before .before .before .before .before .before .before .before .before .before .before .before .before .before .before .before .before .before .before))
-    (c .before .before .before .before .before .before .before .before .before .before .before .before .before .before .before .before .before .before .before .statement3 .given .1))
-    (c .before .before .before .before .before .before .before .before .before .before .before .before .before .before .before .before .check-entries .ensures)
-    (c .before .before .before .before .before .before .before .before .before .before .before .before .before .before .enum-told11 .given .1)
-    (c .before .before .before .before .before .before .before .before .before .before .before .before .before .before .before .before .before .lose .ensures) (c .before .before .before .before .before .before .before .before .before .before .before .before .before .assume-entries .ensures)
-    (assumed _ _ _ (c .before .before .before .before .before .before .before .before .before .before .before .before .ask-condition2 .ensures) (c .before .before .before .before .before .before .before .before .before .before .before .answer3 .ensures)
-    (c .before .before .before .before .before .before .before .before .before .before .assume3 .ensures) (c .before .before .before .before .before .before .before .before .before .after4 .ensures)) (c .before .before .before .before .before .before .before .before .walk3 .ensures)
-    (c .before .before .before .before .before .before .enum-told13 .given .1) (c .before .before .before .before .before .check-entries2 .ensures) (c .before .before .before .enum-told15 .given .1) (c .before .before .same-rows3 .ensures) (not-true _ (c .before .if6 .taken)) refl)
+    (λ c. ends-differ (arm (turn t (c .before .before .before .before .before .before .before .before .before .before .before .before .before .before .before .before .before .before .before .before .before)) (c .before .before .before .before .before .before .before .before .before .before .before .before .before .before .before .before .before .before .before .statement3 .given .1)) (c .before .before .before .before .before .before .before .before .before .before .before .before .before .before .before .before .before .check-entries .ensures) (c .before .before .before .before .before .before .before .before .before .before .before .before .before .before .before .enum-told11 .given .1) (c .before .before .before .before .before .before .before .before .before .before .before .before .before .before .lose .ensures) (⊎-elim (λ w. ap (λ (r : Walked). r .facts) (w .2) ∙ w .1 .ensures) (λ w. ap (λ (r : Walked). r .facts) (w .1) ∙ no-entries _ _ _ (w .0 .left)) (c .before .before .before .before .before .before .before .before .before .before .before .before .before .if8 .came)) (assumed _ _ _ (c .before .before .before .before .before .before .before .before .before .before .before .before .ask-condition2 .ensures) (c .before .before .before .before .before .before .before .before .before .before .before .answer3 .ensures) (c .before .before .before .before .before .before .before .before .before .before .assume3 .ensures) (c .before .before .before .before .before .before .before .before .before .after4 .ensures)) (c .before .before .before .before .before .before .before .before .walk3 .ensures) (c .before .before .before .before .before .before .enum-told13 .given .1) (c .before .before .before .before .before .check-entries2 .ensures) (c .before .before .before .enum-told15 .given .1) (c .before .before .same-rows3 .ensures) (not-true _ (c .before .if9 .taken)) refl)
     (λ c κs. search needs)
     (λ c κs. negated-offset _ _ (c .negated2 .ensures) (while-offset (arm (turn t (c .before .before .before .before .before .before .before .before .before .before .before .before .before .before .before .before .before .before .before .before .before))
     (c .before .before .before .before .before .before .before .before .before .before .before .before .before .before .before .before .before .before .before .statement3 .given .1))))
     (λ c κs. search needs)
     (λ c. omega (arith, (turn t (c .before .before .before .before .before .before .before .before .before .before .before .before .before .before .before .before .before .before .before .before .before .before .before .before)) .some))
-    (λ c. turn-while (arm (turn t (c .before .before .before .before .before .before .before .before .before .before .before .before .before .before .before .before .before .before .before .before .before .before .before .before))
-    (c .before .before .before .before .before .before .before .before .before .before .before .before .before .before .before .before .before .before .before .before .before .before .statement3 .given .1))
-    (c .before .before .before .before .before .before .before .before .before .before .before .before .before .before .before .before .before .before .before .check-entries .ensures)
-    (c .before .before .before .before .before .before .before .before .before .before .before .before .before .before .before .before .before .enum-told11 .given .1)
-    (c .before .before .before .before .before .before .before .before .before .before .before .before .before .before .before .before .before .before .before .before .lose .ensures)
-    (c .before .before .before .before .before .before .before .before .before .before .before .before .before .before .before .before .assume-entries .ensures) (assumed _ _ _
-    (c .before .before .before .before .before .before .before .before .before .before .before .before .before .before .before .ask-condition2 .ensures) (c .before .before .before .before .before .before .before .before .before .before .before .before .before .before .answer3 .ensures)
-    (c .before .before .before .before .before .before .before .before .before .before .before .before .before .assume3 .ensures) (c .before .before .before .before .before .before .before .before .before .before .before .before .after4 .ensures))
-    (c .before .before .before .before .before .before .before .before .before .before .before .walk3 .ensures) (c .before .before .before .before .before .before .before .before .before .enum-told13 .given .1)
-    (c .before .before .before .before .before .before .before .before .check-entries2 .ensures) (c .before .before .before .before .before .before .enum-told15 .given .1) (c .before .before .before .before .before .same-rows3 .ensures) (not-false _
-    (c .before .before .before .before .if6 .left)) (c .before .before .before .negated2 .ensures) (assumed _ _ _ (negated-asked _ _ (c .before .before .before .negated2 .ensures)
-    (c .before .before .before .before .before .before .before .before .before .before .before .before .before .before .before .ask-condition2 .ensures)) (c .before .before .before .before .before .before .before .before .before .before .before .before .before .before .answer3 .ensures)
-    (c .before .before .assume4 .ensures) (c .before .after5 .ensures)))
+    (λ c. turn-while (arm (turn t (c .before .before .before .before .before .before .before .before .before .before .before .before .before .before .before .before .before .before .before .before .before .before .before .before)) (c .before .before .before .before .before .before .before .before .before .before .before .before .before .before .before .before .before .before .before .before .before .before .statement3 .given .1)) (c .before .before .before .before .before .before .before .before .before .before .before .before .before .before .before .before .before .before .before .before .check-entries .ensures) (c .before .before .before .before .before .before .before .before .before .before .before .before .before .before .before .before .before .before .enum-told11 .given .1) (c .before .before .before .before .before .before .before .before .before .before .before .before .before .before .before .before .before .lose .ensures) (⊎-elim (λ w. ap (λ (r : Walked). r .facts) (w .2) ∙ w .1 .ensures) (λ w. ap (λ (r : Walked). r .facts) (w .1) ∙ no-entries _ _ _ (w .0 .left)) (c .before .before .before .before .before .before .before .before .before .before .before .before .before .before .before .before .if8 .came)) (assumed _ _ _ (c .before .before .before .before .before .before .before .before .before .before .before .before .before .before .before .ask-condition2 .ensures) (c .before .before .before .before .before .before .before .before .before .before .before .before .before .before .answer3 .ensures) (c .before .before .before .before .before .before .before .before .before .before .before .before .before .assume3 .ensures) (c .before .before .before .before .before .before .before .before .before .before .before .before .after4 .ensures)) (c .before .before .before .before .before .before .before .before .before .before .before .walk3 .ensures) (c .before .before .before .before .before .before .before .before .before .enum-told13 .given .1) (c .before .before .before .before .before .before .before .before .check-entries2 .ensures) (c .before .before .before .before .before .before .enum-told15 .given .1) (c .before .before .before .before .before .same-rows3 .ensures) (not-false _ (c .before .before .before .before .if9 .left)) (c .before .before .before .negated2 .ensures) (assumed _ _ _ (negated-asked _ _ (c .before .before .before .negated2 .ensures) (c .before .before .before .before .before .before .before .before .before .before .before .before .before .before .before .ask-condition2 .ensures)) (c .before .before .before .before .before .before .before .before .before .before .before .before .before .before .answer3 .ensures) (c .before .before .assume4 .ensures) (c .before .after5 .ensures)))
     (λ c. search needs)
     (λ c. let u = (arm (turn t (c .before .before .before)) (c .before .statement4 .given .1)) in omega (arith, placed u, bundle-count u))
     (λ c κs. (
@@ -393,9 +297,11 @@ pub +walk-spec : {M : Type 1} → statement M
     (λ c. turn-bundle (arm (turn t (c .before .before .before .before .before .before .before .before .before .before)) (c .before .before .before .before .before .before .before .before .statement4 .given .1))
     (c .before .before .before .before .before .before .walk-bundle .ensures) (c .before .before .before .before .enum-told17 .given .1) (c .force-of2 .ensures))
     (λ c. omega (arith, (turn t (c .before .before .before .before .before .before .before .before .before)) .some))
-    (λ c. turn-bundle (arm (turn t (c .before .before .before .before .before .before .before .before .before)) (c .before .before .before .before .before .before .before .statement4 .given .1)) (c .before .before .before .before .before .walk-bundle .ensures)
-    (c .before .before .before .enum-told17 .given .1) (same-force ((turn t (c .before .before .before .before .before .before .before .before .before)) .so-far .forced) (c .before .same-rows4 .ensures) (not-false _ (c .if7 .left))))
-    (λ c. search needs) (λ c κs. search needs) (λ c. search needs) (λ c. search needs)
+    (λ c. turn-bundle (arm (turn t (c .before .before .before .before .before .before .before .before .before)) (c .before .before .before .before .before .before .before .statement4 .given .1)) (c .before .before .before .before .before .walk-bundle .ensures) (c .before .before .before .enum-told17 .given .1) (same-force ((turn t (c .before .before .before .before .before .before .before .before .before)) .so-far .forced) (c .before .same-rows4 .ensures) (not-false _ (c .if10 .left))))
+    (λ c. search needs)
+    (λ c κs. search needs)
+    (λ c. search needs)
+    (λ c. search needs)
     (λ c. call-refused (arm (turn t (c .before .before .before .before .before .before .before)) (c .before .before .before .before .before .statement5 .given .1)) (c .before .before .before .check-call .ensures) refl (c .before .enum-told20 .given .1))
     (λ c κs. search needs)
     (λ c. omega (arith, (turn t (c .before .before .before .before .before .before .before)) .some))
