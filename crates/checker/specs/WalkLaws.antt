@@ -106,7 +106,8 @@ unfolding walkRules.blockFaults walkRules.blockAfter blockMarks
 nil-passes E L rs b v M e p q r = rw e (ends refl p q r)
 
 -- An empty block leaves what it was given.
-pub empty-walks : (E : Environment) (L : List ℤ) (rs : List Routine) (T : List ℤ) (h : Sections) (left a end : ℕ) (f : FactSet) (R : Rows) (M : Report) → end ≤ a
+pub empty-walks : (E : Environment) (L : List ℤ) (rs : List Routine) (T : List ℤ) (h : Sections) (left a end : ℕ) (f : FactSet) (R : Rows) (M : Report)
+    → end ≤ a
     → Walks E L rs (parse left T h a end) (stateOf f (R .each)) (M .words) (record { verdict = Accepted; facts = f; rows = R; report = M })
 empty-walks E L rs T h left a end f R M z = nil-passes E L rs _ _ _ (parse-end left T h a end z) refl refl refl
 

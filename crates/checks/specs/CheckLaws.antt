@@ -11,7 +11,7 @@ use Rattle.arrays.specs.TabulateLaws.{getD-tabulate}
 use Rattle.rules.specs.BoundsRules.{nothingKnown, elementSize}
 use Rattle.rules.specs.declared.Environment.{Environment}
 use Rattle.conditions.specs.Conditions.{relates}
-use Rattle.machine.specs.Machine.{value, endValue, none, upperEnd, firstOf, accessFailing, arithmeticFailing, beyond, terminatorFailing, storeFailing}
+use Rattle.machine.specs.Machine.{value, endValue, Failing, none, upperEnd, firstOf, accessFailing, arithmeticFailing, beyond, terminatorFailing, storeFailing}
 use Rattle.checks.specs.Checked.{endIn, boundsIn, declaredIn, stepUnless, sizeIn, stringIn}
 use Rattle.answers.specs.declared.stops.Check.the-variants.{NullAccess, OutOfBounds, NullArithmetic, AddressRange, Terminator}
 use Rattle.checks.specs.declared.Step.the-variants.{Go, Stop}
@@ -88,3 +88,8 @@ size-in W p few = getD-tabulate 16 (sizeIn W) p 1 few
 pub zero-passes : (E : Environment) (vs : List ℕ) (p a : ℕ) → terminatorFailing E vs p a 0 ≡ none
 unfolding terminatorFailing
 zero-passes E vs p a = rw (and-false (eqb a (upperEnd E vs p)))
+
+-- No check fails.
+pub passed-step : (f : Failing) (at next : ℕ) → f ≡ none → Go next ≡ stepUnless f at next
+unfolding stepUnless
+passed-step f at next e = rw e refl

@@ -1,10 +1,11 @@
 -- What the checks of a run read, and what they say of a step.
-use Prim.Native.Nat.{ℕ, zero, suc, _+_, _*_}
+use Prim.Native.Nat.{ℕ, zero, suc, _+_, _*_, _%_, _^_, _<_, _≤_}
 use mathlib.Core.Bool.{Bool}
 use mathlib.Core.List.{List, []}
 use lib.Dec.{eqb}
-use lib.ListN.{getD}
+use lib.ListN.{length, getD}
 use Rattle.arrays.specs.Tabulate.{tabulate}
+use Rattle.conditions.specs.declared.Condition.{Condition}
 use Rattle.table.specs.declared.variables.End.{End}
 use Rattle.rules.specs.declared.KnownEnd.the-variants.{Known}
 use Rattle.rules.specs.declared.Bounds.{Bounds}
@@ -42,6 +43,16 @@ declaredIn W = record {
   spans = [];
   rows = [];
 }
+
+-- ---- slots: a value for each variable, and behind them a 0 for the number that stands for zero
+
+-- Each end names slots.
+abbrev pub Named : List ℕ → Type 0
+Named W = (i : ℕ) → i % 3 < 2 → getD W i 0 ≤ 16
+
+-- So does a condition, and no sum wraps.
+abbrev pub Comparable : Condition → List ℕ → Type 0
+Comparable c vs = (c .offset < 2 ^ 32) × (c .left < length vs) × (c .right < length vs)
 
 -- ---- steps
 

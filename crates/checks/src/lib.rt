@@ -2,15 +2,15 @@
 use answers::stops::Check;
 use conditions::Condition;
 use machine::scaled;
-use machine::value_at;
+use machine::wide;
 use sums::BIAS;
 ghost use mathlib.Core.Path.{_≡_};
-ghost use mathlib.Core.Bool.{not, cond};
+ghost use mathlib.Core.Bool.{true, not, cond};
 ghost use Prim.Native.Nat.{ℕ, _+_, _^_, _<_, _≤_};
 ghost use lib.ListN.{length, getD};
 ghost use Rattle.conditions.specs.Conditions.{relates};
 ghost use Rattle.machine.specs.Machine.{endValue, conditionHolds, none, firstOf, beyond, loadFailing, storeFailing, arithmeticFailing};
-ghost use Rattle.checks.specs.Checked.{sizeIn, stringIn, endIn, declaredIn, stepUnless};
+ghost use Rattle.checks.specs.Checked.{sizeIn, stringIn, endIn, declaredIn, Named, Comparable, stepUnless};
 ghost use Rattle.checks.specs.declared.Step.the-variants.{Go, Stop};
 ghost use Rattle.answers.specs.declared.stops.Check.the-variants.{NullAccess, OutOfBounds, Terminator};
 
@@ -19,6 +19,15 @@ pub enum Step {
     Go(usize),
     Stop(Check),
     Call,
+}
+
+// The value of a variable, or of the number that stands for zero: a run has a slot for each of them.
+pub fn slot(values: &[u32], x: usize) -> u64
+    requires { ⌜ x < length (now values) ⌝ }
+    ensures { λ r. ⌜ r ≡ getD (now (values .entry)) x 0 ⌝ }
+    ensures small { λ r. ⌜ r < 2 ^ 32 ⌝ }
+{
+    wide(values[x])
 }
 
 // Relations in the order of the table.
@@ -37,13 +46,13 @@ fn relates(relation: usize, a: u64, b: u64) -> bool
 
 // Whether the condition holds for these values.
 pub fn condition_holds(values: &[u32], c: Condition) -> bool
-    requires { ⌜ c .offset < 2 ^ 32 ⌝ }
+    requires { ⌜ Comparable c (now values) ⌝ }
     ensures { λ r. ⌜ r ≡ conditionHolds (now (values .entry)) c ⌝ }
 {
     relates(
         c.relation,
-        value_at(values, c.left),
-        value_at(values, c.right) + c.offset,
+        slot(values, c.left),
+        slot(values, c.right) + c.offset,
     )
 }
 
@@ -65,12 +74,13 @@ fn string_in(ends: &[u64], pointer: usize) -> bool
 
 // The whole number of the end whose three numbers start at `first`, of a pointer with this element size, with the bias.
 fn end_value(ends: &[u64], values: &[u32], size: u64, first: usize) -> u64
-    requires { ⌜ (first + 2 < length (now ends)) × (getD (now ends) (first + 2) 0 < 2 ^ 34) × (size ≤ 8) ⌝ }
+    requires { ⌜ (first + 2 < length (now ends)) × (getD (now ends) (first + 2) 0 < 2 ^ 34) × (size ≤ 8) × (getD (now ends) first 0 < length (now values))
+        × (getD (now ends) (first + 1) 0 < length (now values)) ⌝ }
     ensures { λ r. ⌜ r ≡ endValue (now (values .entry)) size (endIn (now (ends .entry)) first) ⌝ }
 {
     let pointer = ends[first] as usize;
     let integer = ends[first + 1] as usize;
-    value_at(values, pointer) + scaled(size, value_at(values, integer)) + ends[first + 2]
+    slot(values, pointer) + scaled(size, slot(values, integer)) + ends[first + 2]
 }
 
 // The first of two checks that fails, or the step to the statement `next`.
@@ -114,7 +124,7 @@ fn access_step(null: bool, outside: bool, spoils: bool, at: usize, next: usize) 
 
 // Check 2, then 3, then 6: a store of `stored` through `pointer` to an address that has the bias. Below the upper end neither the pointer's kind nor what is
 // stored matters, so that most accesses ask for neither.
-pub fn check_store(
+fn test_store(
     ends: &[u64],
     values: &[u32],
     at: usize,
@@ -123,10 +133,11 @@ pub fn check_store(
     address: u64,
     stored: u64,
 ) -> Step
-    requires { ⌜ (pointer < 16) × (length (now ends) ≡ 512) × ((i : ℕ) → getD (now ends) i 0 < 2 ^ 34) × ((p : ℕ) → sizeIn (now ends) p ≤ 8) ⌝ }
+    requires { ⌜ (pointer < 16) × (length (now ends) ≡ 512) × ((i : ℕ) → getD (now ends) i 0 < 2 ^ 34) × ((p : ℕ) → sizeIn (now ends) p ≤ 8)
+        × Named (now ends) × (16 < length (now values)) ⌝ }
     ensures { λ r. ⌜ r ≡ stepUnless (storeFailing (declaredIn (now (ends .entry))) (now (values .entry)) pointer address stored) at next ⌝ }
 {
-    let null = value_at(values, pointer) == 0;
+    let null = slot(values, pointer) == 0;
     let size = size_in(ends, pointer);
     let lower = end_value(ends, values, size, 6 * pointer);
     let upper = end_value(ends, values, size, 6 * pointer + 3);
@@ -138,6 +149,28 @@ pub fn check_store(
     access_step(null, outside, spoils, at, next)
 }
 
+// The same, unless the store is known to pass them.
+pub fn check_store(
+    ends: &[u64],
+    values: &[u32],
+    at: usize,
+    next: usize,
+    pointer: usize,
+    address: u64,
+    stored: u64,
+    known: bool,
+) -> Step
+    requires { ⌜ (pointer < 16) × (length (now ends) ≡ 512) × ((i : ℕ) → getD (now ends) i 0 < 2 ^ 34) × ((p : ℕ) → sizeIn (now ends) p ≤ 8)
+        × Named (now ends) × (16 < length (now values)) ⌝ }
+    requires { ⌜ (known ≡ true → storeFailing (declaredIn (now ends)) (now values) pointer address stored ≡ none) ⌝ }
+    ensures { λ r. ⌜ r ≡ stepUnless (storeFailing (declaredIn (now (ends .entry))) (now (values .entry)) pointer address stored) at next ⌝ }
+{
+    if known {
+        return Step::Go(next);
+    }
+    test_store(ends, values, at, next, pointer, address, stored)
+}
+
 // Check 2, then 3, of a load: as the store of 0.
 pub fn check_load(
     ends: &[u64],
@@ -146,11 +179,14 @@ pub fn check_load(
     next: usize,
     pointer: usize,
     address: u64,
+    known: bool,
 ) -> Step
-    requires { ⌜ (pointer < 16) × (length (now ends) ≡ 512) × ((i : ℕ) → getD (now ends) i 0 < 2 ^ 34) × ((p : ℕ) → sizeIn (now ends) p ≤ 8) ⌝ }
+    requires { ⌜ (pointer < 16) × (length (now ends) ≡ 512) × ((i : ℕ) → getD (now ends) i 0 < 2 ^ 34) × ((p : ℕ) → sizeIn (now ends) p ≤ 8)
+        × Named (now ends) × (16 < length (now values)) ⌝ }
+    requires { ⌜ (known ≡ true → loadFailing (declaredIn (now ends)) (now values) pointer address ≡ none) ⌝ }
     ensures { λ r. ⌜ r ≡ stepUnless (loadFailing (declaredIn (now (ends .entry))) (now (values .entry)) pointer address) at next ⌝ }
 {
-    check_store(ends, values, at, next, pointer, address, 0)
+    check_store(ends, values, at, next, pointer, address, 0, known)
 }
 
 // Check 4, then 5: arithmetic on the address `base`, with its result, which has the bias.
@@ -170,7 +206,7 @@ pub fn check_arithmetic(at: usize, next: usize, base: u64, sum: u64) -> Step
 
 // Check 1.
 pub fn check_condition(values: &[u32], at: usize, next: usize, c: Condition) -> Step
-    requires { ⌜ c .offset < 2 ^ 32 ⌝ }
+    requires { ⌜ Comparable c (now values) ⌝ }
     ensures { λ r. ⌜ r ≡ stepUnless (firstOf (not (conditionHolds (now (values .entry)) c)) 1 none) at next ⌝ }
 {
     if condition_holds(values, c) {

@@ -53,4 +53,8 @@ no-row (Load x p i k) t = refl
 no-row (Store p i k x) t = refl
 no-row (Check c) t = refl
 no-row (Declare p r) t = absurd ((⊎-elim (λ (z : 10 ≡ 0). omega arith) (⊎-elim (λ (z : 10 ≡ 1). omega arith) (⊎-elim (λ (z : 10 ≡ 2). omega arith)
-    (⊎-elim (λ (z : 10 ≡ 3). omega arith) (⊎-elim (λ (z : 10 ≡ 4). omega arith) (⊎-elim (λ (z : 10 ≡ 5). omega arith) (⊎-elim (λ (z : 10 ≡ 6). omega arith) (⊎-elim (λ (z : 10 ≡ 7). omega arith) (⊎-elim (λ (z : 10 ≡ 8). omega arith) (λ (z : 10 ≡ 9). omega arith)))))))))) t)
+    (⊎-elim (λ (z : 10 ≡ 3). omega arith)
+    (⊎-elim (λ (z : 10 ≡ 4). omega arith)
+    (⊎-elim (λ (z : 10 ≡ 5). omega arith)
+    (⊎-elim (λ (z : 10 ≡ 6). omega arith) (⊎-elim (λ (z : 10 ≡ 7). omega arith) (⊎-elim (λ (z : 10 ≡ 8). omega arith) (λ (z : 10 ≡ 9). omega arith))))))))))
+    t)

@@ -145,7 +145,8 @@ module _ (B : List ℤ) (at : ℕ) (e : Edit) (X : List ℤ) (K S : List ℕ) {r
       (prepares : Prepares (take (tableEnd h) B) (length B) h S at e X u) where
     -- From what is said of the plan by the code's test to the promise.
     call : {B′ : List ℤ} {S′ : List ℕ} → PlanSaid (planOf (placedFrom (tableIn B h) h S at e) (tableIn B h) (length B) h at e X) B h at X S r B′ S′
-        → (Kept (tableIn B h) h S → KeptSaid (planOf (placedFrom (tableIn B h) h S at e) (tableIn B h) (length B) h at e X) B h at X K S r B′ S′) → EditCall B at e X K S r B′ S′
+        → (Kept (tableIn B h) h S → KeptSaid (planOf (placedFrom (tableIn B h) h S at e) (tableIn B h) (length B) h at e X) B h at X K S r B′ S′)
+        → EditCall B at e X K S r B′ S′
     call {B′} {S′} p q = record {
       any = let z = sym head ∙ i in rw z (placedFrom (tableIn B h) h S at e, p);
       kept = λ L g l k.
@@ -170,7 +171,8 @@ module _ (B : List ℤ) (at : ℕ) (e : Edit) (X : List ℤ) (K S : List ℕ) {r
         call (rw z o) (λ q. rw z (o, checked q z))
       where
         checked : Kept (tableIn B h) h S → planOf (placedFrom (tableIn B h) h S at e) (tableIn B h) (length B) h at e X ≡ Change m k
-            → Rechecked (edited (tableIn B h) h at m k X) (editedSections h m k) K (capacity S) (staying at (positions S)) (lastOf (staying at (positions S))) r S′
+            → Rechecked (edited (tableIn B h) h at m k X) (editedSections h m k) K (capacity S) (staying at (positions S))
+            (lastOf (staying at (positions S))) r S′
         checked q z =
             let f = plan-sizes B h S at e X m k t z .0 in
             let g = is-placed (tableIn B h) h (lastPlace (remaining S at) .position) at (removedBy e (spanOf (statementAt (tableIn B h) h at)))

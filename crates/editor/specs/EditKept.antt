@@ -1,4 +1,5 @@
--- AN EDIT THAT IS MADE keeps what calls leave: the edited table passes causes 1 to 6, and a walk from nothing over it comes to each place at or before the edit.
+-- AN EDIT THAT IS MADE keeps what calls leave: the edited table passes causes 1 to 6, and a walk from nothing over it comes to each place at or before the
+-- edit.
 -- So the walk from the last of them has the verdict of a check from nothing (`rechecked`).
 use Prim.Native.Nat.{ℕ, zero, suc, _+_, _-_, _*_, _/_, _<_, _≤_}
 use mathlib.Core.Path.{_≡_, refl, sym, _∙_, ap}

@@ -182,7 +182,8 @@ module _ (B : List ℤ) (L : ℕ) (within : L ≤ length B) where
     kept-head =
         let t = tested (take L B) h form in
         let z = kept-end in
-        let s : sectionsOf B ≡ h = sym (taken-sections (omega (arith, start-least h (directory-limits (take L B) h (t .directory)))) (λ e. omega (arith, start-four e))) ∙ t .sections in
+        let s : sectionsOf B ≡ h = sym
+        (taken-sections (omega (arith, start-least h (directory-limits (take L B) h (t .directory)))) (λ e. omega (arith, start-four e))) ∙ t .sections in
         let d = rw z at (t .directory) in
         let o = rw z at (t .objects) in
         let f : tableEnd h ≤ length B = omega arith in

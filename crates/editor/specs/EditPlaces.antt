@@ -92,7 +92,8 @@ module _ (T : List ℤ) (h : Sections) (l : layout T h ≡ []) {q : ℕ} {w : St
           → (leb at (h .statements) && (eqb (landing at T h q at) at && leb 0 (h .statements - at))) ≡ (topLevel (tree T h) at || c)
       go true b c e =
           let p = ltb-true at (h .statements) b in
-          rw (le-leb at (h .statements) (omega arith), le-leb 0 (h .statements - at) (omega arith), top-lands p) (same (topLevel (tree T h) at) c (λ o. omega (arith, eqb-true at (h .statements) (e ∙ o))))
+          rw (le-leb at (h .statements) (omega arith), le-leb 0 (h .statements - at) (omega arith), top-lands p)
+          (same (topLevel (tree T h) at) c (λ o. omega (arith, eqb-true at (h .statements) (e ∙ o))))
         where
           same : (x y : Bool) → (y ≡ true → ⊥) → (x && true) ≡ (x || y)
           same true y f = refl
@@ -124,7 +125,8 @@ module _ (T : List ℤ) (h : Sections) (l : layout T h ≡ []) {q : ℕ} {w : St
       go false b c e =
           let p = ltb-false at (h .statements) b in
           let s = span-least (statementAt T h at) in
-          rw (lt-leb (spanOf (statementAt T h at)) (h .statements - at) (omega arith)) (none (leb at (h .statements)) (eqb (landing at T h q at) at) ∙ (sym (no-top p) ∙ e))
+          rw (lt-leb (spanOf (statementAt T h at)) (h .statements - at) (omega arith))
+          (none (leb at (h .statements)) (eqb (landing at T h q at) at) ∙ (sym (no-top p) ∙ e))
         where
           none : (x y : Bool) → (x && (y && false)) ≡ false
           none true true = refl

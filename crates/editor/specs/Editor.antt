@@ -95,7 +95,8 @@ EditSaid (Read h) B at e X S r B′ S′ = (there : Bool) × PlanSaid (planOf th
 -- Where the store is one that calls leave: "from the last stored place at or before the edit (else the start)"; "an edit drops those behind it".
 abbrev pub KeptSaid : Plan → List ℤ → Sections → ℕ → List ℤ → List ℕ → List ℕ → Answer → List ℤ → List ℕ → Type 0
 KeptSaid (Refused x) B h at X K S r B′ S′ = Unmade B S (tableEnd h) x r B′ S′
-KeptSaid (Change m k) B h at X K S r B′ S′ = Written B h at m k X r B′ × Rechecked (edited (take (tableEnd h) B) h at m k X) (editedSections h m k) K (capacity S)
+KeptSaid (Change m k) B h at X K S r B′ S′ = Written B h at m k X r B′
+    × Rechecked (edited (take (tableEnd h) B) h at m k X) (editedSections h m k) K (capacity S)
     (staying at (positions S)) (lastOf (staying at (positions S))) r S′
 
 -- THE PROMISE OF AN EDIT.

@@ -165,9 +165,12 @@ rechecked T h K S {r} {Q} k w =
     let s : positions Q ≡ stored K (capacity S) (r .verdict) (positionsOf (tree T h)) (positions S) =
     positions-places Q ∙ (ap positionsIn z ∙ (kept-positions K (capacity S) (environmentOf T h) (restOf T h (lastPlace (places S) .position))
     (lastPlace (places S) .position) (o .numbered) (lastPlace (places S) .state) (places S) v
-    ∙ (ap₂ (λ (A : List ℕ) (P : List ℕ). stored K (capacity S) (r .verdict) A P) (ap positionsOf (reached-rest p (h .statements) (omega arith))) (sym (positions-places S))
-    ∙ (sym (stored-from K (capacity S) (r .verdict) (p .cut .front) (p .cut .back) (positions S) (p .cut .front-laid .numbered) (omega (arith, p .cut .front-laid .ends, q)))
-    ∙ ap (λ (b : Block). stored K (capacity S) (r .verdict) (positionsOf b) (positions S)) (sym (laid-tree (laid-followed (p .cut .front-laid) (p .cut .back-laid)))))))) in
+    ∙ (ap₂ (λ (A : List ℕ) (P : List ℕ). stored K (capacity S) (r .verdict) A P) (ap positionsOf (reached-rest p (h .statements) (omega arith)))
+    (sym (positions-places S))
+    ∙ (sym (stored-from K (capacity S) (r .verdict) (p .cut .front) (p .cut .back) (positions S) (p .cut .front-laid .numbered)
+    (omega (arith, p .cut .front-laid .ends, q)))
+    ∙ ap (λ (b : Block). stored K (capacity S) (r .verdict) (positionsOf b) (positions S))
+    (sym (laid-tree (laid-followed (p .cut .front-laid) (p .cut .back-laid)))))))) in
     record {
       judged = rest-judged T h p (k .form) v;
       walked = n ∙ ap (λ (a : ℕ). walkedFrom T h a (r .verdict)) q;

@@ -86,7 +86,8 @@ module _ {B : List ℤ} {S : List ℕ} {at : ℕ} {e : Edit} {X : List ℤ} {K :
       go (Change m n) k = differ (sym (k .0 .taken) ∙ t)
 
 -- The first call.
-after-start : (B : List ℤ) (L : ℕ) {K S : List ℕ} {r : Answer} {Q : List ℕ} → Started (take L B) K S r Q → r .taken ≡ true → Standing B (r .length) Q (r .verdict)
+after-start : (B : List ℤ) (L : ℕ) {K S : List ℕ} {r : Answer} {Q : List ℕ} → Started (take L B) K S r Q → r .taken ≡ true
+    → Standing B (r .length) Q (r .verdict)
 after-start B L {K} {S} {r} {Q} s t = passing (formOf (take L B)) refl
   where
     z : (take (r .length) B ≡ take L B) × (r .length ≤ length B)

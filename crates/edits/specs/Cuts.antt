@@ -281,7 +281,8 @@ module _ {T : List ℤ} {h : Sections} {d : ℕ} where
       go true e false f =
           let g = ltb-true a p e in
           let k = ltb-false a b f in
-          and-false (eqb (landing l T h (a + spanOf (statementAt T h a)) p) p) (ltb p b) (le-ltb p b (omega arith)) ∙ sym (top-none t a p (w .numbered) (omega (arith, w .ends)))
+          and-false (eqb (landing l T h (a + spanOf (statementAt T h a)) p) p) (ltb p b) (le-ltb p b (omega arith))
+          ∙ sym (top-none t a p (w .numbered) (omega (arith, w .ends)))
 
   pub landing-top : (l a b p : ℕ) (t : Block) → Laid T h d a b t → p ≤ a + l → (eqb (landing l T h a p) p && ltb p b) ≡ topLevel t p
   unfolding landing

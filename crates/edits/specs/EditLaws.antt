@@ -275,7 +275,8 @@ module _ (T : List ℤ) (h : Sections) (a : ℕ) where
   span-bundle {n} e = let z = read-counts-bundle T h a n e in (rw e, omega arith, omega arith)
 
 -- The text's table, made in an array.
-pub text-made : (T : List ℤ) (h : Sections) (m k : ℕ) (X : List ℤ) {Z W : List ℤ} {end : ℕ} → Overwritten (pos 0) Z 0 (end - 0) (λ i. editedWord T h 0 m k X (0 + i)) W
+pub text-made : (T : List ℤ) (h : Sections) (m k : ℕ) (X : List ℤ) {Z W : List ℤ} {end : ℕ}
+    → Overwritten (pos 0) Z 0 (end - 0) (λ i. editedWord T h 0 m k X (0 + i)) W
     → end ≡ tableEnd (editedSections h m k) → end ≤ length Z → take end W ≡ edited T h 0 m k X
 unfolding edited
 text-made T h m k X {end = end} p e q =
@@ -292,9 +293,11 @@ edited-take B L h p m k X fits e = tabulate-alike (tableEnd (editedSections h m 
   where
     same : (i : ℕ) → i < tableEnd (editedSections h m k)
         → cond (eqb i 5) (pos (7 * (h .statements - m + k))) (cond (eqb i 6 && eqb (h .start) 8) (pos (rowsStart (editedSections h m k)))
-        (cond (ltb i (statementStart h p)) (getD (take L B) i (pos 0)) (cond (ltb i (statementStart h (p + k))) (getD X (i - statementStart h p) (pos 0)) (getD (take L B) (i + 7 * m - 7 * k) (pos 0)))))
+        (cond (ltb i (statementStart h p)) (getD (take L B) i (pos 0))
+        (cond (ltb i (statementStart h (p + k))) (getD X (i - statementStart h p) (pos 0)) (getD (take L B) (i + 7 * m - 7 * k) (pos 0)))))
         ≡ cond (eqb i 5) (pos (7 * (h .statements - m + k))) (cond (eqb i 6 && eqb (h .start) 8) (pos (rowsStart (editedSections h m k)))
-        (cond (ltb i (statementStart h p)) (getD B i (pos 0)) (cond (ltb i (statementStart h (p + k))) (getD X (i - statementStart h p) (pos 0)) (getD B (i + 7 * m - 7 * k) (pos 0)))))
+        (cond (ltb i (statementStart h p)) (getD B i (pos 0))
+        (cond (ltb i (statementStart h (p + k))) (getD X (i - statementStart h p) (pos 0)) (getD B (i + 7 * m - 7 * k) (pos 0)))))
     same i q =
         go (eqb i 5) (eqb i 6 && eqb (h .start) 8) (ltb i (statementStart h p)) refl (ltb i (statementStart h (p + k))) refl
       where

@@ -35,7 +35,8 @@ pub record Fits (h : Sections) (p m k : ℕ) : Type 0 where
 -- "The first offset is 6", or 8.
 pub start-cases : (h : Sections) → inLimits h ≡ true → (h .start ≡ 8 → ⊥) → h .start ≡ 6
 unfolding inLimits startRight
-start-cases h e q = go (eqb (h .start) 6 && eqb (h .rows) 0) refl (both (leb (h .objects) 16 && leb 1 (h .variables) && leb (h .variables) 16 && leb (h .statements) 1024) (startRight h) e .1)
+start-cases h e q = go (eqb (h .start) 6 && eqb (h .rows) 0) refl
+    (both (leb (h .objects) 16 && leb 1 (h .variables) && leb (h .variables) 16 && leb (h .statements) 1024) (startRight h) e .1)
   where
     go : (b : Bool) → (eqb (h .start) 6 && eqb (h .rows) 0) ≡ b → (b || eqb (h .start) 8 && leb (h .rows) 64) ≡ true → h .start ≡ 6
     go true p r = eqb-true (h .start) 6 (both (eqb (h .start) 6) (eqb (h .rows) 0) p .0)
@@ -98,7 +99,13 @@ module _ (T : List ℤ) (h : Sections) (p m k : ℕ) (X : List ℤ) (fits : Fits
       let v = limits h (fits .limits) in
       let b = start-least h (fits .limits) in
       word-at i r ∙ ap biased
-      (rw (ne-eqb i 5 (λ e. omega arith), no-both i (h .start) 6 8 (λ e f. omega (arith, v .some)), le-ltb i (statementStart h p) (omega arith), le-ltb i (statementStart h (p + k)) q))
+      (rw (
+        ne-eqb i 5 (λ e. omega arith),
+        no-both i (h .start) 6 8 (λ e f. omega (arith, v .some)),
+        le-ltb i (statementStart h p) (omega arith),
+        le-ltb i
+            (statementStart h (p + k)) q,
+      ))
 
   -- Words of the text.
   pub word-text : (i : ℕ) → statementStart h p ≤ i → i < statementStart h (p + k) → word U i ≡ word X (i - statementStart h p)
@@ -107,7 +114,13 @@ module _ (T : List ℤ) (h : Sections) (p m k : ℕ) (X : List ℤ) (fits : Fits
       let v = limits h (fits .limits) in
       let b = start-least h (fits .limits) in
       word-at i (omega (arith, fits .within)) ∙ ap biased
-      (rw (ne-eqb i 5 (λ e. omega (arith, v .some)), no-both i (h .start) 6 8 (λ e f. omega (arith, v .some)), le-ltb i (statementStart h p) q, lt-ltb i (statementStart h (p + k)) r))
+      (rw (
+        ne-eqb i 5 (λ e. omega (arith, v .some)),
+        no-both i (h .start) 6 8 (λ e f. omega (arith, v .some)),
+        le-ltb i (statementStart h p) q,
+        lt-ltb i
+            (statementStart h (p + k)) r,
+      ))
 
   -- ---- what the table declares stays
 
@@ -225,7 +238,8 @@ module _ (T : List ℤ) (h : Sections) (p m k : ℕ) (X : List ℤ) (fits : Fits
       go i q =
           let b = start-least h (fits .limits) in
           let w = fits .within in
-          statement-same (0 + i) (0 + i) (omega arith) (omega arith) (λ j r. word-stays (statementStart h (0 + i) + j) (omega arith) (λ e. omega arith) (λ e f. omega arith))
+          statement-same (0 + i) (0 + i) (omega arith) (omega arith)
+          (λ j r. word-stays (statementStart h (0 + i) + j) (omega arith) (λ e. omega arith) (λ e f. omega arith))
 
   pub statements-behind : Agree T h (p + m) U g (p + k) (h .statements - (p + m))
   statements-behind = record { each = go }

@@ -33,7 +33,8 @@ module _ (T : List ℤ) (h : Sections) (p m k : ℕ) (X : List ℤ) (fits : Fits
   pub laid-before : {d a b : ℕ} {t : Block} → Laid T h d a b t → a ≤ b → b ≤ p → Laid U g d a b t
   laid-before {d} {a} {b} {t} l r q =
       let e = moved-same t a (l .numbered) in
-      let z : Laid U g d a b (moved a t) = laid-moved l (omega arith) r (agree-from (statements-before T h p m k X fits) a (b - a) (omega arith) (omega arith) (omega arith)) in
+      let z : Laid U g d a b (moved a t) = laid-moved l (omega arith) r
+      (agree-from (statements-before T h p m k X fits) a (b - a) (omega arith) (omega arith) (omega arith)) in
       rw e at z
 
   -- What stood behind stands behind the text.

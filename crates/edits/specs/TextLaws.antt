@@ -66,7 +66,8 @@ module _ (T : List ℤ) (h : Sections) (p m : ℕ) (X : List ℤ) (fits : Fits h
       go i q =
           let w = fits .within in
           record-same (declared-both (declared-stays T h 0 (h .statements) k X alone) (declared-stays T h p m k X fits))
-          (limits-stay h (h .statements) k (alone .limits) (alone .few)) (limits-stay h m k (fits .limits) (fits .few)) (p + i) (0 + i) (omega arith) (omega arith)
+          (limits-stay h (h .statements) k (alone .limits) (alone .few)) (limits-stay h m k (fits .limits) (fits .few)) (p + i) (0 + i) (omega arith)
+          (omega arith)
           (λ j r. let e : statementStart h (p + i) + j - statementStart h p ≡ statementStart h (0 + i) + j - statementStart h 0 = omega arith in
           word-text T h p m k X fits (statementStart h (p + i) + j) (omega arith) (omega arith)
           ∙ (ap (word X) e ∙ sym (word-text T h 0 (h .statements) k X alone (statementStart h (0 + i) + j) (omega arith) (omega arith))))

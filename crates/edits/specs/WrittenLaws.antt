@@ -44,7 +44,8 @@ module _ {A : Type 0} {d : A} where
   }
 
   -- The element that stood `by` before, which no turn has written yet.
-  pub shifted-up : {old new : List A} {i end : ℕ} (by : ℕ) {a : A} → Overwritten d old i (end - i) (λ j. getD old (i + j - by) d) new → 0 < i → i ≤ end → end ≤ length old
+  pub shifted-up : {old new : List A} {i end : ℕ} (by : ℕ) {a : A} → Overwritten d old i (end - i) (λ j. getD old (i + j - by) d) new → 0 < i → i ≤ end
+      → end ≤ length old
       → by ≤ i - 1 → a ≡ getD new (i - 1 - by) d → Overwritten d old (i - 1) (end - (i - 1)) (λ j. getD old (i - 1 + j - by) d) (set new (i - 1) a)
   shifted-up {old} {new} {i} {end} by p q r t b e =
       over-before p q r t
@@ -58,7 +59,8 @@ module _ {A : Type 0} {d : A} where
       e ∙ (p .behind (i + by) (omega arith) ∙ (let z : i + by ≡ first + (i - first) + by = omega arith in ap (λ (x : ℕ). getD old x d) z))
 
   -- The part behind, then the part before it.
-  pub over-both : {old mid new : List A} {at b end n : ℕ} {v u w : ℕ → A} → Overwritten d old b (end - b) u mid → Overwritten d mid at n v new → b ≡ at + n → b ≤ end
+  pub over-both : {old mid new : List A} {at b end n : ℕ} {v u w : ℕ → A} → Overwritten d old b (end - b) u mid → Overwritten d mid at n v new → b ≡ at + n
+      → b ≤ end
       → ((i : ℕ) → i < n → v i ≡ w i) → ((i : ℕ) → b + i < end → u i ≡ w (n + i)) → Overwritten d old at (end - at) w new
   over-both {old} {mid} {new} {at} {b} {end} {n} {v} {u} {w} p q e l f g = record {
     long = q .long ∙ p .long;
@@ -168,7 +170,8 @@ module _ {B B₁ : List ℤ} (h : Sections) (p m k : ℕ) (X : List ℤ) (fits :
 pub moved-and-put : {B B₁ B₂ : List ℤ} (h : Sections) (p m k : ℕ) (X : List ℤ) {t s end n : ℕ} → Fits h p m k → s ≡ statementStart h p → n ≡ 7 * k → t ≡ s + n
     → end ≡ tableEnd (editedSections h m k)
     → Overwritten (pos 0) B t (end - t) (λ i. getD B (t + i + 7 * m - 7 * k) (pos 0)) B₁ → Overwritten (pos 0) B₁ s n (λ i. getD X i (pos 0)) B₂
-    → Overwritten (pos 0) B (statementStart h p) (tableEnd (editedSections h m k) - statementStart h p) (λ i. editedWord B h p m k X (statementStart h p + i)) B₂
+    → Overwritten (pos 0) B (statementStart h p) (tableEnd (editedSections h m k) - statementStart h p)
+    (λ i. editedWord B h p m k X (statementStart h p + i)) B₂
 unfolding editedWord
 moved-and-put {B} {B₁} {B₂} h p m k X {t} {s} {end} {n} fits es en et ee tail text =
     rw (es, ee) at (over-both tail text et (omega (arith, fits .within)) near far)

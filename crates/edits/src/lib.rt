@@ -5,6 +5,8 @@ use statements::StatementRead;
 use statements::read_statement;
 use table::lowest_statement;
 use words::sections::Sections;
+use words::signed::number_word;
+use words::signed::signed_word;
 ghost use mathlib.Core.Path.{_≡_};
 ghost use mathlib.Core.Bool.{true};
 ghost use Prim.Native.Nat.{_+_, _-_, _*_, _/_, _^_, _<_, _≤_};
@@ -67,24 +69,6 @@ pub fn land(table: &[i32], sections: Sections, from: usize, to: usize) -> usize
     at
 }
 
-// The word at an index; past the end the word 0.
-fn word_or_zero(words: &[i32], i: usize) -> i32
-    ensures { λ r. ⌜ r ≡ getD (now (words .entry)) i (pos 0) ⌝ }
-{
-    if i < words.len() {
-        return words[i];
-    }
-    0
-}
-
-// A small number as a word.
-fn word_of(n: usize) -> i32
-    requires { ⌜ n < 2 ^ 31 ⌝ }
-    ensures { λ r. ⌜ r ≡ pos n ⌝ }
-{
-    n as i32
-}
-
 // The sections once `removed` statements have made room for `added` others.
 pub fn edited_sections(sections: Sections, removed: usize, added: usize) -> Sections
     requires { ⌜ (removed ≤ sections .statements) × (sections .statements - removed + added ≤ 1024) ⌝ }
@@ -114,20 +98,20 @@ fn edited_word(
 {
     let statements = sections.statements - removed + added;
     if i == 5 {
-        return word_of(7 * statements);
+        return number_word(7 * statements);
     }
     let first = sections.start + sections.objects + 8 * sections.variables;
     if (i == 6) & (sections.start == 8) {
-        return word_of(first + 7 * statements);
+        return number_word(first + 7 * statements);
     }
     let start = first + 7 * at;
     if i < start {
-        return word_or_zero(table, i);
+        return signed_word(table, i);
     }
     if i < first + 7 * (at + added) {
-        return word_or_zero(text, i - start);
+        return signed_word(text, i - start);
     }
-    word_or_zero(table, i + 7 * removed - 7 * added)
+    signed_word(table, i + 7 * removed - 7 * added)
 }
 
 // The words `first` to `end` - 1 of the edited table, at their places in `out`.
@@ -253,7 +237,7 @@ fn put_text(words: &mut [i32], first: usize, count: usize, text: &[i32])
 {
     let mut i = 0;
     while i < count {
-        words[first + i] = word_or_zero(text, i);
+        words[first + i] = signed_word(text, i);
         i += 1;
     }
 }

@@ -45,7 +45,8 @@ unfolding verdictWords
 verdict-long accepted w e = ap length e ∙ simp length-set
 verdict-long (refused n a p) w e = ap length e ∙ simp length-set
 
-pub put-words : (a : Answer) (w : List ℕ) {u : List ℕ} {n l t : ℕ} → u ≡ verdictWords (verdictReads (a .verdict)) w → n ≡ wordOf (a .walked) → l ≡ wordOf (a .length)
+pub put-words : (a : Answer) (w : List ℕ) {u : List ℕ} {n l t : ℕ} → u ≡ verdictWords (verdictReads (a .verdict)) w → n ≡ wordOf (a .walked)
+    → l ≡ wordOf (a .length)
     → t ≡ flag (a .taken) → set (set (set u 3 n) 4 l) 5 t ≡ editWords a w
 unfolding editWords
 put-words a w e en el et = rw (e, en, el, et)

@@ -192,7 +192,7 @@ pub extern "C" fn mizzengrape_run_with_facts(
     true
 }
 
-// The same without a list. The run has one caller, so that its loop is compiled in place: a second one costs a tenth of each step.
+// The same without a list.
 #[no_mangle]
 pub extern "C" fn mizzengrape_run(
     table: &[i32],

@@ -89,7 +89,8 @@ mark-back : (b : Bool) → eqb (markWord b) 1 ≡ b
 mark-back true = refl
 mark-back false = refl
 
-pub saved : {old mid : List ℕ} {at : ℕ} {f : FactSet} → RowsSaved old at f 17 mid → at + 290 ≤ length old → length (f .rows) ≡ 17 → {m : ℕ} → m ≡ markWord (f .contradiction)
+pub saved : {old mid : List ℕ} {at : ℕ} {f : FactSet} → RowsSaved old at f 17 mid → at + 290 ≤ length old → length (f .rows) ≡ 17 → {m : ℕ}
+    → m ≡ markWord (f .contradiction)
     → Saved old at f (set mid (at + 289) m)
 unfolding setWord loaded loadedRow
 saved {old} {mid} {at} {f} p q e {m} o =

@@ -1,6 +1,6 @@
 -- The run without origins agrees with the plain machine, step by step and as a whole.
 use Prim.Native.Nat.{ℕ, zero, suc, _+_, _<_, _≤_, _-_}
-use mathlib.Core.Path.{_≡_, refl, sym, ap, ap₂, subst, _∙_}
+use mathlib.Core.Path.{_≡_, refl, sym, ap, subst, _∙_}
 use mathlib.Core.Bool.{Bool, true, false, false≢true, cond}
 use mathlib.Core.List.{List, [], _∷_}
 use native.Mathlib.Omega.{arith}
@@ -30,12 +30,13 @@ use Rattle.rules.specs.BoundsRules.{inForce, rowsAfter}
 use Rattle.rules.specs.declared.Environment.{Environment}
 use Rattle.machine.specs.Machine.{low, high, address, inOrigin, conditionHolds, Failing, none, fails, failing, Status}
 use Rattle.machine.specs.Machine.{going, stopped, stuck, Point, Memory, Performed, done, no-step, stepIf, performed}
-use Rattle.machine.specs.Machine.{memoryOf, afterChecks, branched, statementStep, stepIfDue, nextPoint, value}
+use Rattle.machine.specs.Machine.{memoryOf, afterChecks, branched, statementStep, successorsOf, stepIfDue, nextPoint, value}
 use Rattle.machine.specs.AlonePoints.{pointAfter}
+use Rattle.machine.specs.Points.{failingAt}
 use Rattle.checks.specs.Checked.{stepUnless, checkOf}
 use Rattle.steps.specs.Bare.{valuesAfter, cellsAfter, changedUnless, Move, move, simpleMove, statementMove, bareMove, InCells, InsideSimple, Inside, Ready}
 use Rattle.interpreter.specs.BareRun.{Result, result, follow, bareRun, IfTrue, Onward, SafeRun}
-use Rattle.interpreter.specs.Agreement.{stepShown, moveShown, resultShown, Runnable}
+use Rattle.interpreter.specs.Agreement.{stepShown, moveShown, resultShown, Serves, KnownAt, Runnable}
 use Rattle.interpreter.specs.Outcomes.{outcomeShown}
 use Rattle.entry.specs.Ends.{endsOf}
 use Rattle.interpreter.specs.EndsLaws.{failing-same, ends-after, address-laid, indexed-laid}
@@ -219,6 +220,15 @@ module _ (T : List ℤ) (h : Sections) (E : Environment) (D W S : List ℕ) wher
 
   -- ---- a point that is going, with a statement due
 
+  step-serves : (s : Statement) (m n : Successors) (P : Point) → Serves s m n → statementStep E D (Read s) n P ≡ statementStep E D (Read s) m P
+  unfolding statementStep
+  step-serves (Plain s) m n P e =
+      ap (λ (k : ℕ). afterChecks (failing (inForce E (P .rows)) (P .values) s) P k (performed E D s (memoryOf P))) (sym e)
+  step-serves (If c x y) m n P e = ap (λ (k : Successors). statementStep E D (Read (If c x y)) k P) (sym e)
+  step-serves (While c x) m n P e = ap (λ (k : Successors). statementStep E D (Read (While c x)) k P) (sym e)
+  step-serves (Bundle x) m n P e = ap (λ (k : Successors). statementStep E D (Read (Bundle x)) k P) (sym e)
+  step-serves (Call c) m n P e = refl
+
   -- The points after the next one are the later points.
   later : (t : ℕ) (P : Point) → pointAfter T h E D t (after P) ≡ after (pointAfter T h E D t P)
   unfolding pointAfter
@@ -254,7 +264,8 @@ module _ (T : List ℤ) (h : Sections) (E : Environment) (D W S : List ℕ) wher
     after-is =
         ap (λ (s : Status). nextPoint T h E D s P) g
         ∙ (ap (λ (b : Bool). stepIfDue T h E D b P) (lt-ltb (P .due) (h .statements) due)
-        ∙ ap₂ (λ (r : StatementRead) (n : Successors). statementStep E D r n P) reads (sym (R .successors (P .due) due)))
+        ∙ (ap (λ (r : StatementRead). statementStep E D r (successorsOf T h E D (P .due)) P) reads
+        ∙ step-serves here (entriesAt S (P .due)) (successorsOf T h E D (P .due)) P (R .successors (P .due) due here reads)))
 
     free : after P .status ≡ stuck → ⊥
     unfolding pointAfter
@@ -276,7 +287,8 @@ module _ (T : List ℤ) (h : Sections) (E : Environment) (D W S : List ℕ) wher
     pub step-agrees : bareMove T h W D S (P .due) (P .values) (P .cells) ≡ moveShown E (after P)
     step-agrees = point-stepped .same
 
-    pub step-ready : Ready T h W (P .due) (P .values) (P .cells)
+    pub step-ready : Ready T h W S (P .due) (P .values) (P .cells)
+    unfolding pointAfter
     step-ready =
         record {
           checked = T;
@@ -286,6 +298,11 @@ module _ (T : List ℤ) (h : Sections) (E : Environment) (D W S : List ℕ) wher
           inside =
               inside P (R .origins) (R .objects) here (entriesAt S (P .due)) (R .ends) (read-limits T h (P .due) here reads .0)
               (read-typed T h (P .due) here reads) free-here;
+          known = λ m s e.
+              let r : statementAt T h (P .due) ≡ Read (Plain s) = reads ∙ ap Read e in
+              rw (R .ends)
+              (failing-same T h E (P .rows) (P .values) s (read-limits T h (P .due) (Plain s) r .0) (read-typed T h (P .due) (Plain s) r)
+              ∙ (ap (λ (x : StatementRead). failingAt (inForce E (P .rows)) x (P .values)) (sym r) ∙ R .known 0 due m));
         }
 
     -- What the run needs holds of the next point too, with the ends in force there.
@@ -300,6 +317,7 @@ module _ (T : List ℤ) (h : Sections) (E : Environment) (D W S : List ℕ) wher
           origins = point-stepped .origins;
           rows-long = λ t. ap (λ (Q : Point). length (Q .rows)) (later t P) ∙ R .rows-long (suc t);
           unstuck = λ t e. R .unstuck (suc t) (ap (λ (Q : Point). Q .status) (sym (later t P)) ∙ e);
+          known = λ t. subst (KnownAt T h E S) (sym (later t P)) (R .known (suc t));
         }
 
 -- ---- the whole run

@@ -2,6 +2,7 @@
 use Prim.Native.Nat.{ℕ}
 use mathlib.Core.Path.{_≡_, refl, sym, ap, subst, _∙_}
 use mathlib.Core.Logic.{_≢_}
+use mathlib.Core.Bool.{true}
 use mathlib.Core.List.{List, [], _∷_}
 use lib.IntN.{ℤ}
 use lib.ListN.{length}
@@ -10,7 +11,9 @@ use Rattle.answers.specs.declared.stops.Outcome.{Outcome}
 use Rattle.words.specs.declared.sections.Sections.{Sections}
 use Rattle.statements.specs.Statements.{statementAt}
 use Rattle.statements.specs.declared.CallSite.{CallSite}
-use Rattle.statements.specs.declared.Statement.the-variants.{Call}
+use Rattle.statements.specs.declared.Simple.{Simple}
+use Rattle.statements.specs.declared.Statement.{Statement}
+use Rattle.statements.specs.declared.Statement.the-variants.{Plain, Call}
 use Rattle.statements.specs.declared.StatementRead.the-variants.{Read}
 use Rattle.table.specs.Form.{formOf, sectionsOf}
 use Rattle.table.specs.FormLaws.{formed-sections}
@@ -18,8 +21,11 @@ use Rattle.table.specs.declared.Form.the-variants.{WellFormed}
 use Rattle.rules.specs.Calls.{routineAt}
 use Rattle.rules.specs.Sets.{members, routineOf, routinesOf}
 use Rattle.rules.specs.Verdict.{environmentOf}
-use Rattle.rules.specs.Stored.{faults}
-use Rattle.machine.specs.Machine.{going, stuck, Point, start}
+use Rattle.rules.specs.BoundsRules.{inForce}
+use Rattle.rules.specs.Report.{safeAt, reportedAt}
+use Rattle.rules.specs.Stored.{store, faults}
+use Rattle.machine.specs.Machine.{none, going, stuck, Point, start}
+use Rattle.machine.specs.Points.{failingAt}
 use Rattle.machine.specs.AlonePoints.{pointAfter}
 use Rattle.machine.specs.SetMachine.{Stack, stack, lastValues}
 use Rattle.machine.specs.Soundness.{Begun}
@@ -29,6 +35,7 @@ use Rattle.interpreter.specs.NumberLaws.{stopped-number}
 use Rattle.interpreter.specs.Outcomes.{outcomeShown}
 use Rattle.interpreter.specs.Claim.{Lent, Leaves, answerOf, stateOf, EndsAt, Ran}
 use Rattle.interpreter.specs.AnswerLaws.{reads-shown}
+use Rattle.interpreter.specs.SafeLaws.{reported-safe, safe-plain, safe-passes}
 use Rattle.interpreter.specs.PointLaws.{ends-ran}
 
 -- ---- what is lent and left, field by field
@@ -91,6 +98,25 @@ module _ (T : List ℤ) (h : Sections) (L : List ℤ) (formed : formOf T ≡ Wel
       let w = begun-walked T h L formed accepts D cs vs os begun in
       no-call T h E D (length cs) L S [] w refl (pointAlone T h D cs vs os t)
       (point-kept T h E D (length cs) L S [] w refl t (start T h E D cs vs os) (begun-invariant T h L formed accepts D cs vs os begun))
+
+  -- ---- point 9
+
+  safe-here : (a : ℕ) → reportedAt store T L a ≡ true → safeAt store T h L a ≡ true
+  safe-here a e = ap (λ (g : Sections). safeAt store T g L a) (formed-sections T h formed) ∙ reported-safe T L a e
+
+  -- A reported statement is of kinds 1 to 10 and 14,
+  pub report-plain : (a : ℕ) → reportedAt store T L a ≡ true → (s : Statement) → statementAt T h a ≡ Read s → (x : Simple) × (s ≡ Plain x)
+  unfolding safeAt
+  report-plain a e s r = safe-plain T h (environmentOf T h) L a s (rw r at (safe-here a e))
+
+  -- and where it is due, it fails no check.
+  pub report-passes : (t : ℕ) → reportedAt store T L (pointAlone T h D cs vs os t .due) ≡ true
+      → failingAt (inForce (environmentOf T h) (pointAlone T h D cs vs os t .rows)) (statementAt T h (pointAlone T h D cs vs os t .due))
+      (pointAlone T h D cs vs os t .values) ≡ none
+  unfolding safeAt
+  report-passes t e =
+      safe-passes T h (environmentOf T h) L D (length cs) (pointAlone T h D cs vs os t) (sound T h L formed accepts D cs vs os begun t) _ refl
+      (safe-here (pointAlone T h D cs vs os t .due) e)
 
   first-going : start T h (environmentOf T h) D cs vs os .status ≡ going
   unfolding start

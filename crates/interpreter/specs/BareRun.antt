@@ -55,7 +55,7 @@ unfoldable pub SafeRun : List ℤ → Sections → List ℕ → List ℕ → Lis
 SafeRun T h W D S zero a vs cs = Unit {0}
 SafeRun T h W D S (suc l) a vs cs =
     let m = bareMove T h W D S a vs cs in
-    IfTrue (ltb a (h .statements)) (Ready T h W a vs cs × Onward (m .said) (λ b. SafeRun T h (m .ends) D S l b (m .values) (m .cells)))
+    IfTrue (ltb a (h .statements)) (Ready T h W S a vs cs × Onward (m .said) (λ b. SafeRun T h (m .ends) D S l b (m .values) (m .cells)))
 
 -- A run of the code ends with the result o.
 pub record Ends (o : Result) (r : Outcome) (W vs cs : List ℕ) : Type 0 where

@@ -1,7 +1,7 @@
 -- The proof of the claim about a run: from the soundness theorem and from the agreement of the code's run with the plain machine.
-use Prim.Native.Nat.{ℕ, _-_, _*_, _≤_}
+use Prim.Native.Nat.{ℕ, _-_, _*_, _<_, _≤_}
 use mathlib.Core.Path.{_≡_, refl, sym, ap, _∙_}
-use mathlib.Core.Bool.{Bool}
+use mathlib.Core.Bool.{Bool, true}
 use mathlib.Core.List.{List, [], _∷_}
 use native.Mathlib.Omega.{arith}
 use borrow.Author.Tests.{le-leb}
@@ -29,10 +29,10 @@ use Rattle.answers.specs.Answers.{reads}
 use Rattle.entry.specs.Entry.{entryRefusals}
 use Rattle.interpreter.specs.BegunLaws.{entry-begun}
 use Rattle.entry.specs.Ends.{endsOf}
-use Rattle.steps.specs.Bare.{Prepared}
 use Rattle.interpreter.specs.BareRun.{Result, Ends, SafeRun, bareRun}
-use Rattle.interpreter.specs.StartLaws.{admitted, start-prepared, start-safe, start-agrees}
-use Rattle.interpreter.specs.Agreement.{resultShown}
+use Rattle.interpreter.specs.Slots.{Laid}
+use Rattle.interpreter.specs.StartLaws.{admitted, start-laid, start-safe, start-agrees}
+use Rattle.interpreter.specs.Agreement.{resultShown, PassesAt}
 use Rattle.rules.specs.Verdict as verdictRules
 use Rattle.rules.specs.ByChains.{byChains}
 use Rattle.rules.specs.Decidable.{decided, decider, decider-decides}
@@ -40,7 +40,15 @@ use Rattle.rules.specs.Agreement.{SameFirst, same-self, same-also, faults-agree
 use Rattle.interpreter.specs.Claim.{Lent, Leaves, entryFaults, runFaults}
 use Rattle.interpreter.specs.Claim.{Ran, RunAnswer, RunJudged, Begins, WholeRun, WholeSetRun}
 use Rattle.interpreter.specs.AnswerLaws.{never}
-use Rattle.interpreter.specs.AloneLaws.{lends, leaves, pointAlone, unstuck, rows-long, reads-at, ran-alone}
+use Rattle.interpreter.specs.AloneLaws.{lends, leaves, pointAlone, unstuck, rows-long, report-plain, report-passes, reads-at, ran-alone}
+use Rattle.interpreter.specs.Marks.{marks, Reports}
+use Rattle.reports.specs.Reports.{reported}
+use Rattle.rules.specs.Report.{reportedAt}
+use Rattle.statements.specs.Statements.{statementAt}
+use Rattle.statements.specs.declared.Simple.{Simple}
+use Rattle.statements.specs.declared.Statement.{Statement}
+use Rattle.statements.specs.declared.Statement.the-variants.{Plain}
+use Rattle.statements.specs.declared.StatementRead.the-variants.{Read}
 use Rattle.entry.specs.Entered.{entered}
 use Rattle.entry.specs.declared.EntryVerdict.{EntryVerdict}
 use Rattle.entry.specs.declared.EntryVerdict.the-variants as entry
@@ -59,25 +67,36 @@ module _ (T : List ℤ) (h : Sections) (L : List ℤ) (formed : formOf T ≡ Wel
       (environment-declares T h (well-formed T h formed) .below)
 
   -- What the loop asks.
-  pub run-prepared : (w : List ℕ) → 2 * h .statements ≤ length w → Prepared T h (endsOf (environmentOf T h) ownRows) D (written (tableFlow T h) w) vs
-  run-prepared w room = start-prepared T h D cs vs os w (well-formed T h formed) (clear [] T h L formed accepts .laid) room
+  pub run-laid : (w M : List ℕ) → 2 * h .statements ≤ length w
+      → Laid T h (endsOf (environmentOf T h) ownRows) D (marks M (h .statements) (written (tableFlow T h) w)) vs
+  run-laid w M room = start-laid T h D cs vs os w M (well-formed T h formed) (clear [] T h L formed accepts .laid) room
       (admitted h (environmentOf T h) D cs vs os none)
 
-  pub run-safe : (w : List ℕ) → 2 * h .statements ≤ length w → (limit : ℕ)
-      → SafeRun T h (endsOf (environmentOf T h) ownRows) D (written (tableFlow T h) w) limit 0 vs cs
-  run-safe w room limit =
-      start-safe T h D cs vs os w (well-formed T h formed) (clear [] T h L formed accepts .laid) room (admitted h (environmentOf T h) D cs vs os none)
-      (unstuck T h L formed accepts D cs vs os begun) (rows-long T h L formed accepts D cs vs os begun) limit
+  report-first : (M : List ℕ) → Reports T L M → (a : ℕ) → a < h .statements → reported M a ≡ true → reportedAt store T L a ≡ true
+  report-first M m a l e = sym (m a (omega (arith, l, well-formed T h formed .limits .statements))) ∙ e
+
+  pub run-plain : (M : List ℕ) → Reports T L M → (a : ℕ) → a < h .statements → reported M a ≡ true → (s : Statement) → statementAt T h a ≡ Read s
+      → (x : Simple) × (s ≡ Plain x)
+  run-plain M m a l e = report-plain T h L formed accepts D cs vs os begun a (report-first M m a l e)
+
+  pub run-passes : (M : List ℕ) → Reports T L M → (t : ℕ) → PassesAt T h (environmentOf T h) M (pointAlone T h D cs vs os t)
+  run-passes M m t l e = report-passes T h L formed accepts D cs vs os begun t (report-first M m _ l e)
+
+  pub run-safe : (w M : List ℕ) → Reports T L M → 2 * h .statements ≤ length w → (limit : ℕ)
+      → SafeRun T h (endsOf (environmentOf T h) ownRows) D (marks M (h .statements) (written (tableFlow T h) w)) limit 0 vs cs
+  run-safe w M m room limit =
+      start-safe T h D cs vs os w M (well-formed T h formed) (clear [] T h L formed accepts .laid) room (admitted h (environmentOf T h) D cs vs os none)
+      (unstuck T h L formed accepts D cs vs os begun) (rows-long T h L formed accepts D cs vs os begun) (run-plain M m) (run-passes M m) limit
 
   -- What the loop leaves is the claim.
-  pub run-claim : (w : List ℕ) → 2 * h .statements ≤ length w → (limit : ℕ) (r : Outcome) (W′ vs′ cs′ : List ℕ)
-      → Ends (bareRun T h (endsOf (environmentOf T h) ownRows) D (written (tableFlow T h) w) limit 0 0 vs cs) r W′ vs′ cs′
+  pub run-claim : (w M : List ℕ) → Reports T L M → 2 * h .statements ≤ length w → (limit : ℕ) (r : Outcome) (W′ vs′ cs′ : List ℕ)
+      → Ends (bareRun T h (endsOf (environmentOf T h) ownRows) D (marks M (h .statements) (written (tableFlow T h) w)) limit 0 0 vs cs) r W′ vs′ cs′
       → Ran (T ∷ []) (lends D cs vs os) L limit (leaves r vs′ cs′)
-  run-claim w room limit r W′ vs′ cs′ e =
-      let agrees : bareRun T h (endsOf (environmentOf T h) ownRows) D (written (tableFlow T h) w) limit 0 0 vs cs ≡ resultShown (environmentOf T h) h
-      (pointAlone T h D cs vs os limit)
-      = start-agrees T h D cs vs os w (well-formed T h formed) (clear [] T h L formed accepts .laid) room (admitted h (environmentOf T h) D cs vs os none)
-      (unstuck T h L formed accepts D cs vs os begun) (rows-long T h L formed accepts D cs vs os begun) limit in
+  run-claim w M m room limit r W′ vs′ cs′ e =
+      let agrees : bareRun T h (endsOf (environmentOf T h) ownRows) D (marks M (h .statements) (written (tableFlow T h) w)) limit 0 0 vs cs
+      ≡ resultShown (environmentOf T h) h (pointAlone T h D cs vs os limit)
+      = start-agrees T h D cs vs os w M (well-formed T h formed) (clear [] T h L formed accepts .laid) room (admitted h (environmentOf T h) D cs vs os none)
+      (unstuck T h L formed accepts D cs vs os begun) (rows-long T h L formed accepts D cs vs os begun) (run-plain M m) (run-passes M m) limit in
       ran-alone T h L formed accepts D cs vs os begun limit r vs′ cs′
       (ap reads (e .outcome ∙ ap (λ (o : Result). o .outcome) agrees) ∙ reads-at T h L formed accepts D cs vs os begun limit)
       (e .values ∙ ap (λ (o : Result). o .values) agrees) (e .cells ∙ ap (λ (o : Result). o .cells) agrees)
@@ -108,11 +127,11 @@ begun-ran T h L D cs vs os limit r vs′ cs′ f e n a = rw (entry-only T h L D 
 
 -- ---- what the code has in hand where the loop begins
 
-pub launched : {T : List ℤ} {h : Sections} {L : List ℤ} {D cs vs os W S : List ℕ} {E′ : Environment} {v : EntryVerdict} {b : Bool} (w : List ℕ)
+pub launched : {T : List ℤ} {h : Sections} {L : List ℤ} {D cs vs os W S S₀ : List ℕ} {E′ : Environment} {v : EntryVerdict} {b : Bool} (w : List ℕ)
     → formOf T ≡ WellFormed h → faults [] T L ≡ [] → Small cs vs → E′ ≡ environmentOf T h → v ≡ entered (entryRefusals h E′ D cs vs os) → v ≡ entry.Begun
     → W ≡ endsOf E′ ownRows
-    → Written T h w b S → length w ≡ 2048 → Launched T h L D cs vs os W S
-launched {T} {h} {L} {D} {cs} {vs} {os} {W} {S} {E′} {v} w f a l e q g k s n =
+    → Written T h w b S₀ → length w ≡ 2048 → (M : List ℕ) → Reports T L M → S ≡ marks M (h .statements) S₀ → Launched T h L D cs vs os W S
+launched {T} {h} {L} {D} {cs} {vs} {os} {W} {S} {S₀} {E′} {v} w f a l e q g k s n M m j =
     let room : 2 * h .statements ≤ length w = omega (arith, well-formed T h f .limits .statements) in
     record {
       formed = f;
@@ -122,14 +141,17 @@ launched {T} {h} {L} {D} {cs} {vs} {os} {W} {S} {E′} {v} w f a l e q g k s n =
       ends = k ∙ ap (λ (X : Environment). endsOf X ownRows) e;
       slice = w;
       room = room;
-      successors = rw (le-leb (2 * h .statements) (length w) room) at (s .entries);
+      report = M;
+      reports = m;
+      successors = rw (rw (le-leb (2 * h .statements) (length w) room) at (s .entries)) at j;
     }
 
 module _ {T : List ℤ} {h : Sections} {L : List ℤ} {D cs vs os W S : List ℕ} (begins : Launched T h L D cs vs os W S) (limit : ℕ) where
-  pub launched-ready : Prepared T h W D S vs × SafeRun T h W D S limit 0 vs cs
+  pub launched-ready : Laid T h W D S vs × SafeRun T h W D S limit 0 vs cs
   launched-ready = rw (begins .ends, begins .successors) (
-    run-prepared T h L (begins .formed) (begins .accepts) D cs vs os (begins .small) (begins .none) (begins .slice) (begins .room),
-    run-safe T h L (begins .formed) (begins .accepts) D cs vs os (begins .small) (begins .none) (begins .slice) (begins .room) limit,
+    run-laid T h L (begins .formed) (begins .accepts) D cs vs os (begins .small) (begins .none) (begins .slice) (begins .report) (begins .room),
+    run-safe T h L (begins .formed) (begins .accepts) D cs vs os (begins .small) (begins .none) (begins .slice) (begins .report) (begins .reports)
+        (begins .room) limit,
   )
 
   pub launched-ran : {r : Outcome} {W′ vs′ cs′ : List ℕ} → Ends (bareRun T h W D S (limit - 0) 0 0 vs cs) r W′ vs′ cs′
@@ -137,8 +159,8 @@ module _ {T : List ℤ} {h : Sections} {L : List ℤ} {D cs vs os W S : List ℕ
   launched-ran {r} {W′} {vs′} {cs′} e =
       let z : limit - 0 ≡ limit = omega arith in
       begun-ran T h L D cs vs os limit r vs′ cs′ (begins .formed) (begins .accepts) (begins .none)
-      (run-claim T h L (begins .formed) (begins .accepts) D cs vs os (begins .small) (begins .none) (begins .slice) (begins .room) limit r
-      W′ vs′ cs′ (rw (z, begins .ends, begins .successors) at e))
+      (run-claim T h L (begins .formed) (begins .accepts) D cs vs os (begins .small) (begins .none) (begins .slice) (begins .report) (begins .reports)
+      (begins .room) limit r W′ vs′ cs′ (rw (z, begins .ends, begins .successors) at e))
 
 -- ---- refusals of `prepare`
 

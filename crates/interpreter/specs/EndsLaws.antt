@@ -40,7 +40,7 @@ use Rattle.rules.specs.declared.Environment.{Environment}
 use Rattle.machine.specs.Machine.{value, endValue, endOf, lowerEnd, upperEnd, address, none, firstOf, accessFailing, loadFailing}
 use Rattle.machine.specs.Machine.{storeFailing, failing, indexed, arithmeticFailing, Failing, beyond, terminatorFailing}
 use Rattle.entry.specs.Ends.{endNumber, boundsNumber, endsOf, placeBounds, afterBounds, placeNumber, markNumber}
-use Rattle.checks.specs.Checked.{boundsIn, declaredIn, sizeIn, stringIn}
+use Rattle.checks.specs.Checked.{boundsIn, declaredIn, sizeIn, stringIn, Named}
 use Rattle.checks.specs.CheckLaws.{size-in}
 use Rattle.steps.specs.Bare.{copied, endsAfter}
 use Rattle.steps.specs.CopiedLaws.{copied-long, copied-inside, copied-outside}
@@ -246,91 +246,90 @@ sized-number : (s : ℕ) (b : Bounds) (j : ℕ) → boundsNumber (sized s b) j �
 unfolding boundsNumber
 sized-number s b j = refl
 
--- ---- the ends of a table are small, so that no sum of an end wraps
+-- ---- the ends of a table are small, so that no sum of an end wraps, and what they name has a slot
+
+-- The number j of an end, and of bounds: the last of each end is its constant.
+abbrev EndNumber : ℕ → ℕ → Type 0
+EndNumber j x = (x < 2 ^ 34) × (j < 2 → x ≤ 16)
+
+abbrev BoundsNumber : ℕ → ℕ → Type 0
+BoundsNumber j x = (x < 2 ^ 34) × (j < 6 → j % 3 < 2 → x ≤ 16)
+
+abbrev EndsNumber : ℕ → ℕ → Type 0
+EndsNumber i x = (x < 2 ^ 34) × (i % 3 < 2 → x ≤ 16)
 
 module _ (T : List ℤ) (h : Sections) where
-  index-small : (i : ℕ) → Limits h → IsIndex T h i → i < 2 ^ 34
-  index-small i l (missing e) = omega arith
-  index-small i l (given t) = omega (arith, t .below, l .variables)
+  index-fits : (i : ℕ) → Limits h → IsIndex T h i → EndNumber 1 i
+  index-fits i l (missing e) = (omega (arith, e), λ m. omega (arith, e))
+  index-fits i l (given t) = (omega (arith, t .below, l .variables), λ m. omega (arith, t .below, l .variables))
 
-  end-small : (e : End) → Limits h → EndTyped T h e → (j : ℕ) → endNumber e j < 2 ^ 34
+  end-fits : (e : End) → Limits h → EndTyped T h e → (j : ℕ) → EndNumber j (endNumber e j)
   unfolding endNumber
-  end-small e l t zero = omega (arith, t .pointer .below, l .variables)
-  end-small e l t (suc zero) = index-small (e .integer) l (t .integer)
-  end-small e l t (suc (suc n)) = omega (arith, t .constant .high)
+  end-fits e l t zero = (omega (arith, t .pointer .below, l .variables), λ m. omega (arith, t .pointer .below, l .variables))
+  end-fits e l t (suc zero) = index-fits (e .integer) l (t .integer)
+  end-fits e l t (suc (suc n)) = (omega (arith, t .constant .high), λ m. absurd (omega (arith, m)))
 
-  none-small : (j : ℕ) → endNumber (endOf Unknown) j < 2 ^ 34
+  none-fits : (j : ℕ) → EndNumber j (endNumber (endOf Unknown) j)
   unfolding endNumber
-  none-small zero = omega arith
-  none-small (suc zero) = omega arith
-  none-small (suc (suc n)) = omega arith
+  none-fits zero = (omega arith, λ m. omega arith)
+  none-fits (suc zero) = (omega arith, λ m. omega arith)
+  none-fits (suc (suc n)) = (omega arith, λ m. omega arith)
 
-  pick-small : (b : Bool) (x y : ℕ) → x < 2 ^ 34 → y < 2 ^ 34 → cond b x y < 2 ^ 34
-  pick-small true x y p q = p
-  pick-small false x y p q = q
-
-  bounds-small : (b : Bounds) → ((j : ℕ) → endNumber (endOf (b .lower)) j < 2 ^ 34) → ((j : ℕ) → endNumber (endOf (b .upper)) j < 2 ^ 34) → (j : ℕ)
-      → boundsNumber b j < 2 ^ 34
+  bounds-fits : (b : Bounds) → ((j : ℕ) → EndNumber j (endNumber (endOf (b .lower)) j)) → ((j : ℕ) → EndNumber j (endNumber (endOf (b .upper)) j)) → (j : ℕ)
+      → BoundsNumber j (boundsNumber b j)
   unfolding boundsNumber
-  bounds-small b p q j = pick-small (ltb j 3) (endNumber (endOf (b .lower)) j) (endNumber (endOf (b .upper)) (j - 3)) (p j) (q (j - 3))
+  bounds-fits b p q j = go (ltb j 3) refl
+    where
+      go : (c : Bool) → ltb j 3 ≡ c → BoundsNumber j (cond c (endNumber (endOf (b .lower)) j) (endNumber (endOf (b .upper)) (j - 3)))
+      go true e = (p j .0, λ k m. p j .1 (omega (arith, m, ltb-true j 3 e)))
+      go false e = (q (j - 3) .0, λ k m. q (j - 3) .1 (omega (arith, k, m, ltb-false j 3 e)))
 
-  variable-small : (v : ℕ) (r : VariableRead) → variableAt T h v ≡ r → (j : ℕ) → boundsNumber (boundsOf r) j < 2 ^ 34
-  variable-small v Unread e j = bounds-small nothingKnown none-small none-small j
-  variable-small v (Read Integer) e j = bounds-small nothingKnown none-small none-small j
-  variable-small v (Read (Pointer s low high)) e j =
+  variable-fits : (v : ℕ) (r : VariableRead) → variableAt T h v ≡ r → (j : ℕ) → BoundsNumber j (boundsNumber (boundsOf r) j)
+  variable-fits v Unread e j = bounds-fits nothingKnown none-fits none-fits j
+  variable-fits v (Read Integer) e j = bounds-fits nothingKnown none-fits none-fits j
+  variable-fits v (Read (Pointer s low high)) e j =
       let t = variable-read-typed T h v (Pointer s low high) e in
       let l = variable-read-limits T h v (Pointer s low high) e .0 in
-      bounds-small (boundsOf (Read (Pointer s low high))) (end-small low l (t .lower)) (end-small high l (t .upper)) j
+      bounds-fits (boundsOf (Read (Pointer s low high))) (end-fits low l (t .lower)) (end-fits high l (t .upper)) j
 
-  row-small : (r : ℕ) (x : RowRead) → rowAt T h r ≡ x → Limits h → (j : ℕ) → boundsNumber (rowBounds x) j < 2 ^ 34
-  row-small r row.Unread e l j = bounds-small nothingKnown none-small none-small j
-  row-small r (row.Read low high) e l j =
+  row-fits : (r : ℕ) (x : RowRead) → rowAt T h r ≡ x → Limits h → (j : ℕ) → BoundsNumber j (boundsNumber (rowBounds x) j)
+  row-fits r row.Unread e l j = bounds-fits nothingKnown none-fits none-fits j
+  row-fits r (row.Read low high) e l j =
       let t = row-read-typed T h r low high e in
-      bounds-small (rowBounds (row.Read low high)) (end-small low l (t .lower)) (end-small high l (t .upper)) j
+      bounds-fits (rowBounds (row.Read low high)) (end-fits low l (t .lower)) (end-fits high l (t .upper)) j
 
   -- The bounds of a list that is tabulated, or none.
-  list-small : (n : ℕ) (f : ℕ → Bounds) → ((i j : ℕ) → boundsNumber (f i) j < 2 ^ 34) → (i j : ℕ) → boundsNumber (getD (tabulate n f) i nothingKnown) j < 2 ^ 34
-  list-small n f g i j = go (ltb i n) refl
+  list-fits : (n : ℕ) (f : ℕ → Bounds) → ((i j : ℕ) → BoundsNumber j (boundsNumber (f i) j)) → (i j : ℕ)
+      → BoundsNumber j (boundsNumber (getD (tabulate n f) i nothingKnown) j)
+  list-fits n f g i j = go (ltb i n) refl
     where
-      go : (b : Bool) → ltb i n ≡ b → boundsNumber (getD (tabulate n f) i nothingKnown) j < 2 ^ 34
+      go : (b : Bool) → ltb i n ≡ b → BoundsNumber j (boundsNumber (getD (tabulate n f) i nothingKnown) j)
       go true q = rw (getD-tabulate n f i nothingKnown (ltb-true i n q)) (g i j)
       go false q =
           let k : length (tabulate n f) ≤ i = omega (arith, length-tabulate n f, ltb-false i n q) in
-          rw (List·getD-eq-default (tabulate n f) nothingKnown {n = i} k) (bounds-small nothingKnown none-small none-small j)
+          rw (List·getD-eq-default (tabulate n f) nothingKnown {n = i} k) (bounds-fits nothingKnown none-fits none-fits j)
 
-  rows-small : Limits h → (r j : ℕ) → boundsNumber (getD (environmentOf T h .rows) r nothingKnown) j < 2 ^ 34
+  rows-fits : Limits h → (r j : ℕ) → BoundsNumber j (boundsNumber (getD (environmentOf T h .rows) r nothingKnown) j)
   unfolding environmentOf
-  rows-small l r j = list-small 64 (λ v. rowBounds (rowAt T h v)) (λ v k. row-small v (rowAt T h v) refl l k) r j
+  rows-fits l r j = list-fits 64 (λ v. rowBounds (rowAt T h v)) (λ v k. row-fits v (rowAt T h v) refl l k) r j
 
-  number-small : Limits h → (n p j : ℕ) → boundsNumber (rowBound (environmentOf T h) n p) j < 2 ^ 34
+  number-fits : Limits h → (n p j : ℕ) → BoundsNumber j (boundsNumber (rowBound (environmentOf T h) n p) j)
   unfolding rowBound environmentOf
-  number-small l zero p j = list-small 16 (λ v. boundsOf (variableAt T h v)) (λ v k. variable-small v (variableAt T h v) refl k) p j
-  number-small l (suc r) p j = rw (sized-number (elementSize (environmentOf T h) p) (getD (environmentOf T h .rows) r nothingKnown) j) (rows-small l r j)
+  number-fits l zero p j = list-fits 16 (λ v. boundsOf (variableAt T h v)) (λ v k. variable-fits v (variableAt T h v) refl k) p j
+  number-fits l (suc r) p j = rw (sized-number (elementSize (environmentOf T h) p) (getD (environmentOf T h .rows) r nothingKnown) j) (rows-fits l r j)
 
-  place-small : Limits h → (R : List ℕ) (q j : ℕ) → boundsNumber (placeBounds (environmentOf T h) R q) j < 2 ^ 34
+  place-fits : Limits h → (R : List ℕ) (q j : ℕ) → BoundsNumber j (boundsNumber (placeBounds (environmentOf T h) R q) j)
   unfolding placeBounds rowBound
-  place-small l R q j = go (ltb q 16) refl
+  place-fits l R q j = go (ltb q 16) refl
     where
       go : (b : Bool) → ltb q 16 ≡ b
-          → boundsNumber (cond b (declared (inForce (environmentOf T h) R) q) (getD (environmentOf T h .rows) (q - 16) nothingKnown)) j < 2 ^ 34
-      go true e = rw (declared-in-force (environmentOf T h) R q (ltb-true q 16 e)) (number-small l (getD R q 0) q j)
-      go false e = rows-small l (q - 16) j
+          → BoundsNumber j (boundsNumber (cond b (declared (inForce (environmentOf T h) R) q) (getD (environmentOf T h .rows) (q - 16) nothingKnown)) j)
+      go true e = rw (declared-in-force (environmentOf T h) R q (ltb-true q 16 e)) (number-fits l (getD R q 0) q j)
+      go false e = rows-fits l (q - 16) j
 
-  pub ends-small : Limits h → (R : List ℕ) (i : ℕ) → getD (endsOf (environmentOf T h) R) i 0 < 2 ^ 34
-  unfolding endsOf
-  ends-small l R i = go (ltb i 512) (ltb-true i 512) (ltb-false i 512)
-    where
-      go : (b : Bool) → (b ≡ true → i < 512) → (b ≡ false → 512 ≤ i) → getD (endsOf (environmentOf T h) R) i 0 < 2 ^ 34
-      go true p q =
-          rw (getD-tabulate 512 (placeNumber (environmentOf T h) R) i 0 (p refl))
-          (pick-small (ltb i 480) (boundsNumber (placeBounds (environmentOf T h) R (i / 6)) (i % 6)) (afterBounds (environmentOf T h) i)
-          (place-small l R (i / 6) (i % 6))
-          (pick-small (ltb i 496) (elementSize (environmentOf T h) (i - 480)) (markNumber (isString (environmentOf T h) (i - 496)))
-          (omega (arith, sizes-small T h (i - 480))) (pick-small (isString (environmentOf T h) (i - 496)) 1 0 (omega arith) (omega arith))))
-      go false p q =
-          let m = q refl in
-          let g : length (endsOf (environmentOf T h) R) ≤ i = omega (arith, ends-long (environmentOf T h) R) in
-          omega (arith, List·getD-eq-default (endsOf (environmentOf T h) R) 0 g)
+  pick-fits : (P : ℕ → Type 0) (b : Bool) (x y : ℕ) → P x → P y → P (cond b x y)
+  pick-fits P true x y p q = p
+  pick-fits P false x y p q = q
 
   few : (b : Bool) (x y : ℕ) → x ≤ 8 → y ≤ 8 → cond b x y ≤ 8
   few true x y p q = p
@@ -340,6 +339,28 @@ module _ (T : List ℤ) (h : Sections) where
   after-few i =
       few (ltb i 496) (elementSize (environmentOf T h) (i - 480)) (markNumber (isString (environmentOf T h) (i - 496)))
       (sizes-small T h (i - 480)) (few (isString (environmentOf T h) (i - 496)) 1 0 (omega arith) (omega arith))
+
+  ends-fit : Limits h → (R : List ℕ) (i : ℕ) → EndsNumber i (getD (endsOf (environmentOf T h) R) i 0)
+  unfolding endsOf
+  ends-fit l R i = go (ltb i 512) (ltb-true i 512) (ltb-false i 512)
+    where
+      go : (b : Bool) → (b ≡ true → i < 512) → (b ≡ false → 512 ≤ i) → EndsNumber i (getD (endsOf (environmentOf T h) R) i 0)
+      go true p q =
+          let b = place-fits l R (i / 6) (i % 6) in
+          rw (getD-tabulate 512 (placeNumber (environmentOf T h) R) i 0 (p refl))
+          (pick-fits (EndsNumber i) (ltb i 480) (boundsNumber (placeBounds (environmentOf T h) R (i / 6)) (i % 6)) (afterBounds (environmentOf T h) i)
+          (b .0, λ m. b .1 (omega arith) (omega (arith, m))) (omega (arith, after-few i), λ m. omega (arith, after-few i)))
+      go false p q =
+          let m = q refl in
+          let g : length (endsOf (environmentOf T h) R) ≤ i = omega (arith, ends-long (environmentOf T h) R) in
+          let z = List·getD-eq-default (endsOf (environmentOf T h) R) 0 g in
+          (omega (arith, z), λ m. omega (arith, z))
+
+  pub ends-small : Limits h → (R : List ℕ) (i : ℕ) → getD (endsOf (environmentOf T h) R) i 0 < 2 ^ 34
+  ends-small l R i = ends-fit l R i .0
+
+  pub ends-named : Limits h → (R : List ℕ) → Named (endsOf (environmentOf T h) R)
+  ends-named l R i m = ends-fit l R i .1 m
 
   -- Point 10: the element sizes are at most 8, as are the marks behind them.
   pub ends-sizes : (R : List ℕ) (p : ℕ) → sizeIn (endsOf (environmentOf T h) R) p ≤ 8

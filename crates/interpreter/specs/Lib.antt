@@ -1,5 +1,9 @@
 pub mod BareRun
 pub mod RunLaws
+pub mod Marks
+pub mod MarksLaws
+pub mod Slots
+pub mod SlotsLaws
 pub mod BegunLaws
 pub mod EndsLaws
 pub mod Outcomes
@@ -13,6 +17,7 @@ pub mod Traces
 pub mod StepLaws
 pub mod AnswerLaws
 pub mod SetStepLaws
+pub mod SafeLaws
 pub mod PointLaws
 pub mod AloneLaws
 pub mod Starts

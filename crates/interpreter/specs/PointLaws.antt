@@ -2,7 +2,7 @@
 use Prim.Native.Nat.{ℕ, _+_, _-_, _≤_, _<_}
 use mathlib.Core.Path.{_≡_, refl, sym, ap, subst, _∙_}
 use mathlib.Core.Logic.{_≢_, _↔_, _⊎_, inl, inr}
-use mathlib.Core.Bool.{Bool, true, false, false≢true}
+use mathlib.Core.Bool.{Bool, true, false}
 use mathlib.Core.List.{List, [], _∷_}
 use native.Mathlib.Nat.{eq-or-lt-of-le}
 use native.Mathlib.Numerals.{add-one}
@@ -13,15 +13,13 @@ use lib.IntN.{ℤ}
 use lib.ListN.{length, getD, List·getD-eq-default}
 use Rattle.answers.specs.Answers.{Answer, reads}
 use Rattle.answers.specs.Answers as says
-use Rattle.answers.specs.declared.refusals.Refusal.{Refusal}
 use Rattle.words.specs.declared.sections.Sections.{Sections}
 use Rattle.conditions.specs.declared.Condition.{Condition}
 use Rattle.statements.specs.Statements.{statementAt}
 use Rattle.statements.specs.StatementLaws.{read-typed}
 use Rattle.statements.specs.declared.Simple.the-variants.{Address}
-use Rattle.statements.specs.declared.Statement.the-variants.{Plain, If, While, Bundle, Call}
-use Rattle.statements.specs.declared.StatementRead.{StatementRead}
-use Rattle.statements.specs.declared.StatementRead.the-variants.{Read, Unread}
+use Rattle.statements.specs.declared.Statement.the-variants.{Plain, While}
+use Rattle.statements.specs.declared.StatementRead.the-variants.{Read}
 use Rattle.table.specs.Form.{sectionsOf}
 use Rattle.blocks.specs.Tree.{tree}
 use Rattle.listed.specs.Entries.{entriesOf, EntriesHold}
@@ -29,13 +27,13 @@ use Rattle.rules.specs.Calls.{Routine, routineAt, noRoutine}
 use Rattle.rules.specs.ListedLaws.{entries-right, entries-mean}
 use Rattle.rules.specs.ByChains.{Decider, byChains, DecidesTable}
 use Rattle.rules.specs.StateBefore.{stateBefore}
-use Rattle.rules.specs.Report.{readSafe, safeAt, reportedIf, reportedAt}
+use Rattle.rules.specs.Report.{readSafe, safeAt, reportedAt}
 use Rattle.rules.specs.ReportLaws.{report-agrees}
 use Rattle.rules.specs.Sets.{routinesOf}
 use Rattle.rules.specs.SetLaws.{length-routines, routine-at}
-use Rattle.rules.specs.Stored.{store, newState, faults}
+use Rattle.rules.specs.Stored.{store, newState}
 use Rattle.machine.specs.Machine.{value, none, fails, Status, going, stopped, stuck, halted, start}
-use Rattle.machine.specs.Points.{Access, no-access, access, accessFrom, AccessInside, Outside, failingAt}
+use Rattle.machine.specs.Points.{Access, no-access, access, accessFrom, AccessInside, Outside}
 use Rattle.machine.specs.Soundness.{AccessAllowed}
 use Rattle.machine.specs.Frame.{Names}
 use Rattle.machine.specs.SetMachine.{Frame, Stack, stack, startStack, stackAfter, nextStack}
@@ -43,23 +41,15 @@ use Rattle.machine.specs.SetMachine as sets
 use Rattle.machine.specs.SetSound.{SetSetting, StackInvariant, StackSound, AllTrue, stack-kept, stack-sound}
 use Rattle.machine.specs.SetFrame.{StackOrigins, run-stack-framed}
 use Rattle.interpreter.specs.AnswerLaws.{never, going-done, going-spent, done-steps, stopped-steps, spent-steps}
+use Rattle.interpreter.specs.SafeLaws.{reported-safe, safe-passes}
 use Rattle.interpreter.specs.Traces.{ended, stopped-rests, counts, all-counted}
 use Rattle.interpreter.specs.SetStepLaws.{StackFacts, stack-facts, stack-rests, stack-counted}
-use Rattle.interpreter.specs.Claim.{Lent, Leaves, answerOf, lastNumber, stateOf, running, declaredAt, failingDue, answerAt}
+use Rattle.interpreter.specs.Claim.{Lent, Leaves, answerOf, lastNumber, stateOf, running, failingDue, answerAt}
 use Rattle.interpreter.specs.Claim.{CallersTrue, AtPoint, EndsAt, Ran}
 
 pub allowed-inside : (D : List ℕ) (n : ℕ) (a : Access) → AccessAllowed D n a → AccessInside D a
 allowed-inside D n no-access h = tt
 allowed-inside D n (access a o) h = h .inside
-
--- A reported statement is shown safe.
-reported-safe : (T L : List ℤ) (a : ℕ) → reportedAt store T L a ≡ true → safeAt store T (sectionsOf T) L a ≡ true
-unfolding reportedAt reportedIf
-reported-safe T L a e = go (faults [] T L) e
-  where
-    go : (fs : List Refusal) → reportedIf fs (safeAt store T (sectionsOf T) L a) ≡ true → safeAt store T (sectionsOf T) L a ≡ true
-    go [] e = e
-    go (f ∷ fs) e = absurd (false≢true e)
 
 -- Of a routine with its own sections and what it declares.
 module _ (L : List ℤ) (a : ℕ) where
@@ -286,23 +276,13 @@ module _ (Ts : List (List ℤ)) (l : Lent) (L : List ℤ) (setting : SetSetting 
       entries-mean T (h t) w (entriesOf L (state t .point .due)) (value (state t .point .values))
       (entries-right T (h t) w L (setting .listed (state t .routine) (right t .known)) (state t .point .due)) (right t .running .listed c n e)
 
-  read-passes : (t : ℕ) (r : StatementRead) → statementAt (running Ts l t .table) (h t) (state t .point .due) ≡ r
-      → readSafe store (running Ts l t .environment) r
-      (stateBefore store (running Ts l t .environment) L (tree (running Ts l t .table) (h t)) newState (state t .point .due)) ≡ true
-      → failingAt (declaredAt Ts l t) r (state t .point .values) ≡ none
-  read-passes t (Read (Plain s)) e q = right t .running .safe s e q
-  read-passes t (Read (If c n m)) e q = absurd (false≢true q)
-  read-passes t (Read (While c n)) e q = absurd (false≢true q)
-  read-passes t (Read (Bundle n)) e q = absurd (false≢true q)
-  read-passes t (Read (Call c)) e q = absurd (false≢true q)
-  read-passes t Unread e q = absurd (false≢true q)
-
   reported : (t : ℕ) (d : Decider) → DecidesTable (running Ts l t .table) d
       → reportedAt (byChains d) (running Ts l t .table) L (state t .point .due) ≡ true → failingDue Ts l t ≡ none
   reported t d c r =
       let T = running Ts l t .table in
       let a = reported-safe T L (state t .point .due) (report-agrees T L d c (state t .point .due) ∙ r) in
-      read-passes t (statementAt T (h t) (state t .point .due)) refl (routine-safe L (state t .point .due) Ts (state t .routine)
+      safe-passes T (h t) (running Ts l t .environment) L D room (state t .point) (right t .running) _ refl
+      (routine-safe L (state t .point .due) Ts (state t .routine)
       (right t .known) a)
 
   -- ---- every state

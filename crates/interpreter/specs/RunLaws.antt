@@ -8,7 +8,7 @@ use borrow.Author.Tests.{lt-ltb, le-ltb}
 use lib.IntN.{ℤ}
 use lib.ListN.{length, getD}
 use Rattle.words.specs.declared.sections.Sections.{Sections}
-use Rattle.checks.specs.Checked.{sizeIn}
+use Rattle.checks.specs.Checked.{sizeIn, Named}
 use Rattle.steps.specs.Bare.{bareMove, Ready, Prepared, Moves}
 use Rattle.interpreter.specs.BareRun.{Result, follow, bareRun, Onward, SafeRun, Ends}
 use Rattle.answers.specs.declared.stops.Check.{Check}
@@ -23,17 +23,18 @@ carry e m = rw e m
 
 -- Buffers of the same length serve as well.
 pub still-prepared : {T : List ℤ} {h : Sections} {W D S vs : List ℕ} (W′ ws : List ℕ) → length W′ ≡ length W → ((i : ℕ) → getD W′ i 0 < 2 ^ 34)
-    → ((x : ℕ) → sizeIn W′ x ≤ 8) → length ws ≡ length vs
+    → ((x : ℕ) → sizeIn W′ x ≤ 8) → Named W′ → length ws ≡ length vs
     → Prepared T h W D S vs → Prepared T h W′ D S ws
-still-prepared W′ ws l b s e p =
+still-prepared W′ ws l b s n e p =
     record {
       table = p .table;
       ends = l ∙ p .ends;
       small = b;
       sizes = s;
+      named = n;
       directory = p .directory;
       successors = p .successors;
-      values = omega (arith, p .values);
+      slots = omega (arith, p .slots);
     }
 
 module _ (T : List ℤ) (h : Sections) (W D S : List ℕ) where
@@ -62,12 +63,12 @@ module _ (T : List ℤ) (h : Sections) (W D S : List ℕ) where
       run-some = rw (some, add-one m, lt-ltb a (h .statements) within)
 
       safe-some : Safe l a vs cs →
-          Ready T h W a vs cs × Onward (bareMove T h W D S a vs cs .said)
+          Ready T h W S a vs cs × Onward (bareMove T h W D S a vs cs .said)
           (λ b. SafeRun T h (bareMove T h W D S a vs cs .ends) D S m b (bareMove T h W D S a vs cs .values) (bareMove T h W D S a vs cs .cells))
       unfolding SafeRun
       safe-some s = rw (some, add-one m, lt-ltb a (h .statements) within) at s
 
-      pub safe-ready : Safe l a vs cs → Ready T h W a vs cs
+      pub safe-ready : Safe l a vs cs → Ready T h W S a vs cs
       safe-ready s = safe-some s .0
 
       module _ (r : Step) (W′ ws ds : List ℕ) (q : Moves (bareMove T h W D S a vs cs) r W′ ws ds) where

@@ -18,21 +18,33 @@ use Rattle.words.specs.declared.sections.Sections.{Sections}
 use Rattle.table.specs.FormLaws.{Formed}
 use Rattle.blocks.specs.Tree.{tree}
 use Rattle.blocks.specs.Layout.{layout}
-use Rattle.blocks.specs.Flow.{successors, tableFlow, tableEntry}
+use Rattle.statements.specs.Statements.{statementAt}
+use Rattle.statements.specs.declared.Simple.{Simple}
+use Rattle.statements.specs.declared.Statement.{Statement}
+use Rattle.statements.specs.declared.Statement.the-variants.{Plain, If, While, Bundle, Call}
+use Rattle.statements.specs.declared.StatementRead.the-variants.{Read}
+use Rattle.blocks.specs.Flow.{Successors, successors, tableFlow, tableEntry}
+use Rattle.blocks.specs.Shape.{entriesAt}
 use Rattle.blocks.specs.Written.{written}
 use Rattle.blocks.specs.FlowLaws.{begins, length-written}
-use Rattle.blocks.specs.SuccessorLaws.{written-at}
+use Rattle.blocks.specs.SuccessorLaws.{written-at, bounded-at, flow-bounded, flow-long}
+use Rattle.reports.specs.Reports.{reported}
 use Rattle.rules.specs.BoundsRules.{isPointer, objectLength, ownRows}
 use Rattle.rules.specs.Verdict.{environmentOf}
 use Rattle.rules.specs.declared.Environment.{Environment}
-use Rattle.machine.specs.Machine.{value, lowerEnd, upperEnd, low, high, isObject, top, takesFrom, originHolds, boundsTrue, stuck, start}
+use Rattle.machine.specs.Machine.{value, lowerEnd, upperEnd, low, high, isObject, top, takesFrom, originHolds, boundsTrue}
+use Rattle.machine.specs.Machine.{stuck, successorsOf, start}
 use Rattle.machine.specs.AlonePoints.{pointAfter}
+use Rattle.steps.specs.Bare.{mark}
 use Rattle.entry.specs.Entry.{memoryRight, endBefore, pairRight, lengthsRight, entryRight, consUnless, failures, entryRefusals, lastRight}
-use Rattle.steps.specs.Bare.{Prepared}
 use Rattle.interpreter.specs.BareRun.{bareRun, SafeRun}
+use Rattle.interpreter.specs.Slots.{Laid}
+use Rattle.interpreter.specs.SlotsLaws.{slots-long}
 use Rattle.entry.specs.Ends.{endsOf}
-use Rattle.interpreter.specs.EndsLaws.{ends-long, ends-small, ends-sizes}
-use Rattle.interpreter.specs.Agreement.{resultShown, Runnable}
+use Rattle.interpreter.specs.EndsLaws.{ends-long, ends-small, ends-named, ends-sizes}
+use Rattle.interpreter.specs.Agreement.{resultShown, Serves, PassesAt, Runnable}
+use Rattle.interpreter.specs.Marks.{marks}
+use Rattle.interpreter.specs.MarksLaws.{length-marks, marks-next, marks-entries, marked-reported}
 use Rattle.interpreter.specs.AgreementLaws.{safe-run, run-agrees}
 
 -- "the first statement (in an empty table nothing)": the number 0 in both cases.
@@ -128,7 +140,7 @@ module _ (h : Sections) (E : Environment) (D cs vs os : List ℕ) (A : Admitted 
 
 -- ---- the run
 
-module _ (T : List ℤ) (h : Sections) (D cs vs os w : List ℕ)
+module _ (T : List ℤ) (h : Sections) (D cs vs os w M : List ℕ)
     (formed : Formed T h) (laid : layout T h ≡ []) (room : 2 * h .statements ≤ length w) (A : Admitted h (environmentOf T h) D cs vs os) where
   abbrev E : Environment
   E = environmentOf T h
@@ -137,34 +149,71 @@ module _ (T : List ℤ) (h : Sections) (D cs vs os w : List ℕ)
   W = endsOf E ownRows
 
   abbrev S : List ℕ
-  S = written (tableFlow T h) w
+  S = marks M (h .statements) (written (tableFlow T h) w)
 
   -- What the code's run asks of its slices.
-  pub start-prepared : Prepared T h W D S vs
-  start-prepared =
+  pub start-laid : Laid T h W D S vs
+  start-laid =
       record {
-        table = omega (arith, formed .long);
-        ends = ends-long E ownRows;
-        small = ends-small T h (formed .limits) ownRows;
-        sizes = ends-sizes T h ownRows;
-        directory = omega (arith, A .pairs);
-        successors = omega (arith, length-written (tableFlow T h) w);
-        values = omega (arith, A .values);
+        prepared = record {
+          table = omega (arith, formed .long);
+          ends = ends-long E ownRows;
+          small = ends-small T h (formed .limits) ownRows;
+          sizes = ends-sizes T h ownRows;
+          named = ends-named T h (formed .limits) ownRows;
+          directory = omega (arith, A .pairs);
+          successors = omega (arith, length-marks M (written (tableFlow T h) w) (h .statements), length-written (tableFlow T h) w);
+          slots = slots-long vs;
+        };
+        enough = omega (arith, A .values);
+        few = omega (arith, A .values, formed .limits .variables);
       }
 
+  -- A statement has the successors of the flow, marked where the words M report it.
+  written-here : (a : ℕ) → a < h .statements → entriesAt (written (tableFlow T h) w) a ≡ successorsOf T h E D a
+  written-here a l = written-at T h laid w (omega (arith, formed .limits .statements)) room a (successors 0 0 0) l
+
+  entry-small : (a : ℕ) → a < h .statements → getD (written (tableFlow T h) w) (2 * a + 1) 0 < mark
+  entry-small a l =
+      omega (
+        arith,
+        ap (λ (n : Successors). n .other) (written-here a l),
+        bounded-at (h .statements) (tableFlow T h) a (successors 0 0 0) (flow-bounded T h laid) (omega (arith, flow-long T h laid)) .1,
+        formed .limits .statements,
+      )
+
+  same-serves : (s : Statement) (m n : Successors) → m ≡ n → Serves s m n
+  same-serves (Plain s) m n e = ap (λ (k : Successors). k .next) e
+  same-serves (If c x y) m n e = e
+  same-serves (While c x) m n e = e
+  same-serves (Bundle x) m n e = e
+  same-serves (Call c) m n e = e
+
   module _ (unstuck : (t : ℕ) → pointAfter T h E D t (start T h E D cs vs os) .status ≡ stuck → ⊥)
-      (rows-long : (t : ℕ) → length (pointAfter T h E D t (start T h E D cs vs os) .rows) ≡ 16) where
+      (rows-long : (t : ℕ) → length (pointAfter T h E D t (start T h E D cs vs os) .rows) ≡ 16)
+      (plain : (a : ℕ) → a < h .statements → reported M a ≡ true → (s : Statement) → statementAt T h a ≡ Read s → (x : Simple) × (s ≡ Plain x))
+      (passes : (t : ℕ) → PassesAt T h E M (pointAfter T h E D t (start T h E D cs vs os))) where
+    serves : (a : ℕ) → a < h .statements → (s : Statement) → statementAt T h a ≡ Read s → Serves s (entriesAt S a) (successorsOf T h E D a)
+    serves a l s r = go (reported M a) refl
+      where
+        go : (b : Bool) → reported M a ≡ b → Serves s (entriesAt S a) (successorsOf T h E D a)
+        go true e =
+            subst (λ (x : Statement). Serves x (entriesAt S a) (successorsOf T h E D a)) (sym (plain a l e s r .1))
+            (marks-next M (written (tableFlow T h) w) (h .statements) a ∙ ap (λ (k : Successors). k .next) (written-here a l))
+        go false e = same-serves s _ _ (marks-entries M (written (tableFlow T h) w) (h .statements) a e ∙ written-here a l)
+
     pub start-runnable : Runnable T h E D W S (start T h E D cs vs os)
     unfolding start
     start-runnable =
         record {
           ends = refl;
-          successors = λ a l. written-at T h laid w (omega (arith, formed .limits .statements)) room a (successors 0 0 0) l;
+          successors = serves;
           reads = formed .statements;
           objects = object-inside h E D cs vs os A;
           origins = origin-inside h E D cs vs os A;
           rows-long = rows-long;
           unstuck = unstuck;
+          known = λ t l m. passes t l (marked-reported M (written (tableFlow T h) w) (h .statements) _ (entry-small _ l) m);
         }
 
     -- Where the plain machine is never stuck, the code's run is safe, and ends as the plain machine's point at the limit shows.

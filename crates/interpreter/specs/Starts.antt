@@ -17,6 +17,7 @@ use Rattle.rules.specs.Stored.{faults, store}
 use Rattle.entry.specs.Entry.{entryRefusals}
 use Rattle.entry.specs.Ends.{endsOf}
 use Rattle.interpreter.specs.Claim.{Lent, runFaults}
+use Rattle.interpreter.specs.Marks.{marks, Reports}
 use Rattle.interpreter.specs.declared.starts.Start.{Start}
 use Rattle.interpreter.specs.declared.starts.Start.the-variants as begin
 
@@ -25,7 +26,7 @@ pub record Small (cs vs : List ℕ) : Type 0 where
   pub cells-small : (i : ℕ) → getD cs i 0 ≤ maxValue
   pub values-small : (x : ℕ) → getD vs x 0 ≤ maxValue
 
--- Nothing refuses the run; W has the declared ends, S the successors of its statements.
+-- Nothing refuses the run; W has the declared ends, S the successors of its statements, with marks where they are reported.
 pub record Launched (T : List ℤ) (h : Sections) (L : List ℤ) (D cs vs os W S : List ℕ) : Type 0 where
   pub formed : formOf T ≡ WellFormed h
   pub accepts : faults [] T L ≡ []
@@ -34,7 +35,9 @@ pub record Launched (T : List ℤ) (h : Sections) (L : List ℤ) (D cs vs os W S
   pub ends : W ≡ endsOf (environmentOf T h) ownRows
   pub slice : List ℕ
   pub room : 2 * h .statements ≤ length slice
-  pub successors : S ≡ written (tableFlow T h) slice
+  pub report : List ℕ
+  pub reports : Reports T L report
+  pub successors : S ≡ marks report (h .statements) (written (tableFlow T h) slice)
 
 -- The first fault is r.
 abbrev pub First : List Refusal → Refusal → Type 0

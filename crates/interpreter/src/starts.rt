@@ -5,17 +5,24 @@ use checker::check;
 use entry::EntryVerdict;
 use entry::ends::lay_ends;
 use entry::enter;
+use reports::Report;
+use reports::has;
 use rules::Verdict;
 use rules::read_environment;
+use steps::MARK;
 use table::Form;
 use table::read_form;
 use words::sections::Sections;
 ghost use mathlib.Core.Path.{_≡_};
+ghost use mathlib.Core.Bool.{cond};
 ghost use mathlib.Core.List.{[]};
-ghost use lib.ListN.{length};
+ghost use Prim.Native.Nat.{_+_, _*_, _<_, _≤_};
+ghost use lib.ListN.{length, set};
 ghost use Rattle.table.specs.Form.{formOf};
 ghost use Rattle.table.specs.declared.Form.the-variants.{WellFormed};
 ghost use Rattle.rules.specs.Stored.{faults};
+ghost use Rattle.steps.specs.Bare.{mark};
+ghost use Rattle.interpreter.specs.Marks.{marks, Reports};
 ghost use Rattle.interpreter.specs.Starts.{Starts};
 
 // What a run begins with: a refusal, or the sections of its table.
@@ -36,6 +43,28 @@ pub fn copy_ends(laid: [u64; 512], ends: &mut [u64])
     }
 }
 
+// A statement that is reported, marked: its second successor is not asked for.
+fn mark_one(successors: &mut [u32], at: usize, safe: bool)
+    requires { ⌜ 2 * at + 1 < length (now successors) ⌝ }
+    ensures { λ _. ⌜ now (successors .exit) ≡ cond safe (set (now (successors .entry)) (2 * at + 1) mark) (now (successors .entry)) ⌝ }
+{
+    if safe {
+        successors[2 * at + 1] = MARK;
+    }
+}
+
+// All of those among the first `count`.
+fn mark_reported(report: Report, count: usize, successors: &mut [u32])
+    requires { ⌜ (count ≤ 1024) × (2 * count ≤ length (now successors)) ⌝ }
+    ensures { λ _. ⌜ now (successors .exit) ≡ marks (report .words) count (now (successors .entry)) ⌝ }
+{
+    let mut at = 0;
+    while at < count {
+        mark_one(successors, at, has(report, at));
+        at += 1;
+    }
+}
+
 // Of an accepted table of these sections: causes 10 to 12 and 16, then what the loop needs.
 fn prepare_sections(
     table: &[i32],
@@ -47,8 +76,9 @@ fn prepare_sections(
     origins: &[u32],
     ends: &mut [u64],
     successors: &mut [u32],
+    report: Report,
 ) -> Start
-    requires { ⌜ (formOf (now table) ≡ WellFormed sections) × (faults [] (now table) (now listed) ≡ []) ⌝ }
+    requires { ⌜ (formOf (now table) ≡ WellFormed sections) × (faults [] (now table) (now listed) ≡ []) × Reports (now table) (now listed) (report .words) ⌝ }
     requires { ⌜ (length (now ends) ≡ 512) × (length (now successors) ≡ 2048) ⌝ }
     ensures { λ r. ⌜ Starts r (now (table .entry)) (now (listed .entry)) (record {
       directory = now (directory .entry);
@@ -64,6 +94,7 @@ fn prepare_sections(
         EntryVerdict::Begun => {
             copy_ends(lay_ends(environment), ends);
             write_successors(table, sections, successors);
+            mark_reported(report, sections.statements, successors);
             Start::Begun(sections)
         }
     }
@@ -79,8 +110,9 @@ fn prepare_accepted(
     origins: &[u32],
     ends: &mut [u64],
     successors: &mut [u32],
+    report: Report,
 ) -> Start
-    requires { ⌜ faults [] (now table) (now listed) ≡ [] ⌝ }
+    requires { ⌜ (faults [] (now table) (now listed) ≡ []) × Reports (now table) (now listed) (report .words) ⌝ }
     requires { ⌜ (length (now ends) ≡ 512) × (length (now successors) ≡ 2048) ⌝ }
     ensures { λ r. ⌜ Starts r (now (table .entry)) (now (listed .entry)) (record {
       directory = now (directory .entry);
@@ -103,6 +135,7 @@ fn prepare_accepted(
                 origins,
                 ends,
                 successors,
+                report,
             )
         }
     }
@@ -129,6 +162,7 @@ pub fn prepare(
 {
     let checked = check(table, listed);
     let verdict = checked.verdict;
+    let report = checked.report;
     match verdict {
         Verdict::Refused(refusal) => Start::Refused(refusal),
         Verdict::Accepted => {
@@ -141,6 +175,7 @@ pub fn prepare(
                 origins,
                 ends,
                 successors,
+                report,
             )
         }
     }

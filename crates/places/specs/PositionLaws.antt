@@ -270,7 +270,8 @@ pub stored-from : (K : List ℕ) (n : ℕ) (v : Verdict) (t u : Block) (P : List
     → stored K n v (positionsOf (followed t u)) P ≡ stored K n v (positionsOf u) P
 unfolding lastOf
 stored-from K n v t u P m e =
-    ap (λ A. stored K n v A P) (positions-followed t u 0 m) ∙ (stored-append K n v (positionsOf t) (positionsOf u) P ∙ ap (stored K n v (positionsOf u)) (go P e))
+    ap (λ A. stored K n v A P) (positions-followed t u 0 m)
+    ∙ (stored-append K n v (positionsOf t) (positionsOf u) P ∙ ap (stored K n v (positionsOf u)) (go P e))
   where
     go : (Q : List ℕ) → size t ≡ lastOf Q → stored K n v (positionsOf t) Q ≡ Q
     go [] z = stored-none K n v (positionsOf t) [] (no-positions t 0 m z)

@@ -123,13 +123,15 @@ module _ (S : List ℕ) (a : ℕ) (f : FactSet) (R : List ℕ) {S₂ S₃ : List
 
   position-here : getD (set S₃ 0 (placeCount S + 1)) (placeStart (placeCount S)) 0 ≡ a
   position-here =
-      getD-set-other S₃ 0 (placeStart (placeCount S)) (placeCount S + 1) 0 (λ e. omega arith) ∙ (rows .below (placeStart (placeCount S)) (omega arith) ∙ (facts .words .below (placeStart (placeCount S)) (omega arith)
+      getD-set-other S₃ 0 (placeStart (placeCount S)) (placeCount S + 1) 0 (λ e. omega arith)
+      ∙ (rows .below (placeStart (placeCount S)) (omega arith) ∙ (facts .words .below (placeStart (placeCount S)) (omega arith)
       ∙ getD-set-same S (placeStart (placeCount S)) a 0 (omega (arith, within))))
 
   facts-here : loaded (set S₃ 0 (placeCount S + 1)) ((placeStart (placeCount S)) + 1) ≡ f
   facts-here =
       loaded-same S₂ (set S₃ 0 (placeCount S + 1)) ((placeStart (placeCount S)) + 1) ((placeStart (placeCount S)) + 1)
-      (λ i p. getD-set-other S₃ 0 ((placeStart (placeCount S)) + 1 + i) (placeCount S + 1) 0 (λ e. omega arith) ∙ rows .below ((placeStart (placeCount S)) + 1 + i) (omega arith)) ∙ facts .back
+      (λ i p. getD-set-other S₃ 0 ((placeStart (placeCount S)) + 1 + i) (placeCount S + 1) 0 (λ e. omega arith)
+      ∙ rows .below ((placeStart (placeCount S)) + 1 + i) (omega arith)) ∙ facts .back
 
   rows-here : tabulate 16 (λ r. getD (set S₃ 0 (placeCount S + 1)) ((placeStart (placeCount S)) + 291 + r) 0) ≡ R
   rows-here =
@@ -150,7 +152,8 @@ module _ (S : List ℕ) (a : ℕ) (f : FactSet) (R : List ℕ) {S₂ S₃ : List
     long = long-as;
     holds = ap (λ (n : ℕ). tabulate n (placeAt (set S₃ 0 (placeCount S + 1)))) (count-here ∙ add-one (placeCount S))
         ∙ ap₂ (λ (l : List Place) (x : Place). l ++ (x ∷ []))
-        (tabulate-alike (placeCount S) (λ j p. place-same S (set S₃ 0 (placeCount S + 1)) j (λ i q. other (placeStart j + i) (omega arith) (omega arith)))) place-here;
+        (tabulate-alike (placeCount S) (λ j p. place-same S (set S₃ 0 (placeCount S + 1)) j (λ i q. other (placeStart j + i) (omega arith) (omega arith))))
+        place-here;
   }
 
 pub pushed-at : (S : List ℕ) (a : ℕ) (f : FactSet) (R : List ℕ) {S₂ S₃ : List ℕ} {n : ℕ} → n ≡ placeCount S → placeCount S < capacity S
@@ -211,7 +214,8 @@ module _ (K S : List ℕ) (a : ℕ) (w : State FactSet) where
       pub left-full : capacity S ≤ placeCount S → Restored S (keptAt K (capacity S) (places S) a w) S
       left-full p = record { long = refl; holds = no-room K (capacity S) (places S) a w here next (omega (arith, places-long S)) }
 
-      pub left-more : {Q : List ℕ} → placeCount S < capacity S → Restored S (places S ++ (placeOf a w ∷ [])) Q → Restored S (keptAt K (capacity S) (places S) a w) Q
+      pub left-more : {Q : List ℕ} → placeCount S < capacity S → Restored S (places S ++ (placeOf a w ∷ [])) Q
+          → Restored S (keptAt K (capacity S) (places S) a w) Q
       left-more p q = record { long = q .long; holds = q .holds ∙ some-room K (capacity S) (places S) a w here next (omega (arith, places-long S)) }
 
 pub next-first : (S : List ℕ) (a : ℕ) → placeCount S ≡ 0 → true ≡ isNext (places S) a
@@ -221,7 +225,8 @@ next-first S a e = rw (places-long S, e)
 pub next-behind : (S : List ℕ) (a j : ℕ) → j ≡ placeCount S - 1 → (placeCount S ≡ 0 → ⊥) → ltb (positionAt S j) a ≡ isNext (places S) a
 unfolding isNext
 next-behind S a j e q =
-    rw (places-long S, ne-eqb (placeCount S) 0 q, e) (ap (λ (x : Place). ltb (x .position) a) (sym (places-at S (placeCount S - 1) (placeOf 0 newState) (omega (arith, pos-of-ne-zero q)))))
+    rw (places-long S, ne-eqb (placeCount S) 0 q, e)
+    (ap (λ (x : Place). ltb (x .position) a) (sym (places-at S (placeCount S - 1) (placeOf 0 newState) (omega (arith, pos-of-ne-zero q)))))
 
 -- ---- how many are at or before a position
 

@@ -109,7 +109,8 @@ planned there T room h at e X m k p =
   where
     go : (a : Bool) → there ≡ a → (b : Bool) → leb (7 * (h .statements - removedBy e (spanOf (statementAt T h at))) + wordsBy e (length X)) 7168 ≡ b
         → (c : Bool) → leb (length T - 7 * removedBy e (spanOf (statementAt T h at)) + wordsBy e (length X)) room ≡ c
-        → cond (a && (b && c)) (kindPlan at e (textOf (textTable T h X) (textSections h X) (length X)) (removedBy e (spanOf (statementAt T h at))) (length X / 7))
+        → cond (a && (b && c))
+        (kindPlan at e (textOf (textTable T h X) (textSections h X) (length X)) (removedBy e (spanOf (statementAt T h at))) (length X / 7))
         (Refused (EditPosition at)) ≡ Change m k
         → Planned there T room h at e X m k
     go true y true f true o q = record { found = y; few = leb-true _ _ f; fits = leb-true _ _ o; kind = q }

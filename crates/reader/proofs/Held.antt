@@ -36,5 +36,6 @@ spelt κs = LL.vals (D κs) (L κs)
 pub told : (κs : Lfts 1) → Tells (B κs) (Is (B κs)) (spelt κs)
 told κs = LL.tells (D κs) (L κs)
 
-pub typed : {M : Type 1} (𝓤 : URA M) (H : Heap 𝓤) (A : Atoms 𝓤) → Given 𝓤 H A → (κs : Lfts 1) (d : Reader) → Is (B κs) d (T′.lowered d ∷ []) → Holds (hasTy (T′.mir (named 0)) (T′.lowered d)) × WT (T′.lowered d)
+pub typed : {M : Type 1} (𝓤 : URA M) (H : Heap 𝓤) (A : Atoms 𝓤) → Given 𝓤 H A → (κs : Lfts 1) (d : Reader) → Is (B κs) d (T′.lowered d ∷ [])
+    → Holds (hasTy (T′.mir (named 0)) (T′.lowered d)) × WT (T′.lowered d)
 typed 𝓤 H A W κs d is = LL.lawful (D κs) (L κs) 𝓤 H A W .typed d (T′.lowered d ∷ []) is .0

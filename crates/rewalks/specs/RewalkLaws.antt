@@ -61,7 +61,8 @@ pub begun-all : (T : List ℤ) (h : Sections) {v : Verdict} → v ≡ Accepted �
 unfolding begunTo
 begun-all T h e = rw e
 
-pub begun-past : (T : List ℤ) (h : Sections) {v : Verdict} {r : Refusal} {a : ℕ} → v ≡ Refused r → a ≡ place r → h .statements ≤ a → h .statements ≡ begunTo T h v
+pub begun-past : (T : List ℤ) (h : Sections) {v : Verdict} {r : Refusal} {a : ℕ} → v ≡ Refused r → a ≡ place r → h .statements ≤ a
+    → h .statements ≡ begunTo T h v
 unfolding begunTo
 begun-past T h {v} {r} {a} e f p = rw (e, le-ltb (place r) (h .statements) (omega arith))
 
@@ -77,7 +78,8 @@ pub laid-from : (T : List ℤ) (h : Sections) (a : ℕ) {l : Layout} → a ≤ h
 laid-from T h a {l} q e p = laid (h .statements) T h 0 a (h .statements) q (omega arith) (none-refused _ l e p)
 
 -- Refused: its first fault is the verdict, whatever follows.
-first-fault : (F G : List Refusal) {l : Layout} {x : Refusal} → l ≡ verdict F → l ≡ layout-variant.Refused x → (isEmpty F ≡ false) × (Refused x ≡ verdictOf (also F G))
+first-fault : (F G : List Refusal) {l : Layout} {x : Refusal} → l ≡ verdict F → l ≡ layout-variant.Refused x
+    → (isEmpty F ≡ false) × (Refused x ≡ verdictOf (also F G))
 unfolding verdict isEmpty also verdictOf
 first-fault [] G e p = let i : _≡_ {A = ℕ} 0 1 = cc in absurd (omega arith)
 first-fault (y ∷ F) G {x = x} e p = let i : y ≡ x = cc in (refl, ap Refused (sym i))

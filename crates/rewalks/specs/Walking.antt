@@ -125,7 +125,8 @@ module _ (T : List ℤ) (h : Sections) (K : List ℕ) (from : ℕ) (w₀ : State
 
       first-kept : keptFrom K (capacity S₀) E (s .cut .front) w (places S) ≡ places Q
       first-kept =
-          kept-front K (capacity S₀) E (s .cut .front) at (s .cut .front-laid .numbered) (omega (arith, s .cut .front-laid .ends, s .later)) w (places S) (s .silent)
+          kept-front K (capacity S₀) E (s .cut .front) at (s .cut .front-laid .numbered) (omega (arith, s .cut .front-laid .ends, s .later)) w (places S)
+          (s .silent)
           ∙ (ap (λ (n : ℕ). keptAt K n (places S) at w) (sym (capacity-same S₀ S (g .long))) ∙ sym (k .holds))
 
       kept-parts : keptFrom K (capacity S₀) E (restOf T h from) w₀ (places S₀)

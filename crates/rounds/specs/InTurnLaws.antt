@@ -36,16 +36,17 @@ use Rattle.machine.specs.RunSound.{sound}
 use Rattle.machine.specs.Frame.{Elsewhere, Origins, SameCells, withCells, Alike, Own}
 use Rattle.machine.specs.FrameLaws.{alike-with, same-trans, own-names, own-origins, run-framed, turn-alike, turn-framed}
 use Rattle.entry.specs.Ends.{endsOf}
-use Rattle.steps.specs.Bare.{Prepared}
 use Rattle.interpreter.specs.BareRun.{Result, Ends, bareRun, SafeRun}
-use Rattle.interpreter.specs.Agreement.{resultShown, Runnable}
+use Rattle.interpreter.specs.Agreement.{resultShown, KnownAt, Runnable}
 use Rattle.interpreter.specs.AgreementLaws.{safe-run, run-agrees}
-use Rattle.interpreter.specs.EndsLaws.{ends-long, ends-small, ends-sizes}
-use Rattle.interpreter.specs.StartLaws.{Admitted, admitted, start-runnable, first-due, start-prepared}
+use Rattle.interpreter.specs.EndsLaws.{ends-long, ends-small, ends-named, ends-sizes}
+use Rattle.interpreter.specs.Slots.{Laid}
+use Rattle.interpreter.specs.SlotsLaws.{slots-long}
+use Rattle.interpreter.specs.StartLaws.{Admitted, admitted, start-runnable, first-due, start-laid}
 use Rattle.interpreter.specs.StepLaws.{steps-made, steps-counted, counts-on}
 use Rattle.interpreter.specs.AnswerLaws.{never}
 use Rattle.interpreter.specs.AloneLaws.{lends, leaves, pointAlone, answerAlone, unstuck, rows-long, calls-none, reads-at, point-alone, ran-alone}
-use Rattle.interpreter.specs.ClaimLaws.{begun, run-judged, begun-ran}
+use Rattle.interpreter.specs.ClaimLaws.{begun, run-plain, run-passes, run-judged, begun-ran}
 use Rattle.interpreter.specs.Starts.{Launched}
 use Rattle.interpreter.specs.Claim.{Lent, stateOf, answerOf, answerAt, RunJudged}
 use Rattle.interpreter.specs.Outcomes.{outcomeShown}
@@ -183,6 +184,8 @@ module _ {T : List ℤ} {listed : List ℤ} {D cs vs os W₀ S : List ℕ} (L : 
     ends = refl;
     slice = L .slice;
     room = L .room;
+    report = L .report;
+    reports = L .reports;
     successors = L .successors;
   }
 
@@ -241,7 +244,9 @@ module _ {T : List ℤ} {listed : List ℤ} {D cs vs os W₀ S : List ℕ} (L : 
   first-runnable : Runnable T h E D (endsOf E (first .rows)) S first
   unfolding start
   first-runnable = rw (L .successors)
-      (start-runnable T h D cs vs os (L .slice) (well-formed T h (L .formed)) (clear [] T h listed (L .formed) (L .accepts) .laid) (L .room) entry free rows)
+      (start-runnable T h D cs vs os (L .slice) (L .report) (well-formed T h (L .formed)) (clear [] T h listed (L .formed) (L .accepts) .laid) (L .room) entry
+      free rows (run-plain T h listed (L .formed) (L .accepts) D cs vs os (L .small) (L .none) (L .report) (L .reports))
+      (run-passes T h listed (L .formed) (L .accepts) D cs vs os (L .small) (L .none) (L .report) (L .reports)))
 
   -- What the code's run needs holds also where the run by itself stands later, whatever the cells elsewhere are.
   alike-runnable : (t : ℕ) (Q : Point) → Alike D (Own h) (point t) Q → Runnable T h E D (endsOf E (Q .rows)) S Q
@@ -256,6 +261,7 @@ module _ {T : List ℤ} {listed : List ℤ} {D cs vs os W₀ S : List ℕ} (L : 
         origins = λ p. origin-below (getD (Q .origins) p 0) (h .objects) (subst (λ (X : Point). Origins (Own h) (X .origins)) (a .rest) (f .origins) p);
         rows-long = λ n. sym (ap (λ (X : Point). length (X .rows)) (turn-alike T h E D (Own h) (own-names T h) first first-own t n Q a .rest)) ∙ rows (t + n);
         unstuck = λ n e. free (t + n) (ap (λ (X : Point). X .status) (turn-alike T h E D (Own h) (own-names T h) first first-own t n Q a .rest) ∙ e);
+        known = λ n. subst (KnownAt T h E S) (turn-alike T h E D (Own h) (own-names T h) first first-own t n Q a .rest) (R .known (t + n));
       }
 
   module _ {t n a : ℕ} {W vs′ M : List ℕ} (i : InTurn T l t (Spent n a) W vs′ M) where
@@ -271,18 +277,24 @@ module _ {T : List ℤ} {listed : List ℤ} {D cs vs os W₀ S : List ℕ} (L : 
     pub turn-steps : n ≡ t
     turn-steps = sym (at-turn .1) ∙ i .made
 
-    pub turn-prepared : Prepared T h W D S vs′
-    turn-prepared =
-        let p = start-prepared T h D cs vs os (L .slice) (well-formed T h (L .formed)) (clear [] T h listed (L .formed) (L .accepts) .laid) (L .room) entry in
+    pub turn-laid : Laid T h W D S vs′
+    turn-laid =
+        let p = start-laid T h D cs vs os (L .slice) (L .report) (well-formed T h (L .formed)) (clear [] T h listed (L .formed) (L .accepts) .laid) (L .room)
+        entry in
         let m : length vs′ ≡ h .variables = ap length (i .values) ∙ values-count t in
         rw (i .ends) (record {
-          table = p .table;
-          ends = ends-long E (point t .rows);
-          small = ends-small T h (well-formed T h (L .formed) .limits) (point t .rows);
-          sizes = ends-sizes T h (point t .rows);
-          directory = p .directory;
-          successors = rw (L .successors) (p .successors);
-          values = omega arith;
+          prepared = record {
+            table = p .prepared .table;
+            ends = ends-long E (point t .rows);
+            small = ends-small T h (well-formed T h (L .formed) .limits) (point t .rows);
+            sizes = ends-sizes T h (point t .rows);
+            named = ends-named T h (well-formed T h (L .formed) .limits) (point t .rows);
+            directory = p .prepared .directory;
+            successors = rw (L .successors) (p .prepared .successors);
+            slots = slots-long vs′;
+          };
+          enough = omega arith;
+          few = omega (arith, well-formed T h (L .formed) .limits .variables);
         })
 
     -- The loop may go on from the statement a, with the values and the memory as they are now.

@@ -12,7 +12,7 @@ use Rattle.rules.specs.Verdict.{environmentOf}
 use Rattle.rules.specs.BoundsRules.{ownRows}
 use Rattle.machine.specs.Points.{Outside}
 use Rattle.entry.specs.Ends.{endsOf}
-use Rattle.steps.specs.Bare.{Prepared}
+use Rattle.interpreter.specs.Slots.{Laid}
 use Rattle.interpreter.specs.BareRun.{Ends, bareRun, SafeRun}
 use Rattle.interpreter.specs.Starts.{Launched}
 use Rattle.turns.specs.Turns.{after, sum, Idle}
@@ -92,7 +92,7 @@ pub record InPlace (T : List ℤ) (F S : List ℕ) (s : Seat) (r : ℕ) (ends vs
 
 -- and the loop may go on.
 pub record MayGoOn (T : List ℤ) (F S : List ℕ) (s : Seat) (r q n a : ℕ) (ends vs cs : List ℕ) : Type 0 where
-  pub prepared : Prepared (between (s .places .table) T) (s .sections) (endsAt ends r) (between (s .places .directory) F) (successorsAt S r)
+  pub laid : Laid (between (s .places .table) T) (s .sections) (endsAt ends r) (between (s .places .directory) F) (successorsAt S r)
       (between (s .places .values) vs)
   pub safe : SafeRun (between (s .places .table) T) (s .sections) (endsAt ends r) (between (s .places .directory) F) (successorsAt S r) q a
       (between (s .places .values) vs) cs

@@ -30,7 +30,7 @@ use Rattle.seats.specs.Lends.{Lends, tableAt, lentTo, sectionsAt, countOf}
 use Rattle.rounds.specs.Rounds.{routinesOf, isSpent, stepsOf, stepsAfter, nextAfter, goesOn, memoryAfter}
 use Rattle.overlaps.specs.Overlaps.{some}
 use Rattle.rounds.specs.InTurn.{InTurn, LeftOthers}
-use Rattle.rounds.specs.InTurnLaws.{made-most, made-all, made-more, values-count, others-turn, turn-reads, turn-steps, turn-prepared, turn-safe}
+use Rattle.rounds.specs.InTurnLaws.{made-most, made-all, made-more, values-count, others-turn, turn-reads, turn-steps, turn-laid, turn-safe}
 use Rattle.rounds.specs.InTurnLaws.{turn-taken, turn-cells, turn-leaves, others-same, answer-made}
 use Rattle.seats.specs.SeatAt.{seatAt, nobody}
 use Rattle.seats.specs.Seats.{placesOf, endsAt, successorsAt}
@@ -148,7 +148,7 @@ module _ (l : Lends) (S : List ℕ) (L : AllLaunched l S) (apart : AllApart l) (
         let i : InTurn (tableAt l r) (lentTo l r) (st k r) (Spent n a) (endsAt ends r) (partOf (l .lengths) kinds valuesKind r vs) cs = rw e at
         (s .each r within) in
         subst (λ (y : Seat). MayGoOn (l .tables) (l .directories) S y r q n a ends vs cs) (sym seat-is) (record {
-          prepared = rw (table-part r, directory-part r, values-part r) (turn-prepared (L r within) i);
+          laid = rw (table-part r, directory-part r, values-part r) (turn-laid (L r within) i);
           safe = rw (table-part r, directory-part r, values-part r) (turn-safe (L r within) i q);
           fits = omega (arith, turn-steps (L r within) i, sum-least (at k .received) r, sum-within R runs quantum total count k);
         })

@@ -8,7 +8,7 @@ use lib.ListN.{length}
 use borrow.Rule.Slice.PartMut.{putMid, mid-len}
 use Rattle.answers.specs.declared.stops.Outcome.{Outcome}
 use Rattle.answers.specs.declared.stops.Outcome.the-variants.{Spent}
-use Rattle.steps.specs.Bare.{Prepared}
+use Rattle.interpreter.specs.Slots.{Laid}
 use Rattle.interpreter.specs.BareRun.{Ends, bareRun, SafeRun}
 use Rattle.parts.specs.Parts.{window, between}
 use Rattle.parts.specs.ReplacedLaws.{put-replaced}
@@ -33,11 +33,11 @@ more-size n q = omega arith
 module _ {T : List ℤ} {F S : List ℕ} {s : Seat} {r q n a : ℕ} {ends vs cs : List ℕ} where
   -- What `resume` asks.
   pub may-raw : MayGoOn T F S s r q n a ends vs cs
-      → Prepared (between (s .places .table) T) (s .sections) (lentEnds r ends) (between (s .places .directory) F) (lentFlow r S) (between
+      → Laid (between (s .places .table) T) (s .sections) (lentEnds r ends) (between (s .places .directory) F) (lentFlow r S) (between
       (s .places .values) vs)
       × ((n ≤ n + q) × SafeRun (between (s .places .table) T) (s .sections) (lentEnds r ends) (between (s .places .directory) F) (lentFlow r S) (n + q - n) a
       (between (s .places .values) vs) cs)
-  may-raw m = rw (ends-size r, flow-size r, more-size n q) (m .prepared, (omega arith, m .safe))
+  may-raw m = rw (ends-size r, flow-size r, more-size n q) (m .laid, (omega arith, m .safe))
 
   -- What it leaves.
   pub gone-raw : {o : Outcome} {W us ds : List ℕ} → InPlace T F S s r ends vs → length W ≡ length (lentEnds r ends)

@@ -41,7 +41,8 @@ module _ (L : List ℕ) (kinds kind : ℕ) where
         (λ u. let a : min s (length xs) ≡ s = omega (arith, begins) in
         window-before (min s (length xs)) (startAt L kinds kind k) (lengthAt L kinds kind k) xs zs (omega (arith, starts-order L kinds kind k r u)) (p .front))
         (λ u. let v : r < k = lt-of k r u d in
-        window-behind (min (s + l) (length xs)) (startAt L kinds kind k) (lengthAt L kinds kind k) xs zs (omega (arith, starts-order L kinds kind r k v)) (p .back))
+        window-behind (min (s + l) (length xs)) (startAt L kinds kind k) (lengthAt L kinds kind k) xs zs (omega (arith, starts-order L kinds kind r k v))
+        (p .back))
       where
         lt-of : (k r : ℕ) → r ≤ k → (k ≡ r → ⊥) → r < k
         lt-of k r u d = by-order r k (λ (x : r < k). x) (λ x. absurd (d (omega arith)))

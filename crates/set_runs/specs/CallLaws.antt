@@ -12,7 +12,8 @@ use lib.Seq.{ext-getD, getD-take, getD-drop}
 use Rattle.arrays.specs.Tabulate.{tabulate}
 use Rattle.arrays.specs.TabulateLaws.{getD-tabulate, length-tabulate}
 use Rattle.words.specs.declared.sections.Sections.{Sections}
-use Rattle.statements.specs.Decode.{decodeStart, decodedAt}
+use Rattle.words.specs.Sections.{statementStart}
+use Rattle.statements.specs.Decode.{decodedCallAt}
 use Rattle.statements.specs.declared.CallSite.{CallSite}
 use Rattle.blocks.specs.Flow.{Successors}
 use Rattle.blocks.specs.Shape.{entriesAt}
@@ -26,7 +27,7 @@ use Rattle.answers.specs.declared.stops.Outcome.{Outcome}
 use Rattle.interpreter.specs.StartLaws.{first-due}
 use Rattle.sets.specs.Tables.{tablesIn}
 use Rattle.sets.specs.TableLaws.{length-tables}
-use Rattle.set_runs.specs.Lent.{readIn, sectionsIn, roomOf, flowOf, siteOf, calledValues}
+use Rattle.set_runs.specs.Lent.{readIn, sectionsIn, roomOf, flowOf, calledValues}
 use Rattle.set_runs.specs.LentLaws.{statements-inside}
 use Rattle.set_runs.specs.Levels.{Stands, Begins, final, HasReturned, HasHalted, Callable, MayCall, Along}
 use Rattle.set_runs.specs.StackLaws.{later, settled-due, settled-ended, next-call}
@@ -50,7 +51,7 @@ module _ {W : List ℤ} {L D S : List ℕ} {room : ℕ} (C : Callable W L D S ro
 
   -- The call at the statement a, as the code decodes it.
   abbrev pub siteAt : ℕ → CallSite
-  siteAt a = siteOf (decodedAt (readIn W L n) (sectionsIn W L n) a)
+  siteAt a = decodedCallAt (readIn W L n) (sectionsIn W L n) a
 
   -- The number of its callee's variables.
   abbrev pub countAt : ℕ → ℕ
@@ -103,7 +104,7 @@ module _ {W : List ℤ} {L D S : List ℕ} {room : ℕ} (C : Callable W L D S ro
     statement-few = omega (arith, x .within, x .due, limits-here C n known .statements)
 
     -- The record of the call lies in the table.
-    pub call-inside : decodeStart (sectionsIn W L n) a + 7 ≤ length (readIn W L n)
+    pub call-inside : statementStart (sectionsIn W L n) a + 7 ≤ length (readIn W L n)
     call-inside =
         let h = sections-here C n known in
         let l = limits-here C n known in

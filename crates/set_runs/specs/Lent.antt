@@ -11,8 +11,6 @@ use Rattle.arrays.specs.Tabulate.{tabulate}
 use Rattle.sums.specs.Numbers.{zeroVar}
 use Rattle.words.specs.declared.sections.Sections.{Sections}
 use Rattle.statements.specs.declared.CallSite.{CallSite}
-use Rattle.statements.specs.declared.Statement.{Statement}
-use Rattle.statements.specs.declared.Statement.the-variants.{Plain, If, While, Bundle, Call}
 use Rattle.table.specs.Form.{sectionsOf}
 use Rattle.rules.specs.Calls.{argument}
 use Rattle.machine.specs.Machine.{value}
@@ -53,14 +51,6 @@ module _ (W : List ℤ) (L : List ℕ) where
 
   abbrev pub sectionsIn : ℕ → Sections
   sectionsIn n = partIn n .sections
-
--- The call of a statement that is one.
-abbrev pub siteOf : Statement → CallSite
-siteOf (Call c) = c
-siteOf (Plain s) = record { callee = 0; result = 16; first = 16; second = 16; third = 16; fourth = 16 }
-siteOf (If c x y) = record { callee = 0; result = 16; first = 16; second = 16; third = 16; fourth = 16 }
-siteOf (While c x) = record { callee = 0; result = 16; first = 16; second = 16; third = 16; fourth = 16 }
-siteOf (Bundle x) = record { callee = 0; result = 16; first = 16; second = 16; third = 16; fourth = 16 }
 
 -- The first 16 values of a callee.
 abbrev pub calledValues : List ℕ → CallSite → List ℕ

@@ -15,7 +15,7 @@ use Rattle.words.specs.Words.{biased, word, fieldsAt}
 use Rattle.words.specs.Sections.{Limits, inLimits, variablesStart, rowStart, statementStart}
 use Rattle.words.specs.SectionsLaws.{limits}
 use Rattle.words.specs.declared.sections.Sections.{Sections}
-use Rattle.statements.specs.Decode.{decoded, decodeStart, decodedAt}
+use Rattle.statements.specs.Decode.{decoded, decodedAt}
 use Rattle.table.specs.Form.{sectionsOf, headRight}
 use Rattle.table.specs.FormLaws.{head-long, start-least}
 use Rattle.table.specs.Variables.{rowWordsAt, rowOf, rowAt, endWordsAt}
@@ -70,7 +70,7 @@ module _ (X M : List ℤ) (h : Sections) (within : inLimits h ≡ true) (words :
   pub decoded-same : (a : ℕ) → decodedAt X h a ≡ decodedAt M h a
   unfolding decodedAt fieldsAt
   decoded-same a =
-      let i = decodeStart h a in
+      let i = statementStart h a in
       let few = limits h within in
       let l : variablesStart h ≤ i = omega (arith, few .start, few .objects) in
       rw (
@@ -163,7 +163,8 @@ module _ (W : List ℤ) (L : List ℕ) (accepted : AllAccepted (tablesIn W L)) (
   pub none-listed : (n ≡ 0 → ⊥) → sectionsOf (lentOf W L n) .objects ≡ 0
   none-listed z = ap (λ (T : List ℤ). sectionsOf T .objects) (sym lent-is) ∙ lists-none Ts n (accepted .each n known) z
 
-  sections-made : (g : Sections) → g .start ≡ sectionsOf (lentOf W L n) .start → g .objects ≡ sharedObjects W L → g .variables ≡ sectionsOf (lentOf W L n) .variables
+  sections-made : (g : Sections) → g .start ≡ sectionsOf (lentOf W L n) .start → g .objects ≡ sharedObjects W L
+      → g .variables ≡ sectionsOf (lentOf W L n) .variables
       → g .statements ≡ sectionsOf (lentOf W L n) .statements → g .rows ≡ sectionsOf (lentOf W L n) .rows → sectionsIn W L n ≡ g
   sections-made g a b c d e = rw (sym a, sym b, sym c, sym d, sym e) refl
 
@@ -228,7 +229,8 @@ module _ (W : List ℤ) (L : List ℕ) (accepted : AllAccepted (tablesIn W L)) (
       i : ℕ
       i = variablesStart (sectionsIn W L n) + j
 
-      go : Dec (n ≡ 0) → biased (getD (readIn W L n) (variablesStart (sectionsIn W L n) + j) (pos 0)) ≡ biased (getD M (variablesStart (sectionsIn W L n) + j) (pos 0))
+      go : Dec (n ≡ 0) → biased (getD (readIn W L n) (variablesStart (sectionsIn W L n) + j) (pos 0))
+          ≡ biased (getD M (variablesStart (sectionsIn W L n) + j) (pos 0))
       go (yes e) = ap (λ (T : List ℤ). biased (getD T (variablesStart (sectionsIn W L n) + j) (pos 0))) (read-first e ∙ sym (member-first e))
       go (no z) =
           let k = sharedObjects W L in
@@ -251,4 +253,12 @@ module _ (W : List ℤ) (L : List ℕ) (accepted : AllAccepted (tablesIn W L)) (
           let o : sharedObjects W L ≡ sectionsOf (lentOf W L n) .objects = ap (λ (k : ℕ). sectionsOf (lentOf W L k) .objects) (sym e) in
           omega (arith, head-long (lentOf W L n) right, ap length (read-first e))
       go (no z) =
-          omega (arith, head-long (lentOf W L n) right, none-listed z, ap length (read-later z), length-drop (sharedObjects W L) (readIn W L n), start-least (lentOf W L n))
+          omega (
+            arith,
+            head-long (lentOf W L n) right,
+            none-listed z,
+            ap length (read-later z),
+            length-drop (sharedObjects W L) (readIn W L n),
+            start-least
+                (lentOf W L n),
+          )

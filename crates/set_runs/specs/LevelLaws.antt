@@ -7,8 +7,8 @@ use lib.IntN.{ℤ}
 use lib.ListN.{length, getD, set, take, drop, length-append, length-take, length-drop, List·getD-append}
 use lib.Seq.{drop-at}
 use Rattle.arrays.specs.TabulateLaws.{length-tabulate}
+use Rattle.words.specs.Sections.{statementStart}
 use Rattle.rules.specs.Calls.{argument}
-use Rattle.statements.specs.Decode.{decodeStart}
 use Rattle.statements.specs.declared.CallSite.{CallSite}
 use Rattle.rules.specs.BoundsRules.{ownRows}
 use Rattle.rules.specs.Verdict as verdict
@@ -62,7 +62,8 @@ module _ (W : List ℤ) (L D S : List ℕ) (n limit made : ℕ) (ends₀ vs₀ c
     pub loop-asks : MayRun W L D S n limit at steps ends vs cs
     loop-asks = may-run (p .asks .callable) n (p .asks .known) witness (omega (arith, p .asks .room, p .ends-long))
 
-    module _ {o : Outcome} {z : Pause} {ends′ vs′ cs′ : List ℕ} (r : RanOn W L D S n limit at steps ends vs cs o ends′ vs′ cs′) (e : z ≡ pauseOf limit n o) where
+    module _ {o : Outcome} {z : Pause} {ends′ vs′ cs′ : List ℕ} (r : RanOn W L D S n limit at steps ends vs cs o ends′ vs′ cs′)
+        (e : z ≡ pauseOf limit n o) where
       stops-now : (gs : List Frame) (P : Point) → BeginsHere gs P → Paused (p .asks .callable) n (p .asks .known) limit gs P o ends′ vs′ cs′
       stops-now gs P b = paused (p .asks .callable) n (p .asks .known) (p .along gs P b) r
 
@@ -101,7 +102,7 @@ module _ (W : List ℤ) (L D S : List ℕ) (n limit made : ℕ) (ends₀ vs₀ c
     pub number-few : n < 8
     number-few = few (p .asks .callable) n (p .asks .known)
 
-    pub call-within : decodeStart (sectionsIn W L n) a + 7 ≤ length (readIn W L n)
+    pub call-within : statementStart (sectionsIn W L n) a + 7 ≤ length (readIn W L n)
     call-within = call-inside (p .asks .callable) n (p .asks .known) (p .stops _ _ first) (here _ _ first)
 
     pub statement-within : a < 1024
@@ -155,7 +156,8 @@ module _ (W : List ℤ) (L D S : List ℕ) (n limit made : ℕ) (ends₀ vs₀ c
           along = λ gs P b.
               let q = p .stops gs P b in
               let x = here gs P b in
-              goes-on-here (p .asks .callable) n (p .asks .known) q x called′ (f _ _ (begins-there (p .asks .callable) n (p .asks .known) q x)) last kept due given;
+              goes-on-here (p .asks .callable) n (p .asks .known) q x called′
+              (f _ _ (begins-there (p .asks .callable) n (p .asks .known) q x)) last kept due given;
           ends-long = le ∙ p .ends-long;
           values-long = lv ∙ p .values-long;
           cells-long = lc ∙ p .cells-long;

@@ -13,7 +13,7 @@ use Rattle.machine.specs.Machine.{going, stopped, Point, successorsOf}
 use Rattle.machine.specs.SetMachine.{Frame, Stack, stack, settled, stackAfter, lastValues, tableOf, sectionsOf, environmentOf}
 use Rattle.machine.specs.SetSound.{SetSetting, StackInvariant}
 use Rattle.answers.specs.declared.stops.Outcome.{Outcome}
-use Rattle.steps.specs.Bare.{Prepared}
+use Rattle.interpreter.specs.Slots.{Laid}
 use Rattle.entry.specs.Ends.{endsOf}
 use Rattle.interpreter.specs.BareRun.{bareRun, SafeRun, Ends}
 use Rattle.interpreter.specs.Outcomes.{outcomeShown}
@@ -91,7 +91,7 @@ module _ (W : List ℤ) (L D S : List ℕ) where
       pub few : n < 8
       pub room : 512 * n + 512 ≤ length ends
       pub flow-long : length S ≡ 16384
-      pub prepared : Prepared (readIn W L n) (sectionsIn W L n) (roomOf ends n) D (flowOf S n) vs
+      pub laid : Laid (readIn W L n) (sectionsIn W L n) (roomOf ends n) D (flowOf S n) vs
       pub within : steps ≤ limit
       pub safe : SafeRun (readIn W L n) (sectionsIn W L n) (roomOf ends n) D (flowOf S n) (limit - steps) at vs cs
 

@@ -9,15 +9,15 @@ use lib.IntN.{ℤ}
 use lib.ListN.{length}
 use borrow.Rule.Slice.PartMut.{putMid, mid-len}
 use Rattle.words.specs.declared.sections.Sections.{Sections}
-use Rattle.statements.specs.Decode.{decodeStart, decodedAt}
-use Rattle.statements.specs.declared.Statement.{Statement}
+use Rattle.words.specs.Sections.{statementStart}
+use Rattle.statements.specs.Decode.{decodedCallAt}
 use Rattle.statements.specs.declared.CallSite.{CallSite}
 use Rattle.table.specs.Form.{sectionsOf}
 use Rattle.rules.specs.BoundsRules.{ownRows}
 use Rattle.rules.specs.Verdict.{environmentOf}
 use Rattle.rules.specs.declared.Environment.{Environment}
 use Rattle.answers.specs.declared.stops.Outcome.{Outcome}
-use Rattle.steps.specs.Bare.{Prepared}
+use Rattle.interpreter.specs.Slots.{Laid}
 use Rattle.entry.specs.Ends.{endsOf}
 use Rattle.interpreter.specs.BareRun.{bareRun, SafeRun, Ends}
 use Rattle.interpreter.specs.EndsLaws.{ends-long}
@@ -25,16 +25,18 @@ use Rattle.parts.specs.Parts.{window, spanOf, Replaced}
 use Rattle.parts.specs.PartsLaws.{between-part}
 use Rattle.parts.specs.ReplacedLaws.{put-replaced}
 use Rattle.parts.specs.declared.Span.{Span}
-use Rattle.set_runs.specs.Lent.{lentOf, partIn, readIn, sectionsIn, siteOf, roomOf, flowOf}
+use Rattle.set_runs.specs.Lent.{lentOf, partIn, readIn, sectionsIn, roomOf, flowOf}
 use Rattle.set_runs.specs.Levels.{MayRun, RanOn}
 use Rattle.set_runs.specs.declared.lent.Part.{Part}
 
 -- ---- where a routine is read
 
 made : ℕ → ℕ → Sections → ℕ → Part
-made b e h k = record { start = b; end = e; sections = record { start = h .start; objects = k; variables = h .variables; statements = h .statements; rows = h .rows } }
+made b e h k = record
+    { start = b; end = e; sections = record { start = h .start; objects = k; variables = h .variables; statements = h .statements; rows = h .rows } }
 
-module _ (W : List ℤ) (L : List ℕ) (n : ℕ) {first own : Span} {shared h : Sections} {b : ℕ} (p : first ≡ spanOf L 1 0 0 (length W)) (q : own ≡ spanOf L 1 0 n (length W))
+module _ (W : List ℤ) (L : List ℕ) (n : ℕ) {first own : Span} {shared h : Sections} {b : ℕ} (p : first ≡ spanOf L 1 0 0 (length W))
+    (q : own ≡ spanOf L 1 0 n (length W))
     (s : shared ≡ sectionsOf (window (first .start) (first .end - first .start) W)) (t : h ≡ sectionsOf (window (own .start) (own .end - own .start) W))
     (u : b ≡ own .start - cond (eqb n 0) 0 (shared .objects)) where
   pub part-is : _≡_ {A = Part} (record {
@@ -69,13 +71,13 @@ module _ (W : List ℤ) (L : List ℕ) (n : ℕ) {part : Part} (p : part ≡ par
 
   -- ---- its statements
 
-  pub decode-within : (at : ℕ) → decodeStart (sectionsIn W L n) at + 7 ≤ length (readIn W L n)
-      → decodeStart (part .sections) at + 7 ≤ length (window (part .start) (part .end - part .start) W)
+  pub decode-within : (at : ℕ) → statementStart (sectionsIn W L n) at + 7 ≤ length (readIn W L n)
+      → statementStart (part .sections) at + 7 ≤ length (window (part .start) (part .end - part .start) W)
   decode-within at l = rw p l
 
-  pub site-is : (at : ℕ) {s : Statement} {c : CallSite} → s ≡ decodedAt (window (part .start) (part .end - part .start) W) (part .sections) at → c ≡ siteOf s
-      → c ≡ siteOf (decodedAt (readIn W L n) (sectionsIn W L n) at)
-  site-is at e f = f ∙ (ap siteOf e ∙ ap (λ (k : Part). siteOf (decodedAt (window (k .start) (k .end - k .start) W) (k .sections) at)) p)
+  pub site-is : (at : ℕ) {c : CallSite} → c ≡ decodedCallAt (window (part .start) (part .end - part .start) W) (part .sections) at
+      → c ≡ decodedCallAt (readIn W L n) (sectionsIn W L n) at
+  site-is at e = e ∙ ap (λ (k : Part). decodedCallAt (window (k .start) (k .end - k .start) W) (k .sections) at) p
 
   pub variables-are : part .sections .variables ≡ sectionsIn W L n .variables
   variables-are = ap (λ (k : Part). k .sections .variables) p
@@ -90,11 +92,11 @@ module _ (W : List ℤ) (L : List ℕ) (n : ℕ) {part : Part} (p : part ≡ par
 
   module _ {D S : List ℕ} {limit at steps : ℕ} {ends vs cs : List ℕ} (m : MayRun W L D S n limit at steps ends vs cs) where
     -- What `resume` asks.
-    pub may-raw : Prepared (window (part .start) (part .end - part .start) W) (part .sections) (window (512 * n) (512 * n + 512 - 512 * n) ends) D
+    pub may-raw : Laid (window (part .start) (part .end - part .start) W) (part .sections) (window (512 * n) (512 * n + 512 - 512 * n) ends) D
         (window (2048 * n) (2048 * n + 2048 - 2048 * n) S) vs
         × ((steps ≤ limit) × SafeRun (window (part .start) (part .end - part .start) W) (part .sections) (window (512 * n) (512 * n + 512 - 512 * n) ends) D
         (window (2048 * n) (2048 * n + 2048 - 2048 * n) S) (limit - steps) at vs cs)
-    may-raw = rw (p, ends-size, flow-size) (m .prepared, (m .within, m .safe))
+    may-raw = rw (p, ends-size, flow-size) (m .laid, (m .within, m .safe))
 
     -- What it leaves.
     pub ran-raw : {o : Outcome} {W′ us ds : List ℕ} → length W′ ≡ length (window (512 * n) (512 * n + 512 - 512 * n) ends)

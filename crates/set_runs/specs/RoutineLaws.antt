@@ -13,8 +13,8 @@ use Rattle.words.specs.SectionsLaws.{both, limits}
 use Rattle.words.specs.Sections.{Limits, inLimits, statementStart}
 use Rattle.words.specs.declared.sections.Sections.{Sections}
 use Rattle.statements.specs.Statements.{statementAt}
-use Rattle.statements.specs.Decode.{decodedAt}
-use Rattle.statements.specs.DecodeLaws.{read-decoded}
+use Rattle.statements.specs.Decode.{decodedAt, decodedCallAt}
+use Rattle.statements.specs.DecodeLaws.{read-decoded, call-decoded}
 use Rattle.statements.specs.declared.CallSite.{CallSite}
 use Rattle.statements.specs.declared.Statement.the-variants.{Call}
 use Rattle.statements.specs.declared.StatementRead.the-variants.{Read}
@@ -30,16 +30,17 @@ use Rattle.machine.specs.SetMachine.{Frame, stack, settled, stackAfter, tableOf
 use Rattle.machine.specs.SetSound.{StackInvariant}
 use Rattle.answers.specs.declared.stops.Outcome.{Outcome}
 use Rattle.answers.specs.declared.stops.Outcome.the-variants.{Done, Spent, Stopped}
-use Rattle.checks.specs.Checked.{checkOf, sizeIn}
-use Rattle.steps.specs.Bare.{Prepared}
+use Rattle.checks.specs.Checked.{checkOf, sizeIn, Named}
+use Rattle.interpreter.specs.Slots.{Laid}
+use Rattle.interpreter.specs.SlotsLaws.{slots-long}
 use Rattle.entry.specs.Ends.{endsOf}
 use Rattle.interpreter.specs.BareRun.{Result, bareRun}
-use Rattle.interpreter.specs.EndsLaws.{ends-long, ends-small, ends-sizes}
+use Rattle.interpreter.specs.EndsLaws.{ends-long, ends-small, ends-named, ends-sizes}
 use Rattle.interpreter.specs.Outcomes.{outcomeShown}
 use Rattle.parts.specs.Parts.{window}
 use Rattle.sets.specs.Tables.{tablesIn}
 use Rattle.sets.specs.TableLaws.{length-tables}
-use Rattle.set_runs.specs.Lent.{readIn, sectionsIn, roomOf, flowOf, siteOf, halts, pauseOf}
+use Rattle.set_runs.specs.Lent.{readIn, sectionsIn, roomOf, flowOf, halts, pauseOf}
 use Rattle.set_runs.specs.LentLaws.{decoded-same, ends-same, sections-are, words-are, statements-inside}
 use Rattle.set_runs.specs.Levels.{final, HasReturned, HasHalted, Leaves, Callable, MayRun, RanOn, Along}
 use Rattle.set_runs.specs.StackLaws.{later, stays, settled-due, settled-stopped, rests-stopped}
@@ -118,8 +119,8 @@ module _ {W : List ℤ} {L D S : List ℕ} {room : ℕ} (C : Callable W L D S ro
   -- ---- what a stretch asks
 
   module _ {limit at steps : ℕ} {gs : List Frame} {P : Point} {ends vs cs : List ℕ} (A : Along W L D S n room limit gs P at steps ends vs cs) where
-    prepared : Prepared X h (roomOf ends n) D (flowOf S n) vs
-    prepared =
+    laid : Laid X h (roomOf ends n) D (flowOf S n) vs
+    laid =
         let e = A .in-force in
         let s = sound-here rs D room (C .setting) gs n (A .point) (A .stands) in
         let inside : statementStart h (h .statements) ≤ length X =
@@ -130,14 +131,21 @@ module _ {W : List ℤ} {L D S : List ℕ} {room : ℕ} (C : Callable W L D S ro
         (ends-small M h limits-here (A .point .rows)) in
         let sizes : (p : ℕ) → sizeIn (endsOf E (A .point .rows)) p ≤ 8 =
         subst (λ (F : Environment). (p : ℕ) → sizeIn (endsOf F (A .point .rows)) p ≤ 8) (sym environment-is) (ends-sizes M h (A .point .rows)) in
+        let named : Named (endsOf E (A .point .rows)) =
+        subst (λ (F : Environment). Named (endsOf F (A .point .rows))) (sym environment-is) (ends-named M h limits-here (A .point .rows)) in
         rw e (record {
-          table = inside;
-          ends = l;
-          small = small;
-          sizes = sizes;
-          directory = omega (arith, C .setting .setting n (A .stands .invariant .known) .pairs);
-          successors = omega (arith, limits-here .statements, length-take 2048 (drop (2048 * n) S), length-drop (2048 * n) S, C .flow-long, few);
-          values = omega (arith, ap length (A .values), s .values-long);
+          prepared = record {
+            table = inside;
+            ends = l;
+            small = small;
+            sizes = sizes;
+            named = named;
+            directory = omega (arith, C .setting .setting n (A .stands .invariant .known) .pairs);
+            successors = omega (arith, limits-here .statements, length-take 2048 (drop (2048 * n) S), length-drop (2048 * n) S, C .flow-long, few);
+            slots = slots-long vs;
+          };
+          enough = omega (arith, ap length (A .values), s .values-long);
+          few = omega (arith, ap length (A .values), s .values-long, limits-here .variables);
         })
 
     pub may-run : 512 * n + 512 ≤ length ends → MayRun W L D S n limit at steps ends vs cs
@@ -148,7 +156,7 @@ module _ {W : List ℤ} {L D S : List ℕ} {room : ℕ} (C : Callable W L D S ro
           few = few;
           room = fits;
           flow-long = C .flow-long;
-          prepared = rw sections-here prepared;
+          laid = rw sections-here laid;
           within = A .within;
           safe = rw sections-here (rw (A .due, A .values, A .cells) at safe);
         }
@@ -290,13 +298,13 @@ module _ {W : List ℤ} {L D S : List ℕ} {room : ℕ} (C : Callable W L D S ro
       pub steps : Q .steps ≡ s
       pub due : Q .due ≡ a
       pub left : s < limit
-      pub reads : statementAt (tableOf rs D n) h (Q .due) ≡ Read (Call (siteOf (decodedAt X (sectionsIn W L n) a)))
+      pub reads : statementAt (tableOf rs D n) h (Q .due) ≡ Read (Call (decodedCallAt X (sectionsIn W L n) a))
 
     site-read : (a : ℕ) → Q .due ≡ a → (c : CallSite) → statementAt (tableOf rs D n) h (Q .due) ≡ Read (Call c)
-        → c ≡ siteOf (decodedAt X (sectionsIn W L n) a)
+        → c ≡ decodedCallAt X (sectionsIn W L n) a
     site-read a e c r =
-        ap siteOf (sym (read-decoded (tableOf rs D n) h (Q .due) (Call c) r))
-        ∙ (ap siteOf (sym (decodes (Q .due))) ∙ ap₂ (λ (k : Sections) (x : ℕ). siteOf (decodedAt X k x)) (sym sections-here) e)
+        sym (call-decoded X h (Q .due) c (decodes (Q .due) ∙ read-decoded (tableOf rs D n) h (Q .due) (Call c) r))
+        ∙ ap₂ (λ (k : Sections) (x : ℕ). decodedCallAt X k x) (sym sections-here) e
 
     called-spent : (b : Bool) → ltb (Q .steps) limit ≡ b → Q .status ≡ going → Q .due < h .statements → (s a : ℕ)
         → cond b (pause.Calls (Q .steps) (Q .due)) (halts (Spent (Q .steps) (Q .due)) n) ≡ pause.Calls s a → AtCall s a

@@ -19,8 +19,9 @@ use Rattle.statements.specs.declared.StatementRead.{StatementRead}
 use Rattle.statements.specs.declared.StatementRead.the-variants.{Read}
 use Rattle.statements.specs.Decode.{decodedAt}
 use Rattle.statements.specs.DecodeLaws.{read-decoded}
-use Rattle.blocks.specs.Flow.{Successors}
+use Rattle.blocks.specs.Flow.{Successors, successors, tableFlow}
 use Rattle.blocks.specs.Shape.{entriesAt}
+use Rattle.blocks.specs.SuccessorLaws.{bounded-at, flow-bounded, flow-long}
 use Rattle.rules.specs.Calls.{Routine}
 use Rattle.rules.specs.Sets.{before}
 use Rattle.rules.specs.declared.Environment.{Environment}
@@ -30,7 +31,7 @@ use Rattle.machine.specs.Soundness.{Sound}
 use Rattle.machine.specs.RunSound.{Invariant}
 use Rattle.machine.specs.SetMachine.{Frame, stack, settled, stackAfter, tableOf, sectionsOf, environmentOf}
 use Rattle.machine.specs.SetSound.{SetSetting, StackInvariant, next-kept, stack-sound}
-use Rattle.steps.specs.Bare.{Move, statementMove, bareMove, Inside, Ready}
+use Rattle.steps.specs.Bare.{Move, statementMove, bareMove, Inside, Marked, Ready}
 use Rattle.entry.specs.Ends.{endsOf}
 use Rattle.answers.specs.declared.stops.Outcome.the-variants.{Done, Stopped}
 use Rattle.checks.specs.Checked.{checkOf}
@@ -273,10 +274,30 @@ module _ (rs : List Routine) (D : List ℕ) (room : ℕ) (S : SetSetting rs D ro
 
     -- ---- and every access of it is inside
 
+    -- The successors of a set have no marks.
+    unmarked : n < length rs → (a : ℕ) → a < h n .statements → Marked F a → ⊥
+    unmarked k a l m =
+        let laid = S .setting n k .laid in
+        omega (
+          arith,
+          m,
+          ap (λ (x : Successors). x .other) (flow a l),
+          bounded-at (h n .statements) (tableFlow (T n) (h n)) a (successors 0 0 0) (flow-bounded (T n) (h n) laid)
+              (omega (arith, flow-long (T n) (h n) laid)) .1,
+          S .formed n k .formed .limits .statements,
+        )
+
     ready-here : (gs : List Frame) (W : List ℕ) (P : Point) (A : Stands rs D room gs n P) (ends : W ≡ endsOf (E n) (P .rows)) (due : P .due < h n .statements)
-        (s : Statement) (read : statementAt (T n) (h n) (P .due) ≡ Read s) → Kind s → Ready X (h n) W (P .due) (P .values) (P .cells)
+        (s : Statement) (read : statementAt (T n) (h n) (P .due) ≡ Read s) → Kind s → Ready X (h n) W F (P .due) (P .values) (P .cells)
     ready-here gs W P A ends due s read (a-call c e) =
-        record { checked = T n; same = same (P .due); statement = Call c; reads = read ∙ ap Read e; inside = tt }
+        record {
+          checked = T n;
+          same = same (P .due);
+          statement = Call c;
+          reads = read ∙ ap Read e;
+          inside = tt;
+          known = λ m x q. absurd (unmarked (A .invariant .known) (P .due) due m);
+        }
     ready-here gs W P A ends due s read (no-call k) =
         record {
           checked = T n;
@@ -284,6 +305,7 @@ module _ (rs : List Routine) (D : List ℕ) (room : ℕ) (S : SetSetting rs D ro
           statement = s;
           reads = read;
           inside = step-inside gs W P A ends due s read (other-read _ s read k);
+          known = λ m x q. absurd (unmarked (A .invariant .known) (P .due) due m);
         }
 
     module _ (l : ℕ) (gs : List Frame) (W : List ℕ) (P : Point) (A : Stands rs D room gs n P) (ends : W ≡ endsOf (E n) (P .rows))

@@ -4,8 +4,7 @@ use interpreter::starts::copy_ends;
 use parts::span_of;
 use rules::read_environment;
 use statements::CallSite;
-use statements::Statement;
-use statements::decode::decode_statement;
+use statements::decode::decode_call_at;
 use table::sections_of;
 use words::sections::Sections;
 ghost use Prim.Native.Nat.{_+_, _-_, _*_, _<_, _≤_};
@@ -13,12 +12,13 @@ ghost use mathlib.Core.Bool.{cond};
 ghost use mathlib.Core.Path.{_≡_};
 ghost use lib.Dec.{eqb};
 ghost use lib.ListN.{length};
-ghost use Rattle.statements.specs.Decode.{decodeStart, decodedAt};
+ghost use Rattle.words.specs.Sections.{statementStart};
+ghost use Rattle.statements.specs.Decode.{decodedCallAt};
 ghost use Rattle.rules.specs.BoundsRules.{ownRows};
 ghost use Rattle.rules.specs.Verdict.{environmentOf};
 ghost use Rattle.entry.specs.Ends.{endsOf};
 ghost use Rattle.parts.specs.Parts.{Replaced};
-ghost use Rattle.set_runs.specs.Lent.{partIn, readIn, sectionsIn, siteOf};
+ghost use Rattle.set_runs.specs.Lent.{partIn, readIn, sectionsIn};
 
 // Where the words of a routine stand, and its sections there.
 pub(crate) struct Part {
@@ -82,45 +82,16 @@ pub(crate) fn lay_routine(tables: &[i32], lengths: &[u32], n: usize, ends: &mut 
     copy_ends(lay_ends(environment), &mut ends[room_start..room_end]);
 }
 
-// The call of a statement that is one.
-fn site_of(statement: Statement) -> CallSite
-    ensures { λ r. ⌜ r ≡ siteOf statement ⌝ }
-{
-    let none = CallSite {
-        callee: 0,
-        result: 16,
-        first: 16,
-        second: 16,
-        third: 16,
-        fourth: 16,
-    };
-    match statement {
-        Statement::Call(site) => site,
-        Statement::Plain(_) => none,
-        Statement::If {
-            condition: _,
-            then_count: _,
-            else_count: _,
-        } => none,
-        Statement::While {
-            condition: _,
-            count: _,
-        } => none,
-        Statement::Bundle { count: _ } => none,
-    }
-}
-
 // The call at a statement of routine n.
 pub(crate) fn call_at(tables: &[i32], lengths: &[u32], n: usize, at: usize) -> CallSite
-    requires { ⌜ (n < 8) × (decodeStart (sectionsIn (now tables) (now lengths) n) at + 7 ≤ length (readIn (now tables) (now lengths) n)) ⌝ }
-    ensures { λ r. ⌜ r ≡ siteOf (decodedAt (readIn (now (tables .entry)) (now (lengths .entry)) n) (sectionsIn (now (tables .entry)) (now (lengths .entry)) n)
-        at) ⌝ }
+    requires { ⌜ (n < 8) × (statementStart (sectionsIn (now tables) (now lengths) n) at + 7 ≤ length (readIn (now tables) (now lengths) n)) ⌝ }
+    ensures { λ r. ⌜ r ≡ decodedCallAt (readIn (now (tables .entry)) (now (lengths .entry)) n) (sectionsIn (now (tables .entry)) (now (lengths .entry)) n)
+        at ⌝ }
 {
     let part = part_of(tables, lengths, n);
     let start = part.start;
     let end = part.end;
-    let statement = decode_statement(&tables[start..end], part.sections, at);
-    site_of(statement)
+    decode_call_at(&tables[start..end], part.sections, at)
 }
 
 // How many variables routine n has.

@@ -1,7 +1,9 @@
 // A routine of a set behind the first: its table with the objects of routine 0 put in ("Only routine 0 lists objects, for all").
 use table::sections_of;
 use words::sections::Sections;
-ghost use Prim.Native.Nat.{_^_, _≤_, _<_};
+use words::signed::number_word;
+use words::signed::signed_word;
+ghost use Prim.Native.Nat.{_≤_, _<_};
 ghost use mathlib.Core.Bool.{true};
 ghost use mathlib.Core.Path.{_≡_};
 ghost use lib.IntN.{pos};
@@ -10,24 +12,6 @@ ghost use Rattle.table.specs.Form.{sectionsOf, headRight};
 ghost use Rattle.rules.specs.Sets.{objectWords, withObjects};
 ghost use Rattle.sets.specs.Member.{Puts, Put};
 ghost use Rattle.sets.specs.Checked.{memberWords};
-
-// The word at an index; past the end the word 0.
-fn signed_word(words: &[i32], i: usize) -> i32
-    ensures { λ r. ⌜ r ≡ getD (now (words .entry)) i (pos 0) ⌝ }
-{
-    if i < words.len() {
-        return words[i];
-    }
-    0
-}
-
-// A small number as a word.
-fn number_word(n: usize) -> i32
-    requires { ⌜ n < 2 ^ 31 ⌝ }
-    ensures { λ r. ⌜ r ≡ pos n ⌝ }
-{
-    n as i32
-}
 
 // A word of the directory: the count of objects, and the offsets behind them, are those with the objects put in.
 fn head_word(first: &[i32], own: Sections, table: &[i32], sections: Sections, i: usize) -> i32

@@ -8,6 +8,7 @@ use Rattle.sums.specs.Numbers.{bias, zeroVar}
 use Rattle.words.specs.Words.{fieldsAt}
 use Rattle.words.specs.declared.Fields.{Fields}
 use Rattle.words.specs.Fields.{plain, literalValue, isZero}
+use Rattle.words.specs.Sections.{statementStart}
 use Rattle.words.specs.declared.sections.Sections.{Sections}
 use Rattle.conditions.specs.declared.Condition.{Condition}
 use Rattle.statements.specs.declared.Simple.the-variants.{Literal, AddConstant, Arithmetic, Null, Address}
@@ -74,10 +75,10 @@ decodedAs kind f =
 abbrev pub decoded : Fields → Statement
 decoded f = decodedAs (unsigned (f .kind)) f
 
--- Where a record starts; numbers of items that no table has are taken modulo 4,096.
-abbrev pub decodeStart : Sections → ℕ → ℕ
-decodeStart h a = h .start % 16 + h .objects % 4096 + 8 * (h .variables % 4096) + 7 * (a % 4096)
-
 -- The statement of a number, for a record that is known to read.
 unfoldable pub decodedAt : List ℤ → Sections → ℕ → Statement
-decodedAt table h a = decoded (fieldsAt table (decodeStart h a))
+decodedAt table h a = decoded (fieldsAt table (statementStart h a))
+
+-- The call of a number, for a statement that is one.
+unfoldable pub decodedCallAt : List ℤ → Sections → ℕ → CallSite
+decodedCallAt table h a = decodedCall (fieldsAt table (statementStart h a))

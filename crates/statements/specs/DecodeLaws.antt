@@ -1,6 +1,6 @@
 -- A record that reads is decoded as the statement that it reads as.
 use Prim.Native.Nat.{ℕ, _+_, _-_, _^_, _≤_, _<_}
-use mathlib.Core.Path.{_≡_, refl, ap, _∙_}
+use mathlib.Core.Path.{_≡_, refl, sym, ap, _∙_}
 use mathlib.Core.Bool.{Bool, true, false, _&&_, _||_, false≢true, cond}
 use mathlib.Core.List.{List}
 use mathlib.Core.Logic.{_⊎_, inl, inr, ⊎-elim}
@@ -25,10 +25,11 @@ use Rattle.statements.specs.Statements.{whileRead, bundleRead, kindRead,
 use Rattle.statements.specs.StatementLaws.{read-limits}
 use Rattle.statements.specs.declared.CallSite.{CallSite}
 use Rattle.statements.specs.declared.Statement.{Statement}
+use Rattle.statements.specs.declared.Statement.the-variants.{Plain, If, While, Bundle, Call}
 use Rattle.statements.specs.declared.StatementRead.{StatementRead}
 use Rattle.statements.specs.declared.StatementRead.the-variants.{Read, Unread}
-use Rattle.statements.specs.Decode.{unsigned, decodedIndex, decodedRight, decodedOffset, decodedCondition, decodedCall, decodedAs, decoded, decodeStart}
-use Rattle.statements.specs.Decode.{decodedAt}
+use Rattle.statements.specs.Decode.{unsigned, decodedIndex, decodedRight, decodedOffset, decodedCondition, decodedCall, decodedAs}
+use Rattle.statements.specs.Decode.{decodedAt, decodedCallAt}
 
 -- ---- a field that the readers let pass is its 32 bits
 
@@ -282,8 +283,32 @@ module _ (table : List ℤ) (h : Sections) (limits : Limits h) (f : Fields) (t :
 pub read-decoded : (table : List ℤ) (h : Sections) (a : ℕ) (s : Statement) → statementAt table h a ≡ Read s → decodedAt table h a ≡ s
 unfolding statementAt decodedAt
 read-decoded table h a s e =
-    let l = read-limits table h a s e in
-    let g : decodeStart h a ≡ statementStart h a = omega (arith, l .0 .start, l .0 .objects, l .0 .variables, l .0 .statements, l .1) in
     let f = fieldsAt table (statementStart h a) in
     let r = within (inLimits h && ltb a (h .statements)) _ s e in
-    ap (λ (i : ℕ). decoded (fieldsAt table i)) g ∙ ap (λ (k : ℕ). decodedAs k f) (kind-unsigned table h (l .0) f s r) ∙ kind-decoded table h (l .0) f s r
+    let l = read-limits table h a s e in
+    ap (λ (k : ℕ). decodedAs k f) (kind-unsigned table h (l .0) f s r) ∙ kind-decoded table h (l .0) f s r
+
+-- ---- of a statement that is decoded as a call, the call
+
+abbrev isCall : Statement → Bool
+isCall (Call c) = true
+isCall (Plain s) = false
+isCall (If c n m) = false
+isCall (While c n) = false
+isCall (Bundle n) = false
+
+skip : (b : Bool) (s r : Statement) (c : CallSite) → cond b s r ≡ Call c → isCall s ≡ false → r ≡ Call c
+skip true s r c e n = absurd (false≢true (sym n ∙ ap isCall e))
+skip false s r c e n = e
+
+pub call-decoded : (table : List ℤ) (h : Sections) (a : ℕ) (c : CallSite) → decodedAt table h a ≡ Call c → decodedCallAt table h a ≡ c
+unfolding decodedAt decodedAs decodedCallAt
+call-decoded table h a c e =
+    let f = fieldsAt table (statementStart h a) in
+    let k = unsigned (f .kind) in
+    let g : Call (decodedCall f) ≡ Call c =
+    skip (eqb k 14) _ _ c (skip (eqb k 13) _ _ c (skip (eqb k 12) _ _ c (skip (eqb k 11) _ _ c (skip (eqb k 10) _ _ c
+    (skip (eqb k 9) _ _ c (skip (eqb k 8) _ _ c (skip (eqb k 7) _ _ c (skip (eqb k 6) _ _ c (skip (eqb k 5) _ _ c
+    (skip (eqb k 4) _ _ c (skip (eqb k 3) _ _ c (skip (eqb k 2) _ _ c (skip (eqb k 1) _ _ c e refl) refl) refl) refl)
+    refl) refl) refl) refl) refl) refl) refl) refl) refl) refl in
+    cc

@@ -4,7 +4,7 @@ use mathlib.Core.Path.{_≡_, refl, sym, ap, _∙_}
 use mathlib.Core.Bool.{Bool, true, false, not, _||_}
 use mathlib.Core.List.{List}
 use native.Mathlib.Omega.{arith}
-use borrow.Author.Tests.{eq-eqb, ne-eqb, ltb-false, leb-false}
+use borrow.Author.Tests.{eq-eqb, ne-eqb, eqb-true, ltb-false, leb-false}
 use lib.Dec.{leb, ltb, eqb}
 use lib.ListN.{getD, set}
 use Rattle.sums.specs.Numbers.{bias, maxValue}
@@ -16,7 +16,8 @@ use Rattle.machine.specs.Machine.{value, address, conditionHolds, Failing, none
 use Rattle.machine.specs.Machine.{loadFailing, storeFailing, arithmeticFailing, combined, indexed}
 use Rattle.checks.specs.Checked.{declaredIn, stepUnless, sizeIn}
 use Rattle.checks.specs.CheckLaws.{size-in}
-use Rattle.steps.specs.Bare.{offsetFailing, indexFailing, changedUnless, valuesAfter, cellsAfter, simpleMove, Moves, Assigns, copied, endsAfter}
+use Rattle.steps.specs.Bare.{offsetFailing, indexFailing, mark, Marked, changedUnless, valuesAfter, cellsAfter, simpleMove, Moves, Assigns}
+use Rattle.steps.specs.Bare.{copied, endsAfter}
 use Rattle.answers.specs.declared.stops.Check.{Check}
 use Rattle.checks.specs.declared.Step.{Step}
 use Rattle.checks.specs.declared.Step.the-variants.{Go, Stop}
@@ -153,3 +154,15 @@ module _ (W D : List ℕ) (a n : ℕ) (vs cs : List ℕ) where
   pub moves-declare : (p q : ℕ) (r : Step) (W′ : List ℕ) → (r ≡ Go n) × (W′ ≡ copied 6 p q W) → Moves (simpleMove W D (Declare p q) a n vs cs) r W′ vs cs
   unfolding simpleMove failing stepUnless changedUnless valuesAfter cellsAfter endsAfter
   moves-declare p q r W′ e = record { said = e .0; ends = e .1; values = refl; cells = refl }
+
+-- ---- a marked access passes its checks
+
+pub load-known : (W vs S : List ℕ) (a : ℕ) (s : Simple) (x p i k : ℕ) (b : Bool) → (Marked S a → failing (declaredIn W) vs s ≡ none) → s ≡ Load x p i k
+    → b ≡ eqb (getD S (2 * a + 1) 0) mark → b ≡ true → loadFailing (declaredIn W) vs p (address (declaredIn W) vs p i k) ≡ none
+unfolding failing
+load-known W vs S a s x p i k b f e g t = rw e at (f (eqb-true _ _ (sym g ∙ t)))
+
+pub store-known : (W vs S : List ℕ) (a : ℕ) (s : Simple) (p i k x : ℕ) (b : Bool) → (Marked S a → failing (declaredIn W) vs s ≡ none) → s ≡ Store p i k x
+    → b ≡ eqb (getD S (2 * a + 1) 0) mark → b ≡ true → storeFailing (declaredIn W) vs p (address (declaredIn W) vs p i k) (value vs x) ≡ none
+unfolding failing
+store-known W vs S a s p i k x b f e g t = rw e at (f (eqb-true _ _ (sym g ∙ t)))

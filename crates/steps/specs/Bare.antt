@@ -21,7 +21,7 @@ use Rattle.blocks.specs.Flow.{Successors}
 use Rattle.blocks.specs.Shape.{entriesAt}
 use Rattle.machine.specs.Machine.{value, low, conditionHolds, Failing, none, fails, firstUnless, failing}
 use Rattle.machine.specs.Machine.{loadFailing, storeFailing, arithmeticFailing, address, combined, indexed}
-use Rattle.checks.specs.Checked.{declaredIn, stepUnless, sizeIn}
+use Rattle.checks.specs.Checked.{declaredIn, stepUnless, sizeIn, Named, Comparable}
 use Rattle.checks.specs.declared.Step.{Step}
 use Rattle.checks.specs.declared.Step.the-variants.{Go}
 use Rattle.checks.specs.declared.Step.the-variants as step
@@ -146,6 +146,9 @@ pub record Accessible (W : List ℕ) (x p i k : ℕ) (f : Failing) (vs cs : List
   pub ends : length W ≡ 512
   pub small : (n : ℕ) → getD W n 0 < 2 ^ 34
   pub sizes : (n : ℕ) → sizeIn W n ≤ 8
+  pub named : Named W
+  pub index : i ≤ 16
+  pub slots : 16 < length vs
   pub inside : f ≡ none → InCells (address (declaredIn W) vs p i k) cs
 
 -- The same of each kind of statement.
@@ -159,27 +162,36 @@ Operable W D (PointerOffset p q k) vs cs = (p < length vs) × (q < length vs) ×
 Operable W D (PointerIndex p q i) vs cs = (p < length vs) × (q < length vs) × (i < length vs) × (q < 16) × (length W ≡ 512) × ((x : ℕ) → sizeIn W x ≤ 8)
 Operable W D (Load x p i k) vs cs = Accessible W x p i k (loadFailing (declaredIn W) vs p (address (declaredIn W) vs p i k)) vs cs
 Operable W D (Store p i k x) vs cs = Accessible W x p i k (storeFailing (declaredIn W) vs p (address (declaredIn W) vs p i k) (value vs x)) vs cs
-Operable W D (Test c) vs cs = c .offset < 2 ^ 32
+Operable W D (Test c) vs cs = Comparable c vs
 Operable W D (Declare p r) vs cs = (p < 16) × (r < 64) × (length W ≡ 512)
 
--- The statement a reads, and its access is inside. It reads in the table that was checked; the table T that the run has is decoded there as that is: for a
--- routine of a set (point 14) it need not hold the words of the objects.
-pub record Ready (T : List ℤ) (h : Sections) (W : List ℕ) (a : ℕ) (vs cs : List ℕ) : Type 0 where
+-- A statement of one successor that is marked in the place of the second: no check of it fails. (No statement has this number.)
+abbrev pub mark : ℕ
+mark = 4294967295
+
+abbrev pub Marked : List ℕ → ℕ → Type 0
+Marked S a = getD S (2 * a + 1) 0 ≡ mark
+
+-- The statement a reads, its access is inside, and no check of it fails where it is marked. It reads in the table that was checked; the table T that the run
+-- has is decoded there as that is: for a routine of a set (point 14) it need not hold the words of the objects.
+pub record Ready (T : List ℤ) (h : Sections) (W S : List ℕ) (a : ℕ) (vs cs : List ℕ) : Type 0 where
   pub checked : List ℤ
   pub same : decodedAt T h a ≡ decodedAt checked h a
   pub statement : Statement
   pub reads : statementAt checked h a ≡ Read statement
   pub inside : Inside W statement vs cs
+  pub known : Marked S a → (s : Simple) → statement ≡ Plain s → failing (declaredIn W) vs s ≡ none
 
--- The slices are long enough, and the ends small enough that no sum wraps.
+-- The slices are long enough, the ends small enough that no sum wraps, and what they name has a slot.
 pub record Prepared (T : List ℤ) (h : Sections) (W D S vs : List ℕ) : Type 0 where
   pub table : statementStart h (h .statements) ≤ length T
   pub ends : length W ≡ 512
   pub small : (i : ℕ) → getD W i 0 < 2 ^ 34
   pub sizes : (p : ℕ) → sizeIn W p ≤ 8
+  pub named : Named W
   pub directory : 2 * h .objects ≤ length D
   pub successors : 2 * h .statements ≤ length S
-  pub values : h .variables ≤ length vs
+  pub slots : 16 < length vs
 
 -- ---- the step of the statement a. S is the slice of successors, D the directory, W the ends.
 

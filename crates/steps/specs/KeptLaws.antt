@@ -1,5 +1,5 @@
 -- A step keeps the ends as long as they were, and small.
-use Prim.Native.Nat.{ℕ, zero, suc, _+_, _*_, _^_, _<_, _≤_}
+use Prim.Native.Nat.{ℕ, zero, suc, _+_, _*_, _%_, _^_, _<_, _≤_}
 use mathlib.Core.Path.{_≡_, refl, ap}
 use mathlib.Core.List.{List, [], _∷_}
 use native.Mathlib.Omega.{arith}
@@ -15,31 +15,35 @@ use Rattle.statements.specs.Decode.{decodedAt}
 use Rattle.blocks.specs.Flow.{Successors}
 use Rattle.blocks.specs.Shape.{entriesAt}
 use Rattle.machine.specs.Machine.{Failing, none, fails, failing}
-use Rattle.checks.specs.Checked.{declaredIn, sizeIn}
+use Rattle.checks.specs.Checked.{declaredIn, sizeIn, Named}
 use Rattle.checks.specs.declared.Step.{Step}
 use Rattle.steps.specs.Bare.{copied, endsAfter, changedUnless, simpleMove, statementMove, bareMove, Moves, Ready}
 use Rattle.steps.specs.CopiedLaws.{copied-long, copied-outside}
 use Rattle.steps.specs.ReadyLaws.{ready-declare}
 
--- The ends W′ are as long as W, and small where W is.
+-- The ends W′ are as long as W, small where W is, and name slots where W does.
 pub record EndsKept (W W′ : List ℕ) : Type 0 where
   pub long : length W′ ≡ length W
   pub small : ((i : ℕ) → getD W i 0 < 2 ^ 34) → (i : ℕ) → getD W′ i 0 < 2 ^ 34
+  pub named : Named W → Named W′
 
-set-small : (l : List ℕ) (j v : ℕ) → v < 2 ^ 34 → ((i : ℕ) → getD l i 0 < 2 ^ 34) → (i : ℕ) → getD (set l j v) i 0 < 2 ^ 34
-set-small [] j v b f i = f i
-set-small (x ∷ l) zero v b f zero = b
-set-small (x ∷ l) zero v b f (suc i) = f (suc i)
-set-small (x ∷ l) (suc j) v b f zero = f zero
-set-small (x ∷ l) (suc j) v b f (suc i) = set-small l j v b (λ k. f (suc k)) i
+-- What holds of each number of a list holds after one is set of which it holds.
+set-each : (P : ℕ → ℕ → Type 0) (l : List ℕ) (j v : ℕ) → P j v → ((i : ℕ) → P i (getD l i 0)) → (i : ℕ) → P i (getD (set l j v) i 0)
+set-each P [] j v b f i = f i
+set-each P (x ∷ l) zero v b f zero = b
+set-each P (x ∷ l) zero v b f (suc i) = f (suc i)
+set-each P (x ∷ l) (suc j) v b f zero = f zero
+set-each P (x ∷ l) (suc j) v b f (suc i) = set-each (λ k. P (suc k)) l j v b (λ k. f (suc k)) i
 
-copied-small : (n p r : ℕ) (W : List ℕ) → ((i : ℕ) → getD W i 0 < 2 ^ 34) → (i : ℕ) → getD (copied n p r W) i 0 < 2 ^ 34
+copied-each : (P : ℕ → ℕ → Type 0) (n p r : ℕ) (W : List ℕ) → ((k v : ℕ) → P (96 + 6 * r + k) v → P (6 * p + k) v) → ((i : ℕ) → P i (getD W i 0)) → (i : ℕ)
+    → P i (getD (copied n p r W) i 0)
 unfolding copied
-copied-small zero p r W f i = f i
-copied-small (suc n) p r W f i = set-small (copied n p r W) (6 * p + n) (getD W (96 + 6 * r + n) 0) (f (96 + 6 * r + n)) (copied-small n p r W f) i
+copied-each P zero p r W e f i = f i
+copied-each P (suc n) p r W e f i =
+    set-each P (copied n p r W) (6 * p + n) (getD W (96 + 6 * r + n) 0) (e n _ (f (96 + 6 * r + n))) (copied-each P n p r W e f) i
 
 same-kept : (W : List ℕ) → EndsKept W W
-same-kept W = record { long = refl; small = λ f. f }
+same-kept W = record { long = refl; small = λ f. f; named = λ f. f }
 
 after-kept : (s : Simple) (W : List ℕ) → EndsKept W (endsAfter s W)
 unfolding endsAfter
@@ -53,7 +57,12 @@ after-kept (PointerIndex p q i) W = same-kept W
 after-kept (Load x p i k) W = same-kept W
 after-kept (Store p i k x) W = same-kept W
 after-kept (Check c) W = same-kept W
-after-kept (Declare p r) W = record { long = copied-long p r W 6; small = copied-small 6 p r W }
+after-kept (Declare p r) W =
+    record {
+      long = copied-long p r W 6;
+      small = copied-each (λ i v. v < 2 ^ 34) 6 p r W (λ k v l. l);
+      named = copied-each (λ i v. i % 3 < 2 → v ≤ 16) 6 p r W (λ k v l m. l (omega (arith, m)));
+    }
 
 unless-kept : (f : Failing) (W W′ : List ℕ) → EndsKept W W′ → EndsKept W (changedUnless f W W′)
 unfolding changedUnless
@@ -103,9 +112,9 @@ statement-sizes W D (While c y) a n vs cs f x = refl
 statement-sizes W D (Bundle y) a n vs cs f x = refl
 statement-sizes W D (Call y) a n vs cs f x = refl
 
-pub move-sizes : (T : List ℤ) (h : Sections) (W D S : List ℕ) (a : ℕ) (vs cs : List ℕ) {r : Step} {W′ ws ds : List ℕ} → Ready T h W a vs cs
+pub move-sizes : (T : List ℤ) (h : Sections) (W D S : List ℕ) (a : ℕ) (vs cs : List ℕ) {r : Step} {W′ ws ds : List ℕ} → Ready T h W S a vs cs
     → Moves (bareMove T h W D S a vs cs) r W′ ws ds
     → ((x : ℕ) → sizeIn W x ≤ 8) → (x : ℕ) → sizeIn W′ x ≤ 8
 unfolding bareMove
 move-sizes T h W D S a vs cs y m f x =
-    rw (m .ends, statement-sizes W D (decodedAt T h a) a (entriesAt S a) vs cs (λ p r e. ready-declare T h W a vs cs p r y e) x) (f x)
+    rw (m .ends, statement-sizes W D (decodedAt T h a) a (entriesAt S a) vs cs (λ p r e. ready-declare T h W S a vs cs p r y e) x) (f x)

@@ -12,10 +12,14 @@ use statements::decode::decode_statement;
 use words::sections::Sections;
 ghost use mathlib.Core.Bool.{cond};
 ghost use mathlib.Core.Path.{_≡_};
-ghost use Prim.Native.Nat.{_^_, _<_};
+ghost use Prim.Native.Nat.{_<_};
 ghost use lib.ListN.{length, getD};
 ghost use Rattle.machine.specs.Machine.{conditionHolds};
+ghost use Rattle.checks.specs.Checked.{Comparable};
 ghost use Rattle.steps.specs.Bare.{Prepared, Ready, bareMove, Moves};
+
+// The mark of a statement of one successor that passes its checks, in the place of the second.
+pub const MARK: u32 = 4294967295;
 
 // An entry of the slice of successors.
 fn successor(successors: &[u32], i: usize) -> usize
@@ -27,7 +31,7 @@ fn successor(successors: &[u32], i: usize) -> usize
 
 // An if or a while: `next` where its condition holds, else `other`.
 fn branch(values: &[u32], c: Condition, next: usize, other: usize) -> usize
-    requires { ⌜ c .offset < 2 ^ 32 ⌝ }
+    requires { ⌜ Comparable c (now values) ⌝ }
     ensures { λ r. ⌜ r ≡ cond (conditionHolds (now (values .entry)) c) next other ⌝ }
 {
     if condition_holds(values, c) {
@@ -48,14 +52,23 @@ pub fn advance(
     cells: &mut [u32],
 ) -> Step
     requires { ⌜ Prepared (now table) sections (now ends) (now directory) (now successors) (now values) ⌝ }
-    requires { ⌜ Ready (now table) sections (now ends) at (now values) (now cells) ⌝ }
+    requires { ⌜ Ready (now table) sections (now ends) (now successors) at (now values) (now cells) ⌝ }
     ensures { λ r. ⌜ Moves (bareMove (now (table .entry)) sections (now (ends .entry)) (now (directory .entry)) (now (successors .entry))
         at (now (values .entry)) (now (cells .entry))) r (now (ends .exit)) (now (values .exit)) (now (cells .exit)) ⌝ }
 {
     let next = successor(successors, 2 * at);
     let s = decode_statement(table, sections, at);
     match s {
-        Statement::Plain(p) => advance_simple(ends, directory, at, next, p, values, cells),
+        Statement::Plain(p) => advance_simple(
+            ends,
+            directory,
+            successors,
+            at,
+            next,
+            p,
+            values,
+            cells,
+        ),
         Statement::If {
             condition,
             then_count: _,

@@ -1,4 +1,5 @@
 // The step of a statement of kinds 1 to 10 and 14.
+use crate::MARK;
 use crate::numbers::add_constant;
 use crate::numbers::combine;
 use checks::Step;
@@ -7,19 +8,21 @@ use checks::check_condition;
 use checks::check_load;
 use checks::check_store;
 use checks::size_in;
+use checks::slot;
 use machine::scaled;
-use machine::value_at;
 use machine::wide;
 use statements::Simple;
 use sums::BIAS;
 ghost use mathlib.Core.Path.{_≡_};
-ghost use Prim.Native.Nat.{ℕ, _+_, _-_, _^_, _<_, _≤_};
+ghost use mathlib.Core.Bool.{true};
+ghost use Prim.Native.Nat.{ℕ, _+_, _-_, _*_, _^_, _<_, _≤_};
+ghost use lib.Dec.{eqb};
 ghost use lib.ListN.{length, getD};
 ghost use Rattle.sums.specs.Numbers.{bias};
-ghost use Rattle.machine.specs.Machine.{value, address, indexed, arithmeticFailing, loadFailing, storeFailing};
+ghost use Rattle.machine.specs.Machine.{value, address, indexed, none, failing, arithmeticFailing, loadFailing, storeFailing};
 ghost use Rattle.checks.specs.Checked.{sizeIn, declaredIn};
 ghost use Rattle.checks.specs.declared.Step.the-variants.{Go};
-ghost use Rattle.steps.specs.Bare.{offsetFailing, indexFailing, copied, Accessible, Operable, simpleMove, Assigns, Moves};
+ghost use Rattle.steps.specs.Bare.{offsetFailing, indexFailing, copied, Accessible, Operable, mark, Marked, simpleMove, Assigns, Moves};
 
 // Kinds 6 and 7: the target takes the sum, which has the bias, unless check 4 or 5 fails.
 fn assign_pointer(
@@ -87,11 +90,20 @@ fn index_pointer(
 
 // The whole number p + s of p times i + k, with the bias.
 fn address_of(ends: &[u64], values: &[u32], pointer: usize, index: usize, constant: u64) -> u64
-    requires { ⌜ (pointer < 16) × (length (now ends) ≡ 512) × (sizeIn (now ends) pointer ≤ 8) × (constant < 2 ^ 34) ⌝ }
+    requires { ⌜ (pointer < 16) × (length (now ends) ≡ 512) × (sizeIn (now ends) pointer ≤ 8) × (constant < 2 ^ 34) × (index ≤ 16)
+        × (16 < length (now values)) ⌝ }
     ensures { λ r. ⌜ r ≡ address (declaredIn (now (ends .entry))) (now (values .entry)) pointer index constant ⌝ }
     ensures small { λ r. ⌜ r < 2 ^ 40 ⌝ }
 {
-    value_at(values, pointer) + scaled(size_in(ends, pointer), value_at(values, index)) + constant
+    slot(values, pointer) + scaled(size_in(ends, pointer), slot(values, index)) + constant
+}
+
+// Whether a statement of one successor is marked in the place of the second.
+fn is_marked(successors: &[u32], at: usize) -> bool
+    requires { ⌜ 2 * at + 1 < length (now successors) ⌝ }
+    ensures { λ r. ⌜ r ≡ eqb (getD (now (successors .entry)) (2 * at + 1) 0) mark ⌝ }
+{
+    successors[2 * at + 1] == MARK
 }
 
 // Kind 8: x := p[i + k], unless check 2 or 3 fails.
@@ -105,15 +117,18 @@ fn load(
     constant: u64,
     values: &mut [u32],
     cells: &[u32],
+    known: bool,
 ) -> Step
     requires { ⌜ Accessible (now ends) target pointer index constant (loadFailing (declaredIn (now ends)) (now values) pointer
         (address (declaredIn (now ends)) (now values) pointer index constant)) (now values) (now cells) ⌝ }
+    requires { ⌜ (known ≡ true → loadFailing (declaredIn (now ends)) (now values) pointer (address (declaredIn (now ends)) (now values) pointer index constant)
+        ≡ none) ⌝ }
     ensures { λ r. ⌜ Assigns (loadFailing (declaredIn (now (ends .entry))) (now (values .entry)) pointer
         (address (declaredIn (now (ends .entry))) (now (values .entry)) pointer index constant)) at next target (getD (now (cells .entry))
         (address (declaredIn (now (ends .entry))) (now (values .entry)) pointer index constant - bias) 0) (now (values .entry)) r (now (values .exit)) ⌝ }
 {
     let address = address_of(ends, values, pointer, index, constant);
-    let said = check_load(ends, values, at, next, pointer, address);
+    let said = check_load(ends, values, at, next, pointer, address, known);
     match said {
         Step::Go(_) => {
             let place = (address - BIAS) as usize;
@@ -136,16 +151,19 @@ fn store(
     source: usize,
     values: &[u32],
     cells: &mut [u32],
+    known: bool,
 ) -> Step
     requires { ⌜ Accessible (now ends) source pointer index constant (storeFailing (declaredIn (now ends)) (now values) pointer
         (address (declaredIn (now ends)) (now values) pointer index constant) (value (now values) source)) (now values) (now cells) ⌝ }
+    requires { ⌜ (known ≡ true → storeFailing (declaredIn (now ends)) (now values) pointer (address (declaredIn (now ends)) (now values) pointer index constant)
+        (value (now values) source) ≡ none) ⌝ }
     ensures { λ r. ⌜ Assigns (storeFailing (declaredIn (now (ends .entry))) (now (values .entry)) pointer (address (declaredIn (now (ends .entry)))
         (now (values .entry)) pointer index constant) (value (now (values .entry)) source)) at next (address (declaredIn (now (ends .entry)))
         (now (values .entry)) pointer index constant - bias) (value (now (values .entry)) source) (now (cells .entry)) r (now (cells .exit)) ⌝ }
 {
     let address = address_of(ends, values, pointer, index, constant);
-    let number = value_at(values, source);
-    let said = check_store(ends, values, at, next, pointer, address, number);
+    let number = slot(values, source);
+    let said = check_store(ends, values, at, next, pointer, address, number, known);
     match said {
         Step::Go(_) => {
             let place = (address - BIAS) as usize;
@@ -174,6 +192,7 @@ fn declare(ends: &mut [u64], next: usize, pointer: usize, row: usize) -> Step
 pub(crate) fn advance_simple(
     ends: &mut [u64],
     directory: &[u32],
+    successors: &[u32],
     at: usize,
     next: usize,
     s: Simple,
@@ -181,6 +200,7 @@ pub(crate) fn advance_simple(
     cells: &mut [u32],
 ) -> Step
     requires { ⌜ Operable (now ends) (now directory) s (now values) (now cells) ⌝ }
+    requires { ⌜ (2 * at + 1 < length (now successors)) × (Marked (now successors) at → failing (declaredIn (now ends)) (now values) s ≡ none) ⌝ }
     ensures { λ r. ⌜ Moves (simpleMove (now (ends .entry)) (now (directory .entry)) s at next (now (values .entry)) (now (cells .entry))) r (now (ends .exit))
         (now (values .exit)) (now (cells .exit)) ⌝ }
 {
@@ -239,6 +259,7 @@ pub(crate) fn advance_simple(
             constant,
             values,
             cells,
+            is_marked(successors, at),
         ),
         Simple::Store {
             pointer,
@@ -255,6 +276,7 @@ pub(crate) fn advance_simple(
             source,
             values,
             cells,
+            is_marked(successors, at),
         ),
         Simple::Check { condition } => check_condition(values, at, next, condition),
         Simple::Declare { pointer, row } => declare(ends, next, pointer, row),

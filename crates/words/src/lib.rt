@@ -1,6 +1,8 @@
-// The words of a table as natural numbers, 2^33 more than the signed words. Only `biased` sees a signed word; everything else works on natural numbers.
+// The words of a table as natural numbers, 2^33 more than the signed words. Of what reads a table only `biased` sees a signed word; everything else works on
+// natural numbers.
 pub mod field; // field.rt: one field of a record: the number, index or literal that its word is, and what it may be
 pub mod sections; // sections.rt: the sections of a table, and what a field of a record names: a variable of some kind, an index
+pub mod signed; // signed.rt: words as they stand in a table, for those that make tables
 
 use sums::BIAS;
 ghost use mathlib.Core.Path.{_≡_};
@@ -26,7 +28,7 @@ fn biased(w: i32) -> u64
 }
 
 // The word at an index of the table.
-fn word_within(table: &[i32], i: usize) -> u64
+pub fn word_within(table: &[i32], i: usize) -> u64
     requires { ⌜ i < length (now table) ⌝ }
     ensures { λ r. ⌜ r ≡ word (now (table .entry)) i ⌝ }
 {
@@ -44,7 +46,7 @@ pub fn word(table: &[i32], i: usize) -> u64
 }
 
 // The seven words from `start` on, of a record that lies in the table.
-pub fn fields_within(table: &[i32], start: usize) -> Fields
+fn fields_within(table: &[i32], start: usize) -> Fields
     requires { ⌜ (start < 65536) × (start + 7 ≤ length (now table)) ⌝ }
     ensures { λ r. ⌜ r ≡ fieldsAt (now (table .entry)) start ⌝ }
 {

@@ -28,13 +28,21 @@ lay-contents-spec =
     (λ c κs. search needs)
     (λ c. search needs)
     (λ c. search needs)
-    (λ c. contents-unread _ _ _ _ _ (c .before .before .before .loop-test .taken) (sym (c .before .before .read-statement .ensures) ∙ c .enum-told .given .1) ∙ ap verdict (sym (c .before .before .before .before .loop .inv)))
+    (λ c. contents-unread _ _ _ _ _ (c .before .before .before .loop-test .taken) (sym (c .before .before .read-statement .ensures) ∙ c .enum-told .given .1)
+    ∙ ap verdict (sym (c .before .before .before .before .loop .inv)))
     (λ c. search needs)
-    (λ c. contents-other _ _ _ _ _ (c .before .before .before .before .before .loop-test .taken) _ _ (not-plain _ (c .match2 .keys2)) (sym (c .before .before .before .before .read-statement .ensures) ∙ c .before .before .got .given .1) refl
+    (λ c. contents-other _ _ _ _ _ (c .before .before .before .before .before .loop-test .taken) _ _ (not-plain _ (c .match2 .keys2))
+    (sym (c .before .before .before .before .read-statement .ensures) ∙ c .before .before .got .given .1) refl
     ∙ ap verdict (sym (c .before .before .before .before .before .before .loop .inv)))
-    (λ c. omega (arith, read-within _ _ _ _ (sym (c .before .before .before .before .before .read-statement .ensures) ∙ c .before .before .before .got .given .1)))
+    (λ c. omega (
+      arith,
+      read-within _ _ _ _
+          (sym (c .before .before .before .before .before .read-statement .ensures) ∙ c .before .before .before .got .given .1),
+    ))
     (λ c. search needs)
     (λ c. search needs)
     (λ c. c .before .before .before .before .before .before .before .loop .inv
-    ∙ contents-plain _ _ _ _ _ (c .before .before .before .before .before .before .loop-test .taken) _ (sym (c .before .before .before .before .before .read-statement .ensures) ∙ c .before .before .before .got .given .1 ∙ ap Read (c .enum-told2 .given .1)))
+    ∙ contents-plain _ _ _ _ _ (c .before .before .before .before .before .before .loop-test .taken) _
+    (sym (c .before .before .before .before .before .read-statement .ensures) ∙ c .before .before .before .got .given .1
+    ∙ ap Read (c .enum-told2 .given .1)))
     (λ c. laid-out _ (c .before .loop .inv ∙ contents-none _ _ _ _ _ (c .loop-test .left))))

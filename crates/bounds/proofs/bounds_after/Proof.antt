@@ -30,12 +30,14 @@ bounds-after-spec =
     (λ c. omega (arith, c .source-of .ensures, source-below (c .before .before .before .args .effect) (c .before .before .before .pre)))
     (λ c κs. search needs) (λ c κs. search needs)
     (λ c. filled-none _ _ _ (search (length-under, needs)))
-    (λ c. search needs) (λ c. search needs) (λ c κs. search needs) (λ c κs. search needs) (λ c. search needs) (λ c. search needs) (λ c. search needs) (λ c. search needs)
+    (λ c. search needs) (λ c. search needs) (λ c κs. search needs) (λ c κs. search needs) (λ c. search needs) (λ c. search needs) (λ c. search needs)
+    (λ c. search needs)
     (λ c.
     let at = c .before .before .before .before in
     let start = at .before .before .before .before .before .before .before in
     ⊎-elim
-    (λ w. rw (w .2) (filled-anew (start .args .effect) (at .loop .inv) (c .before .before .before .loop-test .taken) (search (length-under, needs)) (at .before .before .before .before .source-of .result) (start .pre) (at .before .before .before .before .source-of .ensures) (w .1 .ensures)))
+    (λ w. rw (w .2) (filled-anew (start .args .effect) (at .loop .inv) (c .before .before .before .loop-test .taken) (search (length-under, needs))
+    (at .before .before .before .before .source-of .result) (start .pre) (at .before .before .before .before .source-of .ensures) (w .1 .ensures)))
     (λ w. rw (w .1) (filled-same (start .args .effect) (at .loop .inv) (c .before .before .before .loop-test .taken) (search (length-under, needs))
     (at .before .before .changed-by .ensures) (at .before .replaced-by .ensures) (c .before .made-same .ensures) (not-false _ (w .0 .left))))
     (c .if2 .came))

@@ -13,4 +13,5 @@ check-spec =
     (λ c κs. search needs) (λ c. search needs) (λ c κs. search needs) (λ c. search needs) (λ c. search needs)
     (λ c κs. form-formed _ (c .before .before .before .before .read-form .ensures) (c .before .before .form2 .given .1))
     (λ c. form-refused _ _ (c .before .before .before .before .read-form .ensures) (c .before .before .form .given .1) (c .refuse .ensures))
-    (λ c. form-checked _ _ (c .before .before .before .before .before .read-form .ensures) (c .before .before .before .form2 .given .1) (none-called _ _ refl) (c .check-sections .ensures)))
+    (λ c. form-checked _ _ (c .before .before .before .before .before .read-form .ensures) (c .before .before .before .form2 .given .1) (none-called _ _ refl)
+    (c .check-sections .ensures)))

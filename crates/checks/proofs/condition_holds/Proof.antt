@@ -11,6 +11,6 @@ condition-holds-spec =
     tie.close
     (tie.spec
     (λ c κs. search needs) (λ c κs. search needs)
-    (λ c. omega (arith, c .before .value-at2 .ensures .1, c .before .before .before .before .pre))
+    (λ c. omega (arith, c .before .slot2 .ensures .1, c .before .before .before .before .pre .0))
     (λ c κs. search needs)
-    (λ c. rw (c .before .before .before .value-at .ensures .0, c .before .before .value-at2 .ensures .0) at (c .relates .ensures)))
+    (λ c. rw (c .before .before .before .slot .ensures .0, c .before .before .slot2 .ensures .0) at (c .relates .ensures)))

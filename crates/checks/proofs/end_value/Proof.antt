@@ -10,4 +10,4 @@ end-value-spec =
     (λ c. search needs) (λ c. search needs) (λ c. search needs) (λ c. search needs) (λ c. search needs)
     (λ c κs. search needs) (λ c κs. search needs) (λ c κs. search needs)
     (λ c. search needs) (λ c. search needs) (λ c. search needs) (λ c. search needs) (λ c. search needs)
-    (λ c. simp (c .before .before .before .value-at .ensures .0, c .before .scaled .ensures .0, c .before .before .value-at2 .ensures .0)))
+    (λ c. simp (c .before .before .before .slot .ensures .0, c .before .scaled .ensures .0, c .before .before .slot2 .ensures .0)))

@@ -34,13 +34,15 @@ module _ (table : List ℤ) (h : Sections) (f : Fields) {zero below : Bool} (z :
   right-zero : {kind : Bool} → zero ≡ true → kind ≡ sameKind table h (f .first) (f .fourth) → (below && kind) ≡ conditionRight table h f
   unfolding conditionRight
   right-zero t e =
-      rw (b, e) (form-zero (f .third) (isBelow 6 (f .second)) (sameKind table h (f .first) (f .fourth)) (besideLiteral table h (f .first) (f .fourth)) (sym z ∙ t))
+      rw (b, e) (form-zero (f .third) (isBelow 6 (f .second)) (sameKind table h (f .first) (f .fourth)) (besideLiteral table h (f .first) (f .fourth))
+      (sym z ∙ t))
 
   right-one : {beside : Bool} → zero ≡ false → beside ≡ besideLiteral table h (f .first) (f .fourth)
       → (below && (eqb (f .third) (bias + 1) && beside)) ≡ conditionRight table h f
   unfolding conditionRight
   right-one t e =
-      rw (b, e) (form-one (f .third) (isBelow 6 (f .second)) (sameKind table h (f .first) (f .fourth)) (besideLiteral table h (f .first) (f .fourth)) (sym z ∙ t))
+      rw (b, e) (form-one (f .third) (isBelow 6 (f .second)) (sameKind table h (f .first) (f .fourth)) (besideLiteral table h (f .first) (f .fourth))
+      (sym z ∙ t))
 
 pub condition-right-spec : {M : Type 1} → statement M
 condition-right-spec =
@@ -49,4 +51,5 @@ condition-right-spec =
     (λ c κs. tt) (λ c κs. tt) (λ c κs. tt)
     (λ c. right-zero _ _ _ (c .before .before .before .is-zero .ensures) (c .before .is-below .ensures) (c .before .before .if1 .taken) (c .same-kind .ensures))
     (λ c κs. tt) (λ c. search needs) (λ c κs. tt)
-    (λ c. right-one _ _ _ (c .before .before .before .before .is-zero .ensures) (c .before .before .is-below2 .ensures) (c .before .before .before .if1 .left) (c .beside-literal .ensures)))
+    (λ c. right-one _ _ _ (c .before .before .before .before .is-zero .ensures) (c .before .before .is-below2 .ensures) (c .before .before .before .if1 .left)
+    (c .beside-literal .ensures)))

@@ -18,6 +18,13 @@ same-kind-spec =
     (λ c κs. search needs) (λ c κs. search needs)
     (λ c. rw (tested (c .before .before .names-integer .ensures) (c .before .names-integer2 .ensures) (c .if1 .taken)))
     (λ c κs. search needs) (λ c κs. search needs) (λ c κs. search needs) (λ c κs. search needs)
-    (λ c. rw (tested (c .before .before .before .before .before .before .names-integer .ensures) (c .before .before .before .before .before .names-integer2 .ensures)
+    (λ c. rw (tested (c .before .before .before .before .before .before .names-integer .ensures)
+    (c .before .before .before .before .before .names-integer2 .ensures)
     (c .before .before .before .before .if1 .left))
-    (simp (c .names-string2 .ensures, c .before .names-string .ensures, c .before .before .names-array2 .ensures, c .before .before .before .names-array .ensures))))
+    (simp (
+      c .names-string2 .ensures,
+      c .before .names-string .ensures,
+      c .before .before .names-array2 .ensures,
+      c .before .before .before .names-array
+          .ensures,
+    ))))

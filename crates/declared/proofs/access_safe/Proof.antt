@@ -12,7 +12,10 @@ access-safe-spec =
     (tie.spec
     (λ c κs. search needs) (λ c. search needs) (λ c. search needs)
     (λ c. nothing-safe _ _ _ (c .before .before .access-of .ensures) (c .enum-told .given .1))
-    (λ c. none-declared _ _ _ (c .before .before .before .before .access-of .ensures) (c .before .before .access .given .1) (search (length-under, needs)) (c .if1 .taken))
+    (λ c. none-declared _ _ _ (c .before .before .before .before .access-of .ensures) (c .before .before .access .given .1) (search (length-under, needs))
+    (c .if1 .taken))
     (λ c. search needs) (λ c. search needs)
-    (λ c κs. access-short (c .before .before .before .before .before .before .args .simple) (c .before .before .before .before .before .before .pre) (sym (c .before .before .before .before .before .access-of .ensures) ∙ c .before .before .before .access .given .1))
-    (λ c. address-asked _ _ _ (c .before .before .before .before .before .before .access-of .ensures) (c .before .before .before .before .access .given .1) (search (length-under, needs)) (c .address-safe .ensures)))
+    (λ c κs. access-short (c .before .before .before .before .before .before .args .simple) (c .before .before .before .before .before .before .pre)
+    (sym (c .before .before .before .before .before .access-of .ensures) ∙ c .before .before .before .access .given .1))
+    (λ c. address-asked _ _ _ (c .before .before .before .before .before .before .access-of .ensures) (c .before .before .before .before .access .given .1)
+    (search (length-under, needs)) (c .address-safe .ensures)))

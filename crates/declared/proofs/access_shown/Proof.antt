@@ -11,4 +11,6 @@ access-shown-spec =
     (λ c κs. search needs) (λ c. search needs) (λ c. search needs)
     (λ c. nothing-needed _ _ _ _ (c .before .before .access-of .ensures) (c .enum-told .given .1))
     (λ c κs. search needs) (λ c κs. search needs) (λ c κs. search needs)
-    (λ c. pointer-needed _ _ _ _ (c .before .before .before .before .before .before .before .before .access-of .ensures) (c .before .before .before .before .before .before .access .given .1) (c .before .before .bounds-at .ensures) (c .before .bounds-at2 .ensures) (c .bounds-shown .ensures)))
+    (λ c. pointer-needed _ _ _ _ (c .before .before .before .before .before .before .before .before .access-of .ensures)
+    (c .before .before .before .before .before .before .access .given .1) (c .before .before .bounds-at .ensures) (c .before .bounds-at2 .ensures)
+    (c .bounds-shown .ensures)))

@@ -11,7 +11,8 @@ check-row-spec =
     tie.close
     (tie.spec
     (λ c κs. search needs) (λ c. omega (arith, c .before .before .pre)) (λ c κs. search needs) (λ c κs. search needs)
-    (λ c. row-shown _ _ _ _ _ _ (c .before .before .before .bounds-at .ensures) (c .before .before .read-bound .ensures) (c .before .bounds-shown .ensures) (c .if1 .taken))
+    (λ c. row-shown _ _ _ _ _ _ (c .before .before .before .bounds-at .ensures) (c .before .before .read-bound .ensures) (c .before .bounds-shown .ensures)
+    (c .if1 .taken))
     (λ c κs. search needs)
     (λ c. c .not-shown .ensures
     ∙ row-missed _ _ _ _ _ _ (c .before .before .before .before .bounds-at .ensures) (c .before .before .before .read-bound .ensures)

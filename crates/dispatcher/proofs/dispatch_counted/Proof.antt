@@ -17,7 +17,8 @@ dispatch-counted-spec =
     (λ c. search needs)
     (λ c. search needs)
     (λ c κs. (
-      c .before .before .before .before .before .before .before .before .before .before .before .before .before .before .before .before .before .before .before .before .before .before .before .pre .0,
+      c .before .before .before .before .before .before .before .before .before .before .before .before .before .before .before .before .before .before .before
+          .before .before .before .before .pre .0,
       refl,
       seated-ready _ _ _ _ _ (c .before .before .before .before .enum-told .given .1)
           (c .before .before .before .before .before .before .before .before .before .before .before .seat-all .ensures),
@@ -26,7 +27,9 @@ dispatch-counted-spec =
     (λ c. search needs)
     (λ c. search needs)
     (λ c. search needs)
-    (λ c. first-refusal _ _ _ _ (c .before .before .before .before .before .before .before .before .before .before .before .before .before .before .before .before .before .before .before .before .pre .0) (seated-refused _ _ _ _ _ (c .before .seated .given .1)
+    (λ c. first-refusal _ _ _ _
+    (c .before .before .before .before .before .before .before .before .before .before .before .before .before .before .before .before .before .before
+    .before .before .pre .0) (seated-refused _ _ _ _ _ (c .before .seated .given .1)
     (c .before .before .before .before .before .before .before .before .seat-all .ensures)))
     (λ c. search needs)
     (λ c. search needs)

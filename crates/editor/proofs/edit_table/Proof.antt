@@ -15,23 +15,48 @@ edit-table-spec =
     (λ c κs. search needs) (λ c. search needs) (λ c. search needs) (λ c κs. search needs) (λ c. search needs)
     (λ c. call-unread _ _ _ _ _ _ (c .before .before .before .read-head .ensures) (c .before .enum-told .given .1) (c .refuse .ensures))
     (λ c κs. table-head _ _ (sym (c .before .before .before .read-head .ensures) ∙ c .before .head .given .1) .read .sizes)
-    (λ c. let t = table-head _ _ (sym (c .before .before .before .before .read-head .ensures) ∙ c .before .before .head .given .1) in omega (arith, c .end-of .ensures, t .fits))
+    (λ c. let t = table-head _ _ (sym (c .before .before .before .before .read-head .ensures) ∙ c .before .before .head .given .1) in omega
+    (arith, c .end-of .ensures, t .fits))
     (λ c. let t = table-head _ _ (sym (c .before .before .before .before .before .read-head .ensures) ∙ c .before .before .before .head .given .1) in
     simp length-take (omega (arith, c .before .end-of .ensures, t .fits)))
-    (λ c κs. let t = table-head _ _ (sym (c .before .before .before .before .before .before .read-head .ensures) ∙ c .before .before .before .before .head .given .1) in
+    (λ c κs. let t = table-head _ _
+    (sym (c .before .before .before .before .before .before .read-head .ensures) ∙ c .before .before .before .before .head .given .1) in
     let z = c .before .before .end-of .ensures in (t .read .limits, t .read .sizes, rw z (t .read .long)))
     (λ c. search needs)
-    (λ c κs. let t = table-head _ _ (sym (c .before .before .before .before .before .before .before .before .before .before .before .before .read-head .ensures) ∙ c .before .before .before .before .before .before .before .before .before .before .head .given .1) in
+    (λ c κs. let t = table-head _ _
+    (sym (c .before .before .before .before .before .before .before .before .before .before .before .before .read-head .ensures)
+    ∙ c .before .before .before .before .before .before .before .before .before .before .head .given .1) in
     let z = c .before .before .before .before .before .before .before .before .end-of .ensures in
     let u = rw z at (c .before .before .before .before .before .prepare .ensures) in
-    let f = plan-sizes _ _ _ _ (c .before .before .before .before .before .before .before .before .before .before .before .before .before .before .before .before .args .edit) (c .before .before .before .before .before .before .before .before .before .before .before .before .before .before .before .before .args .text .now) _ _ t (sym (u .plan) ∙ c .before .before .before .plan .given .1) in
-    (f .0, t .fits, f .1, t .read .lengths, omega (arith, u .held, up-to-within (c .before .before .before .before .before .before .before .before .before .before .before .before .before .before .before .before .args .store .now) (c .before .before .before .before .before .before .before .before .before .before .before .before .before .before .before .before .args .at))))
+    let f = plan-sizes _ _ _ _
+    (c .before .before .before .before .before .before .before .before .before .before .before .before .before .before .before .before .args .edit)
+    (c .before .before .before .before .before .before .before .before .before .before .before .before .before .before .before .before .args .text .now) _ _
+    t (sym (u .plan) ∙ c .before .before .before .plan .given .1) in (
+      f .0,
+      t .fits,
+      f .1,
+      t .read .lengths,
+      omega (
+        arith,
+        u .held,
+        up-to-within
+            (c .before .before .before .before .before .before .before .before .before .before .before .before .before .before .before .before .args .store .now)
+            (c .before .before .before .before .before .before .before .before .before .before .before .before .before .before .before .before .args .at),
+      ),
+    ))
     (λ c. search needs) (λ c κs. search needs) (λ c. search needs) (λ c. search needs)
-    (λ c. let t = table-head _ _ (sym (c .before .before .before .before .before .before .before .before .before .before .before .before .before .before .before .before .read-head .ensures) ∙ c .before .before .before .before .before .before .before .before .before .before .before .before .before .before .head .given .1) in
+    (λ c. let t = table-head _ _
+    (sym (c .before .before .before .before .before .before .before .before .before .before .before .before .before .before .before .before .read-head
+    .ensures) ∙ c .before .before .before .before .before .before .before .before .before .before .before .before .before .before .head .given .1) in
     let z = c .before .before .before .before .before .before .before .before .before .before .before .before .end-of .ensures in
     let u = rw z at (c .before .before .before .before .before .before .before .before .before .prepare .ensures) in
-    call-made _ _ _ _ _ _ (c .before .before .before .before .before .before .before .before .before .before .before .before .before .before .before .before .read-head .ensures) (c .before .before .before .before .before .before .before .before .before .before .before .before .before .before .head .given .1) u t (c .before .before .before .before .before .before .before .plan .given .1) (c .before .before .before .make-edit .ensures))
+    call-made _ _ _ _ _ _
+    (c .before .before .before .before .before .before .before .before .before .before .before .before .before .before .before .before .read-head .ensures)
+    (c .before .before .before .before .before .before .before .before .before .before .before .before .before .before .head .given .1) u t
+    (c .before .before .before .before .before .before .before .plan .given .1) (c .before .before .before .make-edit .ensures))
     (λ c. search needs) (λ c. search needs)
     (λ c. let z = c .before .before .before .before .before .before .before .end-of .ensures in
     let u = rw z at (c .before .before .before .before .prepare .ensures) in
-    call-refused _ _ _ _ _ _ (c .before .before .before .before .before .before .before .before .before .before .before .read-head .ensures) (c .before .before .before .before .before .before .before .before .before .head .given .1) u (c .before .before .plan2 .given .1) (rw z at (c .refuse2 .ensures))))
+    call-refused _ _ _ _ _ _ (c .before .before .before .before .before .before .before .before .before .before .before .read-head .ensures)
+    (c .before .before .before .before .before .before .before .before .before .head .given .1) u (c .before .before .plan2 .given .1)
+    (rw z at (c .refuse2 .ensures))))

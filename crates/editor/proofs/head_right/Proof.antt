@@ -14,4 +14,5 @@ head-right-spec =
     (λ c κs. search needs)
     (λ c. head-wrong-directory _ _ (c .before .directory-right .ensures) (not-true _ (c .if1 .taken)))
     (λ c κs. search needs)
-    (λ c. head-objects _ _ (c .before .before .before .directory-right .ensures) (not-false _ (c .before .before .if1 .left)) (c .before .lowest-object .ensures)))
+    (λ c. head-objects _ _ (c .before .before .before .directory-right .ensures) (not-false _ (c .before .before .if1 .left))
+    (c .before .lowest-object .ensures)))

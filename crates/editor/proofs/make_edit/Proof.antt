@@ -14,18 +14,29 @@ make-edit-spec =
     tie.close
     (tie.spec
     (λ c κs. search needs) (λ c κs. search needs) (λ c κs. search needs)
-    (λ c κs. rw (c .edited-sections .ensures) (limits _ (limits-stay _ _ _ (c .before .before .before .before .before .before .before .before .before .before .pre .0 .limits) (c .before .before .before .before .before .before .before .before .before .before .pre .0 .few))))
-    (λ c. let p = c .before .before .before .before .before .before .before .before .before .before .before .pre in let y = c .before .edited-sections .ensures in
-    let z = c .end-of .ensures in omega (arith, rw y at z, room-after _ _ _ _ _ _ (p .0) (c .before .before .before .before .before .before .before .write-edited .ensures)))
-    (λ c. let p = c .before .before .before .before .before .before .before .before .before .before .before .before .pre in let y = c .before .before .edited-sections .ensures in
+    (λ c κs. rw (c .edited-sections .ensures)
+    (limits _ (limits-stay _ _ _ (c .before .before .before .before .before .before .before .before .before .before .pre .0 .limits)
+    (c .before .before .before .before .before .before .before .before .before .before .pre .0 .few))))
+    (λ c. let p = c .before .before .before .before .before .before .before .before .before .before .before .pre in let y = c .before .edited-sections .ensures
+    in
+    let z = c .end-of .ensures in omega
+    (arith, rw y at z, room-after _ _ _ _ _ _ (p .0) (c .before .before .before .before .before .before .before .write-edited .ensures)))
+    (λ c. let p = c .before .before .before .before .before .before .before .before .before .before .before .before .pre in let y = c .before .before
+    .edited-sections .ensures in
     let z = c .before .end-of .ensures in
-    simp length-take (omega (arith, rw y at z, room-after _ _ _ _ _ _ (p .0) (c .before .before .before .before .before .before .before .before .write-edited .ensures))))
+    simp length-take (omega
+    (arith, rw y at z, room-after _ _ _ _ _ _ (p .0) (c .before .before .before .before .before .before .before .before .write-edited .ensures))))
     (λ c κs. let p = c .before .before .before .before .before .before .before .before .before .before .before .before .before .pre in
     let y = c .before .before .before .edited-sections .ensures in
-    let t = buffer-table _ _ _ _ _ _ (p .0) (c .before .before .before .before .before .before .before .before .before .write-edited .ensures) (rw y at (c .before .before .end-of .ensures)) in
+    let t = buffer-table _ _ _ _ _ _ (p .0) (c .before .before .before .before .before .before .before .before .before .write-edited .ensures)
+    (rw y at (c .before .before .end-of .ensures)) in
     (rw (y, t) (edited-measured _ _ _ _ _ _ (p .0) (p .3)), rw y (p .0 .few)))
     (λ c κs. search needs) (λ c. search needs) (λ c. search needs)
-    (λ c. let p = c .before .before .before .before .before .before .before .before .before .before .before .before .before .before .before .before .before .pre in
+    (λ c. let p = c .before .before .before .before .before .before .before .before .before .before .before .before .before .before .before .before .before .pre
+    in
     let y = c .before .before .before .before .before .before .before .edited-sections .ensures in
-    made-by _ _ _ _ _ _ (p .0) (c .before .before .before .before .before .before .before .before .before .before .before .before .before .write-edited .ensures) _ _ _ (rw y at (c .before .before .before .before .before .before .end-of .ensures)) y (c .before .before .before .before .before .before .before .before .before .before .keep-first .ensures)
+    made-by _ _ _ _ _ _ (p .0)
+    (c .before .before .before .before .before .before .before .before .before .before .before .before .before .write-edited .ensures) _ _ _
+    (rw y at (c .before .before .before .before .before .before .end-of .ensures)) y
+    (c .before .before .before .before .before .before .before .before .before .before .keep-first .ensures)
     (c .before .before .before .rewalk .ensures) (c .answer-of .ensures)))

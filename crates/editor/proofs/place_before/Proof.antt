@@ -16,5 +16,6 @@ place-before-spec =
     (tie.spec
     (λ c. before-none _ (c .if1 .taken))
     (λ c. search needs)
-    (λ c κs. place-within (c .before .before .args .store .now) (c .before .before .args .held - 1) (omega (arith, c .before .before .pre, count-within (c .before .before .args .store .now), pos-of-ne-zero (c .if1 .left))))
+    (λ c κs. place-within (c .before .before .args .store .now) (c .before .before .args .held - 1)
+    (omega (arith, c .before .before .pre, count-within (c .before .before .args .store .now), pos-of-ne-zero (c .if1 .left))))
     (λ c. c .position-at .ensures ∙ before-some _ (c .before .if1 .left) (c .before .before .before .pre)))

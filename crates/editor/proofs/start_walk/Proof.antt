@@ -14,9 +14,14 @@ start-walk-spec =
     tie.close
     (tie.spec
     (λ c κs. search needs) (λ c. search needs) (λ c κs. search needs) (λ c. search needs) (λ c κs. search needs)
-    (λ c κs. let f = well-formed _ _ (c .before .before .before .before .before .before .before .before .before .before .pre) in (measured _ _ (f .objects), f .limits .statements))
+    (λ c κs. let f = well-formed _ _ (c .before .before .before .before .before .before .before .before .before .before .pre) in
+    (measured _ _ (f .objects), f .limits .statements))
     (λ c κs. search needs)
-    (λ c. start-layout _ _ _ (c .before .before .before .before .before .before .before .pre) (c .before .before .before .before .read-layout .ensures) (c .before .before .layout .given .1) (c .refuse .ensures))
+    (λ c. start-layout _ _ _ (c .before .before .before .before .before .before .before .pre) (c .before .before .before .before .read-layout .ensures)
+    (c .before .before .layout .given .1) (c .refuse .ensures))
     (λ c. search needs)
-    (λ c. start-walked _ _ _ (c .before .before .before .before .before .before .before .before .before .before .before .before .before .before .pre) (c .before .before .before .before .before .before .before .before .before .before .before .read-layout .ensures) (c .before .before .before .before .before .before .before .before .before .enum-told .given .1) (c .before .before .before .before .before .before .before .keep-first .ensures)
+    (λ c. start-walked _ _ _ (c .before .before .before .before .before .before .before .before .before .before .before .before .before .before .pre)
+    (c .before .before .before .before .before .before .before .before .before .before .before .read-layout .ensures)
+    (c .before .before .before .before .before .before .before .before .before .enum-told .given .1)
+    (c .before .before .before .before .before .before .before .keep-first .ensures)
     (c .before .before .before .rewalk .ensures) (c .answer-of .ensures)))

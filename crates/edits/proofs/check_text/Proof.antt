@@ -28,6 +28,7 @@ check-text-spec =
     (λ c.
     let p = c .before .before .before .before .before .before .before .before .before .pre in
     let l = p .sizes in
-    c .judge-text .ensures ∙ ap₂ (λ (U : List ℤ) (g : Sections). textOf U g (length (now (c .before .before .before .before .before .before .before .before .before .args .text))))
+    c .judge-text .ensures
+    ∙ ap₂ (λ (U : List ℤ) (g : Sections). textOf U g (length (now (c .before .before .before .before .before .before .before .before .before .args .text))))
     (text-made _ _ _ _ _ (c .before .before .before .fill-edited .ensures) (omega arith) (omega (arith, p .few, l .objects, l .variables, l .start, l .rows)))
     (c .before .before .before .before .before .before .before .before .edited-sections .ensures)))

@@ -11,7 +11,8 @@ use Rattle.edits.proofs.fill_edited.Statement.{statement}
 use Rattle.edits.proofs.fill_edited.Tie as tie
 
 abbrev Inv-loop : tie.InvT-loop
-Inv-loop table sections at removed added text first end out₀ i₀ out i = Overwritten (pos 0) out₀ first (i - first) (λ n. editedWord table sections at removed added text (first + n)) out × (first ≤ i) × (i ≤ end)
+Inv-loop table sections at removed added text first end out₀ i₀ out i = Overwritten (pos 0) out₀ first (i - first)
+    (λ n. editedWord table sections at removed added text (first + n)) out × (first ≤ i) × (i ≤ end)
 
 abbrev μ-loop : tie.MeasureT-loop
 μ-loop table sections at removed added text first end out₀ i₀ out i = end - i
@@ -25,8 +26,14 @@ fill-edited-spec =
     (λ c.
     let at = c .before .before .loop in
     let a = c .before .before .before .args in
-    let z : at .i ≡ a .first + (at .i - a .first) = search needs in
-    (over-at (at .inv .0) (at .inv .1) (search needs) (toZ-ofZ {w = w32} {z = c .edited-word .result} (record { sfits = c .edited-word .ok }) ∙ (c .edited-word .ensures ∙ ap (editedWord (a .table .now) (a .sections) (a .at) (a .removed) (a .added) (a .text .now)) z)), search needs, search needs))
+    let z : at .i ≡ a .first + (at .i - a .first) = search needs in (
+      over-at (at .inv .0) (at .inv .1) (search needs)
+          (toZ-ofZ {w = w32} {z = c .edited-word .result} (record { sfits = c .edited-word .ok })
+          ∙ (c .edited-word .ensures ∙ ap (editedWord (a .table .now) (a .sections) (a .at) (a .removed) (a .added) (a .text .now)) z)),
+      search needs,
+      search
+          needs,
+    ))
     (λ c. search needs)
     (λ c.
     let z : c .before .loop .i ≡ c .before .before .args .end = search needs in

@@ -28,7 +28,7 @@ put-text-spec =
     (λ c. search needs) (λ c. search needs)
     (λ c. (
       over-more (c .before .before .loop .inv .0) (omega (arith, c .before .before .before .pre))
-          (toZ-ofZ {w = w32} {z = c .word-or-zero .result} (record { sfits = c .word-or-zero .ok }) ∙ c .word-or-zero .ensures),
+          (toZ-ofZ {w = w32} {z = c .signed-word .result} (record { sfits = c .signed-word .ok }) ∙ c .signed-word .ensures),
       search needs,
     ))
     (λ c. search needs)

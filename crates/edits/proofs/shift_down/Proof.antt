@@ -34,7 +34,8 @@ shift-down-spec =
     let at = c .before .before .loop in
     let a = c .before .before .before .args in (
       over-at (at .inv .0) (at .inv .1) (omega (arith, c .before .before .before .pre .1))
-          (shifted-down (a .by) (at .inv .0) (at .inv .1) (toZ-ofZ {w = w32} {z = getD (at .words) (at .i + a .by) (pos 0)} (record { sfits = c .words .given }))),
+          (shifted-down (a .by) (at .inv .0) (at .inv .1)
+          (toZ-ofZ {w = w32} {z = getD (at .words) (at .i + a .by) (pos 0)} (record { sfits = c .words .given }))),
       search needs,
       search needs,
     ))

@@ -13,15 +13,44 @@ span-spec =
     (λ c κs. search needs) (λ c. search needs) (λ c. search needs)
     (λ c. span-unread _ _ _ (sym (c .before .before .read-statement .ensures) ∙ c .enum-told .given .1))
     (λ c. search needs) (λ c. search needs)
-    (λ c. omega (arith, span-if _ _ _ (sym (c .before .before .before .before .before .before .read-statement .ensures) ∙ c .before .before .before .before .got .given .1 ∙ ap Read (c .before .statement .given .1)) .2))
-    (λ c. omega (arith, span-if _ _ _ (sym (c .before .before .before .before .before .before .read-statement .ensures) ∙ c .before .before .before .before .got .given .1 ∙ ap Read (c .before .statement .given .1)) .2))
+    (λ c. omega (
+      arith,
+      span-if _ _ _
+          (sym (c .before .before .before .before .before .before .read-statement .ensures) ∙ c .before .before .before .before .got .given .1
+          ∙ ap Read (c .before .statement .given .1)) .2,
+    ))
+    (λ c. omega (
+      arith,
+      span-if _ _ _
+          (sym (c .before .before .before .before .before .before .read-statement .ensures) ∙ c .before .before .before .before .got .given .1
+          ∙ ap Read (c .before .statement .given .1)) .2,
+    ))
     (λ c. search needs)
-    (λ c. omega (arith, span-while _ _ _ (sym (c .before .before .before .before .before .before .read-statement .ensures) ∙ c .before .before .before .before .got .given .1 ∙ ap Read (c .before .statement2 .given .1)) .2))
+    (λ c. omega (
+      arith,
+      span-while _ _ _
+          (sym (c .before .before .before .before .before .before .read-statement .ensures) ∙ c .before .before .before .before .got .given .1
+          ∙ ap Read (c .before .statement2 .given .1)) .2,
+    ))
     (λ c. search needs)
-    (λ c. omega (arith, span-bundle _ _ _ (sym (c .before .before .before .before .before .before .read-statement .ensures) ∙ c .before .before .before .before .got .given .1 ∙ ap Read (c .before .statement3 .given .1)) .2))
+    (λ c. omega (
+      arith,
+      span-bundle _ _ _
+          (sym (c .before .before .before .before .before .before .read-statement .ensures) ∙ c .before .before .before .before .got .given .1
+          ∙ ap Read (c .before .statement3 .given .1)) .2,
+    ))
     (λ c. search needs)
-    (λ c. span-plain _ _ _ (sym (c .before .before .before .before .before .read-statement .ensures) ∙ c .before .before .before .got .given .1 ∙ ap Read (c .enum-told2 .given .1)))
-    (λ c. span-if _ _ _ (sym (c .before .before .before .before .before .before .read-statement .ensures) ∙ c .before .before .before .before .got .given .1 ∙ ap Read (c .before .statement .given .1)))
-    (λ c. span-while _ _ _ (sym (c .before .before .before .before .before .before .read-statement .ensures) ∙ c .before .before .before .before .got .given .1 ∙ ap Read (c .before .statement2 .given .1)))
-    (λ c. span-bundle _ _ _ (sym (c .before .before .before .before .before .before .read-statement .ensures) ∙ c .before .before .before .before .got .given .1 ∙ ap Read (c .before .statement3 .given .1)))
-    (λ c. span-call _ _ _ (sym (c .before .before .before .before .before .read-statement .ensures) ∙ c .before .before .before .got .given .1 ∙ ap Read (c .enum-told3 .given .1))))
+    (λ c. span-plain _ _ _
+    (sym (c .before .before .before .before .before .read-statement .ensures) ∙ c .before .before .before .got .given .1
+    ∙ ap Read (c .enum-told2 .given .1)))
+    (λ c. span-if _ _ _ (sym (c .before .before .before .before .before .before .read-statement .ensures) ∙ c .before .before .before .before .got .given .1
+    ∙ ap Read (c .before .statement .given .1)))
+    (λ c. span-while _ _ _
+    (sym (c .before .before .before .before .before .before .read-statement .ensures) ∙ c .before .before .before .before .got .given .1
+    ∙ ap Read (c .before .statement2 .given .1)))
+    (λ c. span-bundle _ _ _
+    (sym (c .before .before .before .before .before .before .read-statement .ensures) ∙ c .before .before .before .before .got .given .1
+    ∙ ap Read (c .before .statement3 .given .1)))
+    (λ c. span-call _ _ _
+    (sym (c .before .before .before .before .before .read-statement .ensures) ∙ c .before .before .before .got .given .1
+    ∙ ap Read (c .enum-told3 .given .1))))

@@ -22,4 +22,5 @@ assume-spec =
     (λ c f. condition-greater _ f _ (c .before .match .keys3) (c .one3 .ensures f))
     (λ c f. condition-not-greater _ f _ (c .before .match .keys4) (c .one4 .ensures f))
     (λ c f. condition-equal _ f _ (c .before .match .keys5) refl (makes-both (c .adding .ensures) f))
-    (λ c f. let m = c .before .before .before .match .rest in condition-differs _ f _ (m .0 .0 .0 .0 .1) (m .0 .0 .0 .1) (m .0 .0 .1) (m .0 .1) (m .1) _ _ (c .before .before .fact-if .ensures) (c .before .fact-if2 .ensures) (makes-both (c .adding2 .ensures) f)))
+    (λ c f. let m = c .before .before .before .match .rest in condition-differs _ f _ (m .0 .0 .0 .0 .1) (m .0 .0 .0 .1) (m .0 .0 .1) (m .0 .1) (m .1) _ _
+    (c .before .before .fact-if .ensures) (c .before .fact-if2 .ensures) (makes-both (c .adding2 .ensures) f)))

@@ -29,7 +29,13 @@ plan-statement-spec =
     (λ c f. simp (c .before .before .simple2 .given .1) (c .add-constant .ensures f))
     (λ c f. simp (c .before .before .simple3 .given .1, c .forget .ensures f))
     (λ c f. simp (c .before .before .simple4 .given .1, c .range2 .ensures f))
-    (λ c f. simp (c .before .before .before .before .simple5 .given .1, c .length-at .ensures, c .before .size-at .ensures, c .before .before .range3 .ensures f))
+    (λ c f. simp (
+      c .before .before .before .before .simple5 .given .1,
+      c .length-at .ensures,
+      c .before .size-at .ensures,
+      c .before .before .range3 .ensures
+          f,
+    ))
     (λ c f. simp (c .before .before .simple6 .given .1) (c .add-offset .ensures f))
     (λ c f. simp (c .before .before .before .simple7 .given .1, c .index-effect .ensures, c .before .range4 .ensures f))
     (λ c f. simp (c .before .before .simple8 .given .1, c .forget2 .ensures f))

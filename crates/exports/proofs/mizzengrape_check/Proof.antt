@@ -11,4 +11,5 @@ mizzengrape-check-spec =
     (λ c. no-room (c .if1 .taken))
     (λ c. search needs)
     (λ c κs. search needs) (λ c κs. search needs) (λ c. search needs)
-    (λ c. checked-words _ (c .before .before .before .before .before .before .if1 .left) (c .before .before .before .before .check .ensures .0) (c .before .before .put-verdict .ensures)))
+    (λ c. checked-words _ (c .before .before .before .before .before .before .if1 .left) (c .before .before .before .before .check .ensures .0)
+    (c .before .before .put-verdict .ensures)))

@@ -10,4 +10,5 @@ mizzengrape-run-with-facts-spec =
     (tie.spec
     (λ c. no-room-to-run (c .if1 .taken))
     (λ c κs. search needs) (λ c κs. search needs) (λ c. search needs) (λ c. search needs) (λ c. search needs)
-    (λ c. ran-words _ (c .before .before .before .before .before .before .before .before .before .before .before .if1 .left) (c .before .before .before .before .before .before .before .before .run .ensures) (c .before .before .put-outcome .ensures)))
+    (λ c. ran-words _ (c .before .before .before .before .before .before .before .before .before .before .before .if1 .left)
+    (c .before .before .before .before .before .before .before .before .run .ensures) (c .before .before .put-outcome .ensures)))

@@ -17,4 +17,5 @@ check-file-spec =
     (λ c. let f = c .before .read-words .ensures .filled in omega (arith, f .within, f .long))
     (λ c. let f = c .before .before .read-words .ensures .filled in simp length-take (omega (arith, f .within, f .long)))
     (λ c. search needs) (λ c κs. search needs)
-    (λ c. file-answered _ _ (c .before .before .before .before .before .before .before .if1 .left) (c .before .before .before .before .before .before .if2 .left) (c .before .before .before .before .read-words .ensures) refl (c .check .ensures .0)))
+    (λ c. file-answered _ _ (c .before .before .before .before .before .before .before .if1 .left)
+    (c .before .before .before .before .before .before .if2 .left) (c .before .before .before .before .read-words .ensures) refl (c .check .ensures .0)))

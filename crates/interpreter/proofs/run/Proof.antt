@@ -17,17 +17,22 @@ run-spec =
     (λ c. search needs)
     (λ c. search needs)
     (λ c κs. (
-      launched-ready (started-launched _ _ _ _ _ (c .before .before .before .before .before .start2 .given .1) (c .before .before .before .before .before .before .before .before .before .prepare .ensures)) 0 .0,
+      launched-ready (started-launched _ _ _ _ _ (c .before .before .before .before .before .start2 .given .1)
+          (c .before .before .before .before .before .before .before .before .before .prepare .ensures)) 0 .0,
       (
         omega arith,
         launched-ready (started-launched _ _ _ _ _
-            (c .before .before .before .before .before .start2 .given .1) (c .before .before .before .before .before .before .before .before .before .prepare .ensures)) _ .1,
+            (c .before .before .before .before .before .start2 .given .1)
+            (c .before .before .before .before .before .before .before .before .before .prepare .ensures)) _ .1,
       ),
     ))
     (λ c. search needs)
     (λ c. search needs)
-    (λ c. run-judged _ _ _ _ _ _ _ _ _ _ (first-refused _ _ _ _ _ (started-refused _ _ _ _ _ _ _ (c .before .start .given .1) (c .before .before .before .before .before .prepare .ensures))))
+    (λ c. run-judged _ _ _ _ _ _ _ _ _ _
+    (first-refused _ _ _ _ _ (started-refused _ _ _ _ _ _ _ (c .before .start .given .1) (c .before .before .before .before .before .prepare .ensures))))
     (λ c. search needs)
     (λ c. search needs)
-    (λ c. run-judged _ _ _ _ _ _ _ _ _ _ (launched-ran (started-launched _ _ _ _ _ (c .before .before .before .before .before .before .before .before .before .before .before .start2 .given .1)
-    (c .before .before .before .before .before .before .before .before .before .before .before .before .before .before .before .prepare .ensures)) _ (c .before .before .before .before .before .resume .ensures))))
+    (λ c. run-judged _ _ _ _ _ _ _ _ _ _
+    (launched-ran (started-launched _ _ _ _ _ (c .before .before .before .before .before .before .before .before .before .before .before .start2 .given .1)
+    (c .before .before .before .before .before .before .before .before .before .before .before .before .before .before .before .prepare .ensures)) _
+    (c .before .before .before .before .before .resume .ensures))))

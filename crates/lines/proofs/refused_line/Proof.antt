@@ -13,9 +13,17 @@ unfolding bytesOf refusedWord
 refused-line-spec =
     tie.close
     (tie.spec (λ c κs. search needs) (λ c κs. search needs) (λ c. search needs) (λ c κs. search needs) (λ c. search needs) (λ c κs. search needs)
-    (λ c κs. let g = grown-both (c .before .before .before .new .ensures) (c .before .push-all .ensures) in omega (arith, within 20 _ (c .push-number .ensures), g .long))
+    (λ c κs. let g = grown-both (c .before .before .before .new .ensures) (c .before .push-all .ensures) in omega
+    (arith, within 20 _ (c .push-number .ensures), g .long))
     (λ c κs. search needs)
-    (λ c κs. omega (arith, c .before .push .ensures .long, within 20 _ (c .before .before .push-number .ensures), c .before .before .before .push-all .ensures .long, c .before .before .before .before .before .new .ensures .long))
+    (λ c κs. omega (
+      arith,
+      c .before .push .ensures .long,
+      within 20 _ (c .before .before .push-number .ensures),
+      c .before .before .before .push-all .ensures
+          .long,
+      c .before .before .before .before .before .new .ensures .long,
+    ))
     (λ c κs. omega (
       arith,
       within 20 _ (c .before .push-number2 .ensures),
@@ -56,10 +64,18 @@ refused-line-spec =
         c .before .before .before .before .before .before .before .before .before .push-all .ensures .long,
         c .before .before .before .before .before .before .before .before .before .before .before .new .ensures .long,
       );
-      text = line-of-eight (c .before .before .before .before .before .before .before .before .before .before .before .before .before .args .r) (c .before .before .before .before .before .before .before .before .before .before .before .before .refusal-number .ensures)
-          (c .before .before .before .before .before .before .refusal-place .ensures) (c .before .before .refusal-pointer .ensures) (c .before .before .before .before .if1 .taken)
-          (grown-both (grown-both (grown-both (grown-both (grown-both (grown-both (grown-both (c .before .before .before .before .before .before .before .before .before .before .before .new .ensures) (c .before .before .before .before .before .before .before .before .before .push-all .ensures))
-          (c .before .before .before .before .before .before .before .before .push-number .ensures)) (c .before .before .before .before .before .before .before .push .ensures)) (c .before .before .before .before .before .push-number2 .ensures)) (c .before .before .before .push2 .ensures))
+      text = line-of-eight (c .before .before .before .before .before .before .before .before .before .before .before .before .before .args .r)
+          (c .before .before .before .before .before .before .before .before .before .before .before .before .refusal-number .ensures)
+          (c .before .before .before .before .before .before .refusal-place .ensures) (c .before .before .refusal-pointer .ensures)
+          (c .before .before .before .before .if1 .taken)
+          (grown-both (grown-both
+          (grown-both (grown-both
+          (grown-both (grown-both
+          (grown-both (c .before .before .before .before .before .before .before .before .before .before .before .new .ensures)
+          (c .before .before .before .before .before .before .before .before .before .push-all .ensures))
+          (c .before .before .before .before .before .before .before .before .push-number .ensures))
+          (c .before .before .before .before .before .before .before .push .ensures)) (c .before .before .before .before .before .push-number2 .ensures))
+          (c .before .before .before .push2 .ensures))
           (c .before .push-number3 .ensures)) (c .push3 .ensures));
     })
     (λ c κs. omega (
@@ -80,7 +96,12 @@ refused-line-spec =
         c .before .before .before .before .before .before .push-all .ensures .long,
         c .before .before .before .before .before .before .before .before .new .ensures .long,
       );
-      text = line-of-other (c .before .before .before .before .before .before .before .before .before .before .args .r) (c .before .before .before .before .before .before .before .before .before .refusal-number .ensures) (c .before .before .before .refusal-place .ensures) (c .before .if1 .left)
-          (grown-both (grown-both (grown-both (grown-both (grown-both (c .before .before .before .before .before .before .before .before .new .ensures) (c .before .before .before .before .before .before .push-all .ensures)) (c .before .before .before .before .before .push-number .ensures))
+      text = line-of-other (c .before .before .before .before .before .before .before .before .before .before .args .r)
+          (c .before .before .before .before .before .before .before .before .before .refusal-number .ensures)
+          (c .before .before .before .refusal-place .ensures) (c .before .if1 .left)
+          (grown-both (grown-both
+          (grown-both (grown-both
+          (grown-both (c .before .before .before .before .before .before .before .before .new .ensures)
+          (c .before .before .before .before .before .before .push-all .ensures)) (c .before .before .before .before .before .push-number .ensures))
           (c .before .before .before .before .push .ensures)) (c .before .before .push-number2 .ensures)) (c .push4 .ensures));
     }))

@@ -16,5 +16,14 @@ verdict-line-spec =
     tie.close
     (tie.spec
     (λ c. search needs) (λ c κs. search needs) (λ c. search needs) (λ c κs. search needs) (λ c. search needs) (λ c κs. search needs)
-    (λ c. record { text = grown-both (c .before .before .new .ensures) (c .push-all .ensures) .text ∙ sym (ap (λ (w : Verdict). lineOf (verdictReads w)) (c .before .before .before .enum-told .given .1)); fits = omega (arith, c .push-all .ensures .long, c .before .before .new .ensures .long) })
-    (λ c. record { text = c .refused-line .ensures .text ∙ sym (ap (λ (w : Verdict). lineOf (verdictReads w)) (c .before .before .v .given .1)); fits = c .refused-line .ensures .fits }))
+    (λ c. record {
+      text = grown-both (c .before .before .new .ensures) (c .push-all .ensures) .text
+          ∙ sym (ap (λ (w : Verdict). lineOf (verdictReads w)) (c .before .before .before .enum-told .given .1));
+      fits = omega
+          (arith, c .push-all .ensures .long, c .before .before .new .ensures .long);
+    })
+    (λ c. record {
+      text = c .refused-line .ensures .text
+          ∙ sym (ap (λ (w : Verdict). lineOf (verdictReads w)) (c .before .before .v .given .1));
+      fits = c .refused-line .ensures .fits;
+    }))

@@ -12,4 +12,11 @@ entry-at-spec =
     (λ c. search needs) (λ c. search needs) (λ c κs. tt) (λ c κs. search needs)
     (λ c. search needs) (λ c. search needs) (λ c κs. tt) (λ c κs. search needs)
     (λ c. search needs) (λ c. search needs) (λ c κs. tt)
-    (λ c. simp (c .word3 .ensures, c .before .index-of2 .ensures, c .before .before .word2 .ensures, c .before .before .before .index-of .ensures, c .before .before .before .before .word .ensures)))
+    (λ c. simp (
+      c .word3 .ensures,
+      c .before .index-of2 .ensures,
+      c .before .before .word2 .ensures,
+      c .before .before .before .index-of .ensures,
+      c .before
+          .before .before .before .word .ensures,
+    )))

@@ -11,5 +11,7 @@ pub scaled-spec : {M : Type 1} → statement M
 scaled-spec =
     tie.close
     (tie.spec
-    (λ c. let a = c .args in let p : a .size * a .value ≤ 8 * (2 ^ 32 - 1) = scale-small (a .size) (a .value) (2 ^ 32 - 1) (c .pre .0) (omega (arith, c .pre .1)) in search needs)
-    (λ c. let a = c .args in let p : a .size * a .value ≤ 8 * (2 ^ 32 - 1) = scale-small (a .size) (a .value) (2 ^ 32 - 1) (c .pre .0) (omega (arith, c .pre .1)) in (refl, omega arith)))
+    (λ c. let a = c .args in let p : a .size * a .value ≤ 8 * (2 ^ 32 - 1) = scale-small (a .size) (a .value) (2 ^ 32 - 1) (c .pre .0)
+    (omega (arith, c .pre .1)) in search needs)
+    (λ c. let a = c .args in let p : a .size * a .value ≤ 8 * (2 ^ 32 - 1) = scale-small (a .size) (a .value) (2 ^ 32 - 1) (c .pre .0)
+    (omega (arith, c .pre .1)) in (refl, omega arith)))

@@ -19,7 +19,12 @@ first-overlap-spec =
     (tie.spec
     Inv-loop μ-loop
     (λ c. clear-none _ _)
-    (λ c κs. (omega (arith, c .loop-test .taken, c .before .before .before .pre .0), c .before .before .before .pre .1 _ (c .loop-test .taken), λ k b. c .before .before .before .pre .1 k (omega (arith, c .loop-test .taken))))
+    (λ c κs. (
+      omega (arith, c .loop-test .taken, c .before .before .before .pre .0),
+      c .before .before .before .pre .1 _
+          (c .loop-test .taken),
+      λ k b. c .before .before .before .pre .1 k (omega (arith, c .loop-test .taken)),
+    ))
     (λ c. clear-found (c .before .before .before .loop .inv) (c .before .before .loop-test .taken) (sym (c .before .overlaps-earlier .ensures) ∙ c .if1 .taken))
     (λ c. omega (arith, c .before .before .loop-test .taken))
     (λ c. omega (arith, c .before .before .loop-test .taken))

@@ -15,5 +15,6 @@ shares-any-spec =
     (λ c κs. search needs)
     (λ c. search needs)
     (λ c κs. search needs)
-    (λ c. is-shared (c .before .before .before .before .before .args .directory .now) (c .before .before .before .before .before .args .other .now) (c .before .before .before .before .before .args .o) (c .before .before .before .before .before .args .count) _ _ _
+    (λ c. is-shared (c .before .before .before .before .before .args .directory .now) (c .before .before .before .before .before .args .other .now)
+    (c .before .before .before .before .before .args .o) (c .before .before .before .before .before .args .count) _ _ _
     (c .before .before .value-at .ensures .0) (c .before .value-at2 .ensures .0) (c .lowest-shared .ensures)))

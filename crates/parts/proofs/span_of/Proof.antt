@@ -14,7 +14,8 @@ span-of-spec =
     (λ c κs. search needs)
     (λ c κs. search needs)
     (λ c. (
-      span-made _ _ _ _ _ _ _ _ _ (c .before .before .before .start-of .ensures .0) (c .before .before .length-of .ensures .0) (c .before .cut .ensures) (c .cut2 .ensures),
+      span-made _ _ _ _ _ _ _ _ _ (c .before .before .before .start-of .ensures .0) (c .before .before .length-of .ensures .0) (c .before .cut .ensures)
+          (c .cut2 .ensures),
       span-within _ _ _ _ _
           (c .before .before .before .start-of .ensures .1) (c .before .cut .ensures) (c .cut2 .ensures),
     )))

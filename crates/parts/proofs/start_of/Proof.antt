@@ -23,5 +23,14 @@ start-of-spec =
     (λ c. omega (arith, c .length-of .ensures .1, c .before .before .loop .inv .1, c .before .before .loop .inv .2, c .before .before .before .before .pre .2))
     (λ c. omega (arith, c .before .before .loop .inv .2, c .before .before .before .before .pre .2))
     (λ c. omega (arith, c .before .before .loop .inv .2))
-    (λ c. (start-more _ _ _ _ _ _ (c .before .before .loop .inv .0) (c .length-of .ensures .0), omega (arith, c .length-of .ensures .1, c .before .before .loop .inv .1), omega (arith, c .before .loop-test .taken)))
-    (λ c. (start-end _ _ _ _ _ _ (c .before .loop .inv .0) (c .before .loop .inv .2) (c .loop-test .left), omega (arith, c .before .loop .inv .1, c .before .loop .inv .2, c .before .before .before .pre .2))))
+    (λ c. (
+      start-more _ _ _ _ _ _ (c .before .before .loop .inv .0) (c .length-of .ensures .0),
+      omega
+          (arith, c .length-of .ensures .1, c .before .before .loop .inv .1),
+      omega (arith, c .before .loop-test .taken),
+    ))
+    (λ c. (
+      start-end _ _ _ _ _ _ (c .before .loop .inv .0) (c .before .loop .inv .2) (c .loop-test .left),
+      omega
+          (arith, c .before .loop .inv .1, c .before .loop .inv .2, c .before .before .before .pre .2),
+    )))

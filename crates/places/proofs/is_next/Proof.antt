@@ -16,7 +16,8 @@ is-next-spec =
     (λ c. search needs)
     (λ c κs.
     let e = c .before .place-count .ensures in
-    place-within (c .before .before .before .args .store .now) (c .before .place-count .result - 1) (omega (arith, count-within (c .before .before .before .args .store .now), e, pos-of-ne-zero (c .if1 .left))))
+    place-within (c .before .before .before .args .store .now) (c .before .place-count .result - 1)
+    (omega (arith, count-within (c .before .before .before .args .store .now), e, pos-of-ne-zero (c .if1 .left))))
     (λ c.
     let e = c .before .before .place-count .ensures in
     rw (c .position-at .ensures) (next-behind _ _ _ (ap (λ (n : ℕ). n - 1) e) (λ z. c .before .if1 .left (e ∙ z)))))

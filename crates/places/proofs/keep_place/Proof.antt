@@ -14,8 +14,24 @@ keep-place-spec =
     (λ c κs. search needs)
     (λ c. left-unnamed _ _ _ _ (sym (c .before .is-named .ensures) ∙ not-true _ (c .if1 .taken)))
     (λ c κs. search needs) (λ c. search needs)
-    (λ c. left-kept _ _ _ _ (sym (c .before .before .before .before .is-named .ensures) ∙ not-false _ (c .before .before .before .if1 .left)) (sym (c .before .is-next .ensures) ∙ not-true _ (c .if2 .taken)))
+    (λ c. left-kept _ _ _ _ (sym (c .before .before .before .before .is-named .ensures) ∙ not-false _ (c .before .before .before .if1 .left))
+    (sym (c .before .is-next .ensures) ∙ not-true _ (c .if2 .taken)))
     (λ c κs. search needs) (λ c κs. search needs) (λ c. search needs)
-    (λ c. left-full _ _ _ _ (sym (c .before .before .before .before .before .before .before .before .before .is-named .ensures) ∙ not-false _ (c .before .before .before .before .before .before .before .before .if1 .left)) (sym (c .before .before .before .before .before .before .is-next .ensures) ∙ not-false _ (c .before .before .before .before .before .if2 .left)) (omega (arith, c .before .before .before .place-count .ensures, c .before .capacity .ensures, c .if3 .taken)))
+    (λ c. left-full _ _ _ _
+    (sym (c .before .before .before .before .before .before .before .before .before .is-named .ensures)
+    ∙ not-false _ (c .before .before .before .before .before .before .before .before .if1 .left))
+    (sym (c .before .before .before .before .before .before .is-next .ensures) ∙ not-false _ (c .before .before .before .before .before .if2 .left))
+    (omega (arith, c .before .before .before .place-count .ensures, c .before .capacity .ensures, c .if3 .taken)))
     (λ c κs. search needs) (λ c. search needs)
-    (λ c. left-more _ _ _ _ (sym (c .before .before .before .before .before .before .before .before .before .before .before .before .before .is-named .ensures) ∙ not-false _ (c .before .before .before .before .before .before .before .before .before .before .before .before .if1 .left)) (sym (c .before .before .before .before .before .before .before .before .before .before .is-next .ensures) ∙ not-false _ (c .before .before .before .before .before .before .before .before .before .if2 .left)) (omega (arith, c .before .before .before .before .before .before .before .place-count .ensures, c .before .before .before .before .before .capacity .ensures, c .before .before .before .before .if3 .left)) (c .before .before .push .ensures)))
+    (λ c. left-more _ _ _ _
+    (sym (c .before .before .before .before .before .before .before .before .before .before .before .before .before .is-named .ensures)
+    ∙ not-false _ (c .before .before .before .before .before .before .before .before .before .before .before .before .if1 .left))
+    (sym (c .before .before .before .before .before .before .before .before .before .before .is-next .ensures)
+    ∙ not-false _ (c .before .before .before .before .before .before .before .before .before .if2 .left))
+    (omega (
+      arith,
+      c .before .before .before .before .before .before .before .place-count .ensures,
+      c .before .before .before .before .before .capacity
+          .ensures,
+      c .before .before .before .before .if3 .left,
+    )) (c .before .before .push .ensures)))

@@ -15,11 +15,59 @@ push-spec =
     (λ c. omega (arith, place-within (c .before .before .before .args .store .now) _ (c .before .before .before .pre), c .place-count .ensures))
     (λ c. omega (arith, place-within (c .before .before .before .args .store .now) _ (c .before .before .before .pre), c .place-count .ensures))
     (λ c. omega (arith, place-within (c .before .before .before .args .store .now) _ (c .before .before .before .pre), c .place-count .ensures))
-    (λ c. omega (arith, place-within (c .before .before .before .before .args .store .now) _ (c .before .before .before .before .pre), c .before .place-count .ensures))
-    (λ c κs. simp length-set (omega (arith, place-within (c .before .before .before .before .args .store .now) _ (c .before .before .before .before .pre), c .before .place-count .ensures)))
-    (λ c. omega (arith, place-within (c .before .before .before .before .before .before .before .before .args .store .now) _ (c .before .before .before .before .before .before .before .before .pre), c .before .before .before .before .before .place-count .ensures))
-    (λ c κs. omega (arith, place-within (c .before .before .before .before .before .before .before .before .args .store .now) _ (c .before .before .before .before .before .before .before .before .pre), c .before .before .before .before .before .place-count .ensures, c .before .before .before .save .ensures .words .long, length-set (c .before .before .before .before .before .before .before .before .args .store .now) (1 + 307 * c .before .before .before .before .before .place-count .result) (c .before .before .before .before .before .before .before .before .args .at)))
-    (λ c. omega (arith, place-within (c .before .before .before .before .before .before .before .before .before .before .before .args .store .now) _ (c .before .before .before .before .before .before .before .before .before .before .before .pre), c .before .before .before .before .before .before .before .before .place-count .ensures))
-    (λ c. omega (arith, place-within (c .before .before .before .before .before .before .before .before .before .before .before .args .store .now) _ (c .before .before .before .before .before .before .before .before .before .before .before .pre), c .before .before .before .before .before .before .before .before .place-count .ensures, c .before .before .before .before .before .before .save .ensures .words .long, c .before .before .save-rows .ensures .words .long, length-set (c .before .before .before .before .before .before .before .before .before .before .before .args .store .now) (1 + 307 * c .before .before .before .before .before .before .before .before .place-count .result) (c .before .before .before .before .before .before .before .before .before .before .before .args .at)))
-    (λ c. (pushed-at _ _ _ _ (c .before .before .before .before .before .before .before .before .place-count .ensures) (c .before .before .before .before .before .before .before .before .before .before .before .pre) (c .before .before .before .before .before .before .save .ensures) (c .before .before .save-rows .ensures)) .long)
-    (λ c. pushed-at _ _ _ _ (c .before .before .before .before .before .before .before .before .place-count .ensures) (c .before .before .before .before .before .before .before .before .before .before .before .pre) (c .before .before .before .before .before .before .save .ensures) (c .before .before .save-rows .ensures)))
+    (λ c. omega (
+      arith,
+      place-within (c .before .before .before .before .args .store .now) _
+          (c .before .before .before .before .pre),
+      c .before .place-count .ensures,
+    ))
+    (λ c κs. simp length-set
+    (omega (
+      arith,
+      place-within (c .before .before .before .before .args .store .now) _
+          (c .before .before .before .before .pre),
+      c .before .place-count .ensures,
+    )))
+    (λ c. omega (
+      arith,
+      place-within (c .before .before .before .before .before .before .before .before .args .store .now) _
+          (c .before .before .before .before .before .before .before .before .pre),
+      c .before .before .before .before .before .place-count .ensures,
+    ))
+    (λ c κs. omega (
+      arith,
+      place-within (c .before .before .before .before .before .before .before .before .args .store .now) _
+          (c .before .before .before .before .before .before .before .before .pre),
+      c .before .before .before .before .before .place-count .ensures,
+      c .before
+          .before .before .save .ensures .words .long,
+      length-set (c .before .before .before .before .before .before .before .before .args .store .now)
+          (1 + 307 * c .before .before .before .before .before .place-count .result)
+          (c .before .before .before .before .before .before .before .before .args .at),
+    ))
+    (λ c. omega (
+      arith,
+      place-within (c .before .before .before .before .before .before .before .before .before .before .before .args .store .now) _
+          (c .before .before .before .before .before .before .before .before .before .before .before .pre),
+      c .before .before .before .before .before .before
+          .before .before .place-count .ensures,
+    ))
+    (λ c. omega (
+      arith,
+      place-within (c .before .before .before .before .before .before .before .before .before .before .before .args .store .now) _
+          (c .before .before .before .before .before .before .before .before .before .before .before .pre),
+      c .before .before .before .before .before .before
+          .before .before .place-count .ensures,
+      c .before .before .before .before .before .before .save .ensures .words .long,
+      c .before .before .save-rows
+          .ensures .words .long,
+      length-set (c .before .before .before .before .before .before .before .before .before .before .before .args .store .now)
+          (1 + 307 * c .before .before .before .before .before .before .before .before .place-count .result)
+          (c .before .before .before .before .before .before .before .before .before .before .before .args .at),
+    ))
+    (λ c. (pushed-at _ _ _ _ (c .before .before .before .before .before .before .before .before .place-count .ensures)
+    (c .before .before .before .before .before .before .before .before .before .before .before .pre)
+    (c .before .before .before .before .before .before .save .ensures) (c .before .before .save-rows .ensures)) .long)
+    (λ c. pushed-at _ _ _ _ (c .before .before .before .before .before .before .before .before .place-count .ensures)
+    (c .before .before .before .before .before .before .before .before .before .before .before .pre)
+    (c .before .before .before .before .before .before .save .ensures) (c .before .before .save-rows .ensures)))

@@ -22,8 +22,22 @@ up-to-spec =
     tie.close
     (tie.spec
     Inv-loop μ-loop (λ c κs. search needs) (λ c. (passed-none _ _, c .place-count .ensures))
-    (λ c κs. place-within (c .before .before .before .before .args .store .now) (c .before .loop .j) (omega (arith, count-within (c .before .before .before .before .args .store .now), c .before .loop .inv .1, c .loop-test .taken)))
-    (λ c. passed-fail _ _ _ (c .before .before .before .loop .inv .0) (c .before .before .loop-test .taken) (lt-leb (positionAt (c .before .before .before .before .before .before .args .store .now) (c .before .before .before .loop .j)) (c .before .before .before .before .before .before .args .p) (omega (arith, c .before .position-at .ensures, c .if1 .taken))) ∙ (ap (lowestFrom (λ i. leb (positionAt (c .before .before .before .before .before .before .args .store .now) i) (c .before .before .before .before .before .before .args .p)) 0) (c .before .before .before .loop .inv .1) ∙ up-to-words _ _))
+    (λ c κs. place-within (c .before .before .before .before .args .store .now) (c .before .loop .j)
+    (omega (arith, count-within (c .before .before .before .before .args .store .now), c .before .loop .inv .1, c .loop-test .taken)))
+    (λ c. passed-fail _ _ _ (c .before .before .before .loop .inv .0) (c .before .before .loop-test .taken)
+    (lt-leb (positionAt (c .before .before .before .before .before .before .args .store .now) (c .before .before .before .loop .j))
+    (c .before .before .before .before .before .before .args .p) (omega (arith, c .before .position-at .ensures, c .if1 .taken)))
+    ∙ (ap (lowestFrom
+    (λ i. leb (positionAt (c .before .before .before .before .before .before .args .store .now) i)
+    (c .before .before .before .before .before .before .args .p)) 0) (c .before .before .before .loop .inv .1) ∙ up-to-words _ _))
     (λ c. search needs) (λ c. search needs)
-    (λ c. (passed-more _ _ _ (c .before .before .before .loop .inv .0) (c .before .before .loop-test .taken) (le-leb (positionAt (c .before .before .before .before .before .before .args .store .now) (c .before .before .before .loop .j)) (c .before .before .before .before .before .before .args .p) (omega (arith, c .before .position-at .ensures, c .if1 .left))), c .before .before .before .loop .inv .1))
-    (λ c. passed-all _ _ _ (c .before .loop .inv .0) (c .loop-test .left) ∙ (ap (lowestFrom (λ i. leb (positionAt (c .before .before .before .before .args .store .now) i) (c .before .before .before .before .args .p)) 0) (c .before .loop .inv .1) ∙ up-to-words _ _)))
+    (λ c. (
+      passed-more _ _ _ (c .before .before .before .loop .inv .0) (c .before .before .loop-test .taken)
+          (le-leb (positionAt (c .before .before .before .before .before .before .args .store .now) (c .before .before .before .loop .j))
+          (c .before .before .before .before .before .before .args .p) (omega (arith, c .before .position-at .ensures, c .if1 .left))),
+      c .before .before .before
+          .loop .inv .1,
+    ))
+    (λ c. passed-all _ _ _ (c .before .loop .inv .0) (c .loop-test .left)
+    ∙ (ap (lowestFrom (λ i. leb (positionAt (c .before .before .before .before .args .store .now) i) (c .before .before .before .before .args .p)) 0)
+    (c .before .loop .inv .1) ∙ up-to-words _ _)))

@@ -12,4 +12,5 @@ begun-to-spec =
     (λ c. begun-past _ _ (c .before .before .before .before .verdict .given .1) (c .before .before .refusal-place .ensures) (c .if1 .taken))
     (λ c κs. search needs)
     (λ c. omega (arith, c .span .ensures .2, c .before .if1 .left, c .before .before .before .before .before .before .before .pre))
-    (λ c. begun-at _ _ (c .before .before .before .before .before .verdict .given .1) (c .before .before .before .refusal-place .ensures) (c .before .if1 .left) (c .span .ensures .0)))
+    (λ c. begun-at _ _ (c .before .before .before .before .before .verdict .given .1) (c .before .before .before .refusal-place .ensures) (c .before .if1 .left)
+    (c .span .ensures .0)))

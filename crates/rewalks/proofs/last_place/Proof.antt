@@ -18,7 +18,22 @@ last-place-spec =
     tie.close
     (tie.spec
     (λ c κs. search needs) (λ c κs. search needs) returns (λ c. search needs)
-    (λ c κs. place-within (c .before .before .before .args .store .now) (c .before .place-count .result - 1) (omega (arith, count-within (c .before .before .before .args .store .now), c .before .place-count .ensures, pos-of-ne-zero (c .if1 .left))))
-    (λ c κs. place-within (c .before .before .before .before .args .store .now) (c .before .before .place-count .result - 1) (omega (arith, count-within (c .before .before .before .before .args .store .now), c .before .before .place-count .ensures, pos-of-ne-zero (c .before .if1 .left))))
-    (λ c κs. place-within (c .before .before .before .before .before .args .store .now) (c .before .before .before .place-count .result - 1) (omega (arith, count-within (c .before .before .before .before .before .args .store .now), c .before .before .before .place-count .ensures, pos-of-ne-zero (c .before .before .if1 .left))))
-    (λ c. begins-last _ (c .before .before .before .before .place-count .ensures) (c .before .before .before .if1 .left) (c .before .before .position-at .ensures) (c .before .facts-at .ensures) (c .rows-at .ensures)))
+    (λ c κs. place-within (c .before .before .before .args .store .now) (c .before .place-count .result - 1)
+    (omega (arith, count-within (c .before .before .before .args .store .now), c .before .place-count .ensures, pos-of-ne-zero (c .if1 .left))))
+    (λ c κs. place-within (c .before .before .before .before .args .store .now) (c .before .before .place-count .result - 1)
+    (omega (
+      arith,
+      count-within (c .before .before .before .before .args .store .now),
+      c .before .before .place-count .ensures,
+      pos-of-ne-zero
+          (c .before .if1 .left),
+    )))
+    (λ c κs. place-within (c .before .before .before .before .before .args .store .now) (c .before .before .before .place-count .result - 1)
+    (omega (
+      arith,
+      count-within (c .before .before .before .before .before .args .store .now),
+      c .before .before .before .place-count .ensures,
+      pos-of-ne-zero (c .before .before .if1 .left),
+    )))
+    (λ c. begins-last _ (c .before .before .before .before .place-count .ensures) (c .before .before .before .if1 .left)
+    (c .before .before .position-at .ensures) (c .before .facts-at .ensures) (c .rows-at .ensures)))

@@ -15,21 +15,169 @@ pub run-set-spec : {M : Type 1} → statement M
 run-set-spec =
     tie.close
     (tie.spec
-    (λ c. no-ends (tablesIn (now (c .before .before .before .before .before .before .before .before .args .tables)) (now (c .before .before .before .before .before .before .before .before .args .lengths))) (lends (now (c .before .before .before .before .before .before .before .before .args .directory)) (now (c .before .before .before .before .before .before .before .before .args .cells)) (now (c .before .before .before .before .before .before .before .before .args .values)) (now (c .before .before .before .before .before .before .before .before .args .origins))) (c .before .before .before .before .before .before .before .before .args .limit) (length (now (c .before .before .before .before .before .before .before .before .args .member))) (length (now (c .before .before .before .before .before .before .before .before .args .ends))) (length (now (c .before .before .before .before .before .before .before .before .args .successors))) (c .if1 .taken))
-    (λ c. no-successors (tablesIn (now (c .before .before .before .before .before .before .before .before .before .args .tables)) (now (c .before .before .before .before .before .before .before .before .before .args .lengths))) (lends (now (c .before .before .before .before .before .before .before .before .before .args .directory)) (now (c .before .before .before .before .before .before .before .before .before .args .cells)) (now (c .before .before .before .before .before .before .before .before .before .args .values)) (now (c .before .before .before .before .before .before .before .before .before .args .origins))) (c .before .before .before .before .before .before .before .before .before .args .limit) (length (now (c .before .before .before .before .before .before .before .before .before .args .member))) (length (now (c .before .before .before .before .before .before .before .before .before .args .ends))) (length (now (c .before .before .before .before .before .before .before .before .before .args .successors))) (c .if2 .taken))
+    (λ c. no-ends (tablesIn (now (c .before .before .before .before .before .before .before .before .args .tables))
+    (now (c .before .before .before .before .before .before .before .before .args .lengths)))
+    (lends (now (c .before .before .before .before .before .before .before .before .args .directory))
+    (now (c .before .before .before .before .before .before .before .before .args .cells))
+    (now (c .before .before .before .before .before .before .before .before .args .values))
+    (now (c .before .before .before .before .before .before .before .before .args .origins)))
+    (c .before .before .before .before .before .before .before .before .args .limit)
+    (length (now (c .before .before .before .before .before .before .before .before .args .member)))
+    (length (now (c .before .before .before .before .before .before .before .before .args .ends)))
+    (length (now (c .before .before .before .before .before .before .before .before .args .successors))) (c .if1 .taken))
+    (λ c. no-successors (tablesIn (now (c .before .before .before .before .before .before .before .before .before .args .tables))
+    (now (c .before .before .before .before .before .before .before .before .before .args .lengths)))
+    (lends (now (c .before .before .before .before .before .before .before .before .before .args .directory))
+    (now (c .before .before .before .before .before .before .before .before .before .args .cells))
+    (now (c .before .before .before .before .before .before .before .before .before .args .values))
+    (now (c .before .before .before .before .before .before .before .before .before .args .origins)))
+    (c .before .before .before .before .before .before .before .before .before .args .limit)
+    (length (now (c .before .before .before .before .before .before .before .before .before .args .member)))
+    (length (now (c .before .before .before .before .before .before .before .before .before .args .ends)))
+    (length (now (c .before .before .before .before .before .before .before .before .before .args .successors))) (c .if2 .taken))
     (λ c κs. search needs) (λ c. search needs) (λ c. search needs) (λ c. search needs)
-    (λ c. no-member (tablesIn (now (c .before .before .before .before .before .before .before .before .before .before .before .before .before .before .args .tables)) (now (c .before .before .before .before .before .before .before .before .before .before .before .before .before .before .args .lengths))) (lends (now (c .before .before .before .before .before .before .before .before .before .before .before .before .before .before .args .directory)) (now (c .before .before .before .before .before .before .before .before .before .before .before .before .before .before .args .cells)) (now (c .before .before .before .before .before .before .before .before .before .before .before .before .before .before .args .values)) (now (c .before .before .before .before .before .before .before .before .before .before .before .before .before .before .args .origins))) (c .before .before .before .before .before .before .before .before .before .before .before .before .before .before .args .limit) (length (now (c .before .before .before .before .before .before .before .before .before .before .before .before .before .before .args .member))) (length (now (c .before .before .before .before .before .before .before .before .before .before .before .before .before .before .args .ends))) (length (now (c .before .before .before .before .before .before .before .before .before .before .before .before .before .before .args .successors))) (c .before .before .before .before .before .before .if1 .left) (c .before .before .before .before .before .if2 .left) (c .before .before .before .check-set .ensures) (c .enum-told .given .1))
+    (λ c. no-member (tablesIn
+    (now (c .before .before .before .before .before .before .before .before .before .before .before .before .before .before .args .tables))
+    (now (c .before .before .before .before .before .before .before .before .before .before .before .before .before .before .args .lengths)))
+    (lends (now (c .before .before .before .before .before .before .before .before .before .before .before .before .before .before .args .directory))
+    (now (c .before .before .before .before .before .before .before .before .before .before .before .before .before .before .args .cells))
+    (now (c .before .before .before .before .before .before .before .before .before .before .before .before .before .before .args .values))
+    (now (c .before .before .before .before .before .before .before .before .before .before .before .before .before .before .args .origins)))
+    (c .before .before .before .before .before .before .before .before .before .before .before .before .before .before .args .limit)
+    (length (now (c .before .before .before .before .before .before .before .before .before .before .before .before .before .before .args .member)))
+    (length (now (c .before .before .before .before .before .before .before .before .before .before .before .before .before .before .args .ends)))
+    (length (now (c .before .before .before .before .before .before .before .before .before .before .before .before .before .before .args .successors)))
+    (c .before .before .before .before .before .before .if1 .left) (c .before .before .before .before .before .if2 .left)
+    (c .before .before .before .check-set .ensures) (c .enum-told .given .1))
     (λ c. search needs) (λ c. search needs) (λ c. search needs)
-    (λ c. taken-all 4096 (now (c .before .before .before .before .before .before .before .before .before .before .before .before .before .before .before .before .before .before .before .before .before .args .ends)) (c .before .before .before .before .before .before .before .before .before .before .before .before .before .if1 .left))
+    (λ c. taken-all 4096 (now
+    (c .before .before .before .before .before .before .before .before .before .before .before .before .before .before .before .before .before .before
+    .before .before .before .args .ends))
+    (c .before .before .before .before .before .before .before .before .before .before .before .before .before .if1 .left))
     (λ c. search needs)
-    (λ c. taken-all 16384 (now (c .before .before .before .before .before .before .before .before .before .before .before .before .before .before .before .before .before .before .before .before .before .before .args .successors)) (c .before .before .before .before .before .before .before .before .before .before .before .before .before .if2 .left))
+    (λ c. taken-all 16384
+    (now (c .before .before .before .before .before .before .before .before .before .before .before .before .before .before .before .before .before .before
+    .before .before .before .before .args .successors))
+    (c .before .before .before .before .before .before .before .before .before .before .before .before .before .if2 .left))
     (λ c κs. (
-      set-accepted (tablesIn (now (c .before .before .before .before .before .before .before .before .before .before .before .before .before .before .before .before .before .before .before .before .before .before .args .tables)) (now (c .before .before .before .before .before .before .before .before .before .before .before .before .before .before .before .before .before .before .before .before .before .before .args .lengths))) (lends (now (c .before .before .before .before .before .before .before .before .before .before .before .before .before .before .before .before .before .before .before .before .before .before .args .directory)) (now (c .before .before .before .before .before .before .before .before .before .before .before .before .before .before .before .before .before .before .before .before .before .before .args .cells)) (now (c .before .before .before .before .before .before .before .before .before .before .before .before .before .before .before .before .before .before .before .before .before .before .args .values)) (now (c .before .before .before .before .before .before .before .before .before .before .before .before .before .before .before .before .before .before .before .before .before .before .args .origins))) (c .before .before .before .before .before .before .before .before .before .before .before .before .before .before .before .before .before .before .before .before .before .before .args .limit) (length (now (c .before .before .before .before .before .before .before .before .before .before .before .before .before .before .before .before .before .before .before .before .before .before .args .member))) (length (now (c .before .before .before .before .before .before .before .before .before .before .before .before .before .before .before .before .before .before .before .before .before .before .args .ends))) (length (now (c .before .before .before .before .before .before .before .before .before .before .before .before .before .before .before .before .before .before .before .before .before .before .args .successors))) (c .before .before .before .before .before .before .before .before .before .before .before .before .before .before .if1 .left) (c .before .before .before .before .before .before .before .before .before .before .before .before .before .if2 .left) (c .before .before .before .before .before .before .before .before .before .before .before .check-set .ensures) (c .before .before .before .before .before .before .before .before .checked .given .1) (c .before .before .before .before .before .enum-told2 .given .1),
-      omega (arith, member-enough (tablesIn (now (c .before .before .before .before .before .before .before .before .before .before .before .before .before .before .before .before .before .before .before .before .before .before .args .tables)) (now (c .before .before .before .before .before .before .before .before .before .before .before .before .before .before .before .before .before .before .before .before .before .before .args .lengths))) (lends (now (c .before .before .before .before .before .before .before .before .before .before .before .before .before .before .before .before .before .before .before .before .before .before .args .directory)) (now (c .before .before .before .before .before .before .before .before .before .before .before .before .before .before .before .before .before .before .before .before .before .before .args .cells)) (now (c .before .before .before .before .before .before .before .before .before .before .before .before .before .before .before .before .before .before .before .before .before .before .args .values)) (now (c .before .before .before .before .before .before .before .before .before .before .before .before .before .before .before .before .before .before .before .before .before .before .args .origins))) (c .before .before .before .before .before .before .before .before .before .before .before .before .before .before .before .before .before .before .before .before .before .before .args .limit) (length (now (c .before .before .before .before .before .before .before .before .before .before .before .before .before .before .before .before .before .before .before .before .before .before .args .member))) (length (now (c .before .before .before .before .before .before .before .before .before .before .before .before .before .before .before .before .before .before .before .before .before .before .args .ends))) (length (now (c .before .before .before .before .before .before .before .before .before .before .before .before .before .before .before .before .before .before .before .before .before .before .args .successors))) (c .before .before .before .before .before .before .before .before .before .before .before .before .before .before .if1 .left) (c .before .before .before .before .before .before .before .before .before .before .before .before .before .if2 .left) (c .before .before .before .before .before .before .before .before .before .before .before .check-set .ensures) (c .before .before .before .before .before .before .before .before .checked .given .1), c .before .before .before .before .before .before .before .before .before .before .before .check-set .kept .1 .1 .0),
-      sym (taken-all 4096 (now (c .before .before .before .before .before .before .before .before .before .before .before .before .before .before .before .before .before .before .before .before .before .before .args .ends)) (c .before .before .before .before .before .before .before .before .before .before .before .before .before .before .if1 .left)),
-      sym (taken-all 16384 (now (c .before .before .before .before .before .before .before .before .before .before .before .before .before .before .before .before .before .before .before .before .before .before .args .successors)) (c .before .before .before .before .before .before .before .before .before .before .before .before .before .if2 .left)),
+      set-accepted (tablesIn
+          (now (c .before .before .before .before .before .before .before .before .before .before .before .before .before .before .before .before .before
+          .before .before .before .before .before .args .tables))
+          (now (c .before .before .before .before .before .before .before .before .before .before .before .before .before .before .before .before .before
+          .before .before .before .before .before .args .lengths)))
+          (lends (now (c .before .before .before .before .before .before .before .before .before .before .before .before .before .before .before .before .before
+          .before .before .before .before .before .args .directory))
+          (now (c .before .before .before .before .before .before .before .before .before .before .before .before .before .before .before .before .before
+          .before .before .before .before .before .args .cells))
+          (now (c .before .before .before .before .before .before .before .before .before .before .before .before .before .before .before .before .before
+          .before .before .before .before .before .args .values))
+          (now (c .before .before .before .before .before .before .before .before .before .before .before .before .before .before .before .before .before
+          .before .before .before .before .before .args .origins)))
+          (c .before .before .before .before .before .before .before .before .before .before .before .before .before .before .before .before .before .before
+          .before .before .before .before .args .limit)
+          (length (now (c .before .before .before .before .before .before .before .before .before .before .before .before .before .before .before .before
+          .before .before .before .before .before .before .args .member)))
+          (length (now (c .before .before .before .before .before .before .before .before .before .before .before .before .before .before .before .before
+          .before .before .before .before .before .before .args .ends)))
+          (length (now (c .before .before .before .before .before .before .before .before .before .before .before .before .before .before .before .before
+          .before .before .before .before .before .before .args .successors)))
+          (c .before .before .before .before .before .before .before .before .before .before .before .before .before .before .if1 .left)
+          (c .before .before .before .before .before .before .before .before .before .before .before .before .before .if2 .left)
+          (c .before .before .before .before .before .before .before .before .before .before .before .check-set .ensures)
+          (c .before .before .before .before .before .before .before .before .checked .given .1)
+          (c .before .before .before .before .before .enum-told2 .given .1),
+      omega (
+        arith,
+        member-enough
+            (tablesIn (now (c .before .before .before .before .before .before .before .before .before .before .before .before .before .before .before .before
+            .before .before .before .before .before .before .args .tables))
+            (now (c .before .before .before .before .before .before .before .before .before .before .before .before .before .before .before .before .before
+            .before .before .before .before .before .args .lengths)))
+            (lends (now (c .before .before .before .before .before .before .before .before .before .before .before .before .before .before .before .before .before
+            .before .before .before .before .before .args .directory))
+            (now (c .before .before .before .before .before .before .before .before .before .before .before .before .before .before .before .before .before
+            .before .before .before .before .before .args .cells))
+            (now (c .before .before .before .before .before .before .before .before .before .before .before .before .before .before .before .before .before
+            .before .before .before .before .before .args .values))
+            (now (c .before .before .before .before .before .before .before .before .before .before .before .before .before .before .before .before .before
+            .before .before .before .before .before .args .origins)))
+            (c .before .before .before .before .before .before .before .before .before .before .before .before .before .before .before .before .before .before
+            .before .before .before .before .args .limit)
+            (length (now (c .before .before .before .before .before .before .before .before .before .before .before .before .before .before .before .before
+            .before .before .before .before .before .before .args .member)))
+            (length (now (c .before .before .before .before .before .before .before .before .before .before .before .before .before .before .before .before
+            .before .before .before .before .before .before .args .ends)))
+            (length (now (c .before .before .before .before .before .before .before .before .before .before .before .before .before .before .before .before
+            .before .before .before .before .before .before .args .successors)))
+            (c .before .before .before .before .before .before .before .before .before .before .before .before .before .before .if1 .left)
+            (c .before .before .before .before .before .before .before .before .before .before .before .before .before .if2 .left)
+            (c .before .before .before .before .before .before .before .before .before .before .before .check-set .ensures)
+            (c .before .before .before .before .before .before .before .before .checked .given .1),
+        c .before .before .before .before .before .before .before
+            .before .before .before .before .check-set .kept .1 .1 .0,
+      ),
+      sym (taken-all 4096 (now
+          (c .before .before .before .before .before .before .before .before .before .before .before .before .before .before .before .before .before .before
+          .before .before .before .before .args .ends))
+          (c .before .before .before .before .before .before .before .before .before .before .before .before .before .before .if1 .left)),
+      sym (taken-all 16384 (now
+          (c .before .before .before .before .before .before .before .before .before .before .before .before .before .before .before .before .before .before
+          .before .before .before .before .args .successors))
+          (c .before .before .before .before .before .before .before .before .before .before .before .before .before .if2 .left)),
     ))
     (λ c. search needs)
-    (λ c. ran-refused (tablesIn (now (c .before .before .before .before .before .before .before .before .before .before .before .before .before .before .before .before .before .before .args .tables)) (now (c .before .before .before .before .before .before .before .before .before .before .before .before .before .before .before .before .before .before .args .lengths))) (lends (now (c .before .before .before .before .before .before .before .before .before .before .before .before .before .before .before .before .before .before .args .directory)) (now (c .before .before .before .before .before .before .before .before .before .before .before .before .before .before .before .before .before .before .args .cells)) (now (c .before .before .before .before .before .before .before .before .before .before .before .before .before .before .before .before .before .before .args .values)) (now (c .before .before .before .before .before .before .before .before .before .before .before .before .before .before .before .before .before .before .args .origins))) (c .before .before .before .before .before .before .before .before .before .before .before .before .before .before .before .before .before .before .args .limit) (length (now (c .before .before .before .before .before .before .before .before .before .before .before .before .before .before .before .before .before .before .args .member))) (length (now (c .before .before .before .before .before .before .before .before .before .before .before .before .before .before .before .before .before .before .args .ends))) (length (now (c .before .before .before .before .before .before .before .before .before .before .before .before .before .before .before .before .before .before .args .successors))) (c .before .before .before .before .before .before .before .before .before .before .if1 .left) (c .before .before .before .before .before .before .before .before .before .if2 .left) (c .before .before .before .before .before .before .before .check-set .ensures) (c .before .before .before .before .checked .given .1) (c .before .verdict .given .1))
+    (λ c. ran-refused (tablesIn
+    (now (c .before .before .before .before .before .before .before .before .before .before .before .before .before .before .before .before .before .before
+    .args .tables)) (now
+    (c .before .before .before .before .before .before .before .before .before .before .before .before .before .before .before .before .before .before .args
+    .lengths))) (lends
+    (now (c .before .before .before .before .before .before .before .before .before .before .before .before .before .before .before .before .before .before
+    .args .directory))
+    (now (c .before .before .before .before .before .before .before .before .before .before .before .before .before .before .before .before .before .before
+    .args .cells)) (now
+    (c .before .before .before .before .before .before .before .before .before .before .before .before .before .before .before .before .before .before .args
+    .values)) (now (c .before .before .before .before .before .before .before .before .before .before .before .before .before .before .before .before
+    .before .before .args .origins)))
+    (c .before .before .before .before .before .before .before .before .before .before .before .before .before .before .before .before .before .before .args
+    .limit) (length (now
+    (c .before .before .before .before .before .before .before .before .before .before .before .before .before .before .before .before .before .before .args
+    .member))) (length
+    (now (c .before .before .before .before .before .before .before .before .before .before .before .before .before .before .before .before .before .before
+    .args .ends))) (length
+    (now (c .before .before .before .before .before .before .before .before .before .before .before .before .before .before .before .before .before .before
+    .args .successors))) (c .before .before .before .before .before .before .before .before .before .before .if1 .left)
+    (c .before .before .before .before .before .before .before .before .before .if2 .left)
+    (c .before .before .before .before .before .before .before .check-set .ensures) (c .before .before .before .before .checked .given .1)
+    (c .before .verdict .given .1))
     (λ c. search needs) (λ c. search needs) (λ c. search needs) (λ c. search needs) (λ c. search needs)
-    (λ c. ran-accepted (tablesIn (now (c .before .before .before .before .before .before .before .before .before .before .before .before .before .before .before .before .before .before .before .before .before .before .before .before .before .before .before .before .before .before .before .before .args .tables)) (now (c .before .before .before .before .before .before .before .before .before .before .before .before .before .before .before .before .before .before .before .before .before .before .before .before .before .before .before .before .before .before .before .before .args .lengths))) (lends (now (c .before .before .before .before .before .before .before .before .before .before .before .before .before .before .before .before .before .before .before .before .before .before .before .before .before .before .before .before .before .before .before .before .args .directory)) (now (c .before .before .before .before .before .before .before .before .before .before .before .before .before .before .before .before .before .before .before .before .before .before .before .before .before .before .before .before .before .before .before .before .args .cells)) (now (c .before .before .before .before .before .before .before .before .before .before .before .before .before .before .before .before .before .before .before .before .before .before .before .before .before .before .before .before .before .before .before .before .args .values)) (now (c .before .before .before .before .before .before .before .before .before .before .before .before .before .before .before .before .before .before .before .before .before .before .before .before .before .before .before .before .before .before .before .before .args .origins))) (c .before .before .before .before .before .before .before .before .before .before .before .before .before .before .before .before .before .before .before .before .before .before .before .before .before .before .before .before .before .before .before .before .args .limit) (length (now (c .before .before .before .before .before .before .before .before .before .before .before .before .before .before .before .before .before .before .before .before .before .before .before .before .before .before .before .before .before .before .before .before .args .member))) (length (now (c .before .before .before .before .before .before .before .before .before .before .before .before .before .before .before .before .before .before .before .before .before .before .before .before .before .before .before .before .before .before .before .before .args .ends))) (length (now (c .before .before .before .before .before .before .before .before .before .before .before .before .before .before .before .before .before .before .before .before .before .before .before .before .before .before .before .before .before .before .before .before .args .successors))) (c .before .before .before .before .before .before .before .before .before .before .before .before .before .before .before .before .before .before .before .before .before .before .before .before .if1 .left) (c .before .before .before .before .before .before .before .before .before .before .before .before .before .before .before .before .before .before .before .before .before .before .before .if2 .left) (c .before .before .before .before .before .before .before .before .before .before .before .before .before .before .before .before .before .before .before .before .before .check-set .ensures) (c .before .before .before .before .before .before .before .before .before .before .before .before .before .before .before .before .before .before .checked .given .1) (c .before .before .before .before .before .before .before .before .before .before .before .before .before .before .before .enum-told2 .given .1) (c .before .before .before .before .before .before .before .before .before .run-accepted .ensures)))
+    (λ c. ran-accepted (tablesIn
+    (now (c .before .before .before .before .before .before .before .before .before .before .before .before .before .before .before .before .before .before
+    .before .before .before .before .before .before .before .before .before .before .before .before .before .before .args .tables))
+    (now (c .before .before .before .before .before .before .before .before .before .before .before .before .before .before .before .before .before .before
+    .before .before .before .before .before .before .before .before .before .before .before .before .before .before .args .lengths)))
+    (lends (now (c .before .before .before .before .before .before .before .before .before .before .before .before .before .before .before .before .before
+    .before .before .before .before .before .before .before .before .before .before .before .before .before .before .before .args .directory))
+    (now (c .before .before .before .before .before .before .before .before .before .before .before .before .before .before .before .before .before .before
+    .before .before .before .before .before .before .before .before .before .before .before .before .before .before .args .cells))
+    (now (c .before .before .before .before .before .before .before .before .before .before .before .before .before .before .before .before .before .before
+    .before .before .before .before .before .before .before .before .before .before .before .before .before .before .args .values))
+    (now (c .before .before .before .before .before .before .before .before .before .before .before .before .before .before .before .before .before .before
+    .before .before .before .before .before .before .before .before .before .before .before .before .before .before .args .origins)))
+    (c .before .before .before .before .before .before .before .before .before .before .before .before .before .before .before .before .before .before
+    .before .before .before .before .before .before .before .before .before .before .before .before .before .before .args .limit)
+    (length (now (c .before .before .before .before .before .before .before .before .before .before .before .before .before .before .before .before .before
+    .before .before .before .before .before .before .before .before .before .before .before .before .before .before .before .args .member)))
+    (length (now (c .before .before .before .before .before .before .before .before .before .before .before .before .before .before .before .before .before
+    .before .before .before .before .before .before .before .before .before .before .before .before .before .before .before .args .ends)))
+    (length (now (c .before .before .before .before .before .before .before .before .before .before .before .before .before .before .before .before .before
+    .before .before .before .before .before .before .before .before .before .before .before .before .before .before .before .args .successors)))
+    (c .before .before .before .before .before .before .before .before .before .before .before .before .before .before .before .before .before .before
+    .before .before .before .before .before .before .if1 .left)
+    (c .before .before .before .before .before .before .before .before .before .before .before .before .before .before .before .before .before .before
+    .before .before .before .before .before .if2 .left)
+    (c .before .before .before .before .before .before .before .before .before .before .before .before .before .before .before .before .before .before
+    .before .before .before .check-set .ensures)
+    (c .before .before .before .before .before .before .before .before .before .before .before .before .before .before .before .before .before .before
+    .checked .given .1)
+    (c .before .before .before .before .before .before .before .before .before .before .before .before .before .before .before .enum-told2 .given .1)
+    (c .before .before .before .before .before .before .before .before .before .run-accepted .ensures)))

@@ -13,19 +13,25 @@ check-numbered-spec =
     (tie.spec
     (λ c κs. let p = c .before .pre in (omega arith, omega arith, omega (arith, p .0, p .1)))
     (λ c. search needs) (λ c. search needs) (λ c. search needs) (λ c. search needs) (λ c. search needs) (λ c κs. search needs)
-    (λ c. (judged-first _ _ _ (c .before .before .before .before .before .before .pre .0) (c .before .before .before .before .span-of .ensures .0) (c .before .before .before .if1 .taken) (c .check-routine .ensures), refl))
+    (λ c. (
+      judged-first _ _ _ (c .before .before .before .before .before .before .pre .0) (c .before .before .before .before .span-of .ensures .0)
+          (c .before .before .before .if1 .taken) (c .check-routine .ensures),
+      refl,
+    ))
     (λ c κs. (omega arith, omega arith, omega arith))
     (λ c. search needs) (λ c. search needs) (λ c. search needs) (λ c. search needs)
     (λ c. search needs) (λ c. search needs) (λ c. search needs) (λ c. search needs)
     (λ c. sym (lengths-taken _ _ (omega (arith, c .before .before .before .before .before .before .before .pre .0))))
     (λ c κs. let p = c .before .before .before .before .before .before .before .before .pre in (
-      first-right _ _ _ (p .0) (c .before .before .before .before .before .before .span-of .ensures .0) (p .1) (p .3) (c .before .before .before .before .before .if1 .left)
+      first-right _ _ _ (p .0) (c .before .before .before .before .before .before .span-of .ensures .0) (p .1) (p .3)
+          (c .before .before .before .before .before .if1 .left)
           (c .before .before .before .before .span-of2 .ensures .0),
       p .2,
     ))
     (λ c. c .before .check-later .ensures .1)
     (λ c. let p = c .before .before .before .before .before .before .before .before .before .before .pre in (
-      judged-later _ _ _ (p .0) (c .before .before .before .before .before .before .before .before .span-of .ensures .0) (p .1) (p .3) (c .before .before .before .before .before .before .before .if1 .left) (c .before .before .before .before .before .before .span-of2 .ensures .0)
+      judged-later _ _ _ (p .0) (c .before .before .before .before .before .before .before .before .span-of .ensures .0) (p .1) (p .3)
+          (c .before .before .before .before .before .before .before .if1 .left) (c .before .before .before .before .before .before .span-of2 .ensures .0)
           (c .before .check-later .ensures .0),
       c .before .check-later .ensures .1,
     )))

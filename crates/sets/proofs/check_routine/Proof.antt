@@ -12,4 +12,5 @@ check-routine-spec =
     (λ c κs. search needs) (λ c. search needs) (λ c. search needs) (λ c. search needs)
     (λ c κs. form-formed _ (c .before .before .before .before .read-form .ensures) (c .before .before .form2 .given .1))
     (λ c. routine-refused _ (c .before .before .before .read-form .ensures) _ (c .before .form .given .1))
-    (λ c. routine-checked _ (c .before .before .before .before .before .read-form .ensures) _ (c .before .before .before .form2 .given .1) (c .check-sections .ensures .verdict)))
+    (λ c. routine-checked _ (c .before .before .before .before .before .read-form .ensures) _ (c .before .before .before .form2 .given .1)
+    (c .check-sections .ensures .verdict)))

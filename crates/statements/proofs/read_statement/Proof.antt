@@ -8,7 +8,8 @@ use Rattle.statements.proofs.read_statement.Statement.{statement}
 use Rattle.statements.proofs.read_statement.Tie as tie
 
 -- Past the test the sections are in their limits, and there is such a statement.
-sized : (c : tie.Then1) → Limits (c .before .before .before .args .sections) × (c .before .before .before .args .at < c .before .before .before .args .sections .statements)
+sized : (c : tie.Then1)
+    → Limits (c .before .before .before .args .sections) × (c .before .before .before .args .at < c .before .before .before .args .sections .statements)
 sized c = statement-limits _ _ (simp (c .before .before .in-limits .ensures) at (c .if1 .taken))
 
 -- So its record starts below 65,536.
@@ -28,5 +29,11 @@ read-statement-spec =
     (λ c. let l = sized (c .before .before) in omega arith)
     (λ c κs. tt)
     (λ c κs. tt)
-    (λ c. simp (c .read-kind .ensures, c .before .fields-at .ensures, start (c .before .before .before .before), simp (c .before .before .before .before .before .before .in-limits .ensures) at (c .before .before .before .before .if1 .taken)))
+    (λ c. simp (
+      c .read-kind .ensures,
+      c .before .fields-at .ensures,
+      start (c .before .before .before .before),
+      simp
+          (c .before .before .before .before .before .before .in-limits .ensures) at (c .before .before .before .before .if1 .taken),
+    ))
     (λ c. simp (simp (c .before .before .in-limits .ensures) at (c .if1 .left))))

@@ -37,8 +37,10 @@ directory-right-spec =
     (λ c κs. tt)
     (λ c κs. tt)
     (λ c κs. tt)
-    (λ c κs. sym (c .before .before .before .before .before .before .before .before .before .before .before .before .before .before .before .before .before .in-limits .ensures)
-    ∙ not-false _ (c .before .before .before .before .before .before .before .before .before .before .before .before .before .before .before .before .if1 .left))
+    (λ c κs. sym (c .before .before .before .before .before .before .before .before .before .before .before .before .before .before .before .before .before
+    .in-limits .ensures)
+    ∙ not-false _ (c .before .before .before .before .before .before .before .before .before .before .before .before .before .before .before .before .if1
+    .left))
     (λ c. simp (
       c .fourth-right .ensures,
       c .before .is-number6 .ensures,
@@ -53,6 +55,8 @@ directory-right-spec =
       c .before .before .before .before .before .before .before .before .before .before .word2 .ensures,
       c .before .before .before .before .before .before .before .before .before .before .before .is-number .ensures,
       c .before .before .before .before .before .before .before .before .before .before .before .before .word .ensures,
-      sym (c .before .before .before .before .before .before .before .before .before .before .before .before .before .before .before .before .before .before .in-limits .ensures)
-          ∙ not-false _ (c .before .before .before .before .before .before .before .before .before .before .before .before .before .before .before .before .before .if1 .left),
+      sym (c .before .before .before .before .before .before .before .before .before .before .before .before .before .before .before .before .before .before
+          .in-limits .ensures)
+          ∙ not-false _ (c .before .before .before .before .before .before .before .before .before .before .before .before .before .before .before .before
+          .before .if1 .left),
     )))

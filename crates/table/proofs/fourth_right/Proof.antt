@@ -19,4 +19,10 @@ fourth-right-spec =
     (λ c. let l = limits _ (c .before .before .before .before .before .before .before .pre) in omega arith)
     (λ c κs. tt)
     (λ c κs. tt)
-    (λ c. simp (c .is-number2 .ensures, c .before .word2 .ensures, c .before .before .before .is-number .ensures, c .before .before .before .before .word .ensures)))
+    (λ c. simp (
+      c .is-number2 .ensures,
+      c .before .word2 .ensures,
+      c .before .before .before .is-number .ensures,
+      c .before .before .before .before .word
+          .ensures,
+    )))

@@ -14,7 +14,17 @@ read-form-spec =
     (λ c. simp (sym (c .before .length-right .ensures) ∙ not-true _ (c .if1 .taken)))
     (λ c κs. tt)
     (λ c κs. tt)
-    (λ c. simp (sym (c .before .before .before .before .length-right .ensures) ∙ not-false _ (c .before .before .before .if1 .left), sym (rw (c .before .before .sections-of .ensures) at (c .before .directory-right .ensures)) ∙ not-true _ (c .if2 .taken)))
+    (λ c. simp (
+      sym (c .before .before .before .before .length-right .ensures)
+          ∙ not-false _ (c .before .before .before .if1 .left),
+      sym (rw (c .before .before .sections-of .ensures) at (c .before .directory-right .ensures))
+          ∙ not-true _ (c .if2 .taken),
+    ))
     (λ c κs. directory-limits _ _ (sym (c .before .directory-right .ensures) ∙ not-false _ (c .if2 .left)))
-    (λ c. simp (sym (c .before .before .before .before .before .length-right .ensures) ∙ not-false _ (c .before .before .before .before .if1 .left), sym (rw (c .before .before .before .sections-of .ensures) at (c .before .before .directory-right .ensures)) ∙ not-false _ (c .before .if2 .left))
+    (λ c. simp (
+      sym (c .before .before .before .before .before .length-right .ensures)
+          ∙ not-false _ (c .before .before .before .before .if1 .left),
+      sym
+          (rw (c .before .before .before .sections-of .ensures) at (c .before .before .directory-right .ensures)) ∙ not-false _ (c .before .if2 .left),
+    )
     (rw (c .before .before .before .sections-of .ensures) at (c .items-form .ensures))))

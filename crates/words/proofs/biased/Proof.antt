@@ -16,5 +16,6 @@ biased-spec =
     (tie.spec
     (λ c. subst (λ (y : ℤ). SFits w64 y) (sym (toZ-ofZ (c .fits .w))) (wide (c .fits .w)))
     (λ c. subst (λ (y : ℤ). SFits w64 y) (sym (sum (c .args .w) (c .fits .w))) (fits-raised (c .args .w) (c .fits .w)))
-    (λ c. subst (λ (y : ℤ). T (nonNeg y) × Fits w64 (natAbs y)) (sym (whole (c .args .w) (c .fits .w))) (tt, record { fits = omega (arith, biased-small (c .args .w) (c .fits .w)) }))
+    (λ c. subst (λ (y : ℤ). T (nonNeg y) × Fits w64 (natAbs y)) (sym (whole (c .args .w) (c .fits .w)))
+    (tt, record { fits = omega (arith, biased-small (c .args .w) (c .fits .w)) }))
     (λ c. ap natAbs (whole (c .args .w) (c .fits .w))))

@@ -17,4 +17,5 @@ word-within-spec =
     (λ c. search needs)
     (λ c. search needs)
     (λ c κs. tt)
-    (λ c. let a = c .before .before .args in c .biased .ensures ∙ ap biased (toZ-ofZ {w = w32} {z = getD (now (a .table)) (a .i) (pos 0)} (record { sfits = c .before .biased-arg .given }))))
+    (λ c. let a = c .before .before .args in c .biased .ensures
+    ∙ ap biased (toZ-ofZ {w = w32} {z = getD (now (a .table)) (a .i) (pos 0)} (record { sfits = c .before .biased-arg .given }))))

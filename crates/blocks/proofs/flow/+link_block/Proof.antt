@@ -60,12 +60,21 @@ abbrev μ : link-block-lts.MeasureT-loop
 
 -- the turn, once its statement is read
 turn : (t : ℕ) (d : link-block-lts.After-known-told (callees t) (link-block-at t) link-block.Post Inv μ)
-    → Turn (now (d .before .before .before .before .before .before .before .before .args .table)) (d .before .before .before .before .before .before .before .before .args .sections) (d .before .before .before .before .before .before .before .before .args .end)
-    (d .before .before .before .before .before .before .before .before .args .allowed) (d .before .before .before .before .before .before .before .before .args .after)
-    (written (flow (parse (d .before .before .before .before .before .before .before .before .args .allowed) (now (d .before .before .before .before .before .before .before .before .args .table)) (d .before .before .before .before .before .before .before .before .args .sections)
-    (d .before .before .before .before .before .before .before .before .args .first) (d .before .before .before .before .before .before .before .before .args .end)) (d .before .before .before .before .before .before .before .before .args .after))
+    → Turn (now (d .before .before .before .before .before .before .before .before .args .table))
+    (d .before .before .before .before .before .before .before .before .args .sections)
+    (d .before .before .before .before .before .before .before .before .args .end)
+    (d .before .before .before .before .before .before .before .before .args .allowed)
+    (d .before .before .before .before .before .before .before .before .args .after)
+    (written (flow (parse (d .before .before .before .before .before .before .before .before .args .allowed)
+    (now (d .before .before .before .before .before .before .before .before .args .table))
+    (d .before .before .before .before .before .before .before .before .args .sections)
+    (d .before .before .before .before .before .before .before .before .args .first)
+    (d .before .before .before .before .before .before .before .before .args .end))
+    (d .before .before .before .before .before .before .before .before .args .after))
     (now (d .before .before .before .before .before .before .before .before .args .entries)))
-    (length (now (d .before .before .before .before .before .before .before .before .args .entries))) (d .before .before .before .before .before .before .loop .at) (d .before .before .before .before .before .before .loop .left) (d .before .before .before .before .before .before .loop .entries)
+    (length (now (d .before .before .before .before .before .before .before .before .args .entries)))
+    (d .before .before .before .before .before .before .loop .at) (d .before .before .before .before .before .before .loop .left)
+    (d .before .before .before .before .before .before .loop .entries)
     (d .before .got .given .0 .0)
 turn t d = record {
   so-far = d .before .before .before .before .before .before .loop .inv;
@@ -81,52 +90,109 @@ pub +link-block-spec : {M : Type 1} → statement M
     (λ c. search needs)
     (λ c. link-end (c .before .before .loop .inv) (c .if1 .taken))
     (λ c. search needs) (λ c κs. search needs) (λ c. search needs) (λ c. search needs) (λ c. search needs)
-    (λ c. link-unread (c .before .before .before .before .before .loop .inv) (c .before .before .before .before .loop-test .taken) (c .before .before .before .if1 .left) (sym (c .before .before .read-statement .ensures) ∙ c .enum-told .given .1))
+    (λ c. link-unread (c .before .before .before .before .before .loop .inv) (c .before .before .before .before .loop-test .taken)
+    (c .before .before .before .if1 .left) (sym (c .before .before .read-statement .ensures) ∙ c .enum-told .given .1))
     (λ c. omega (arith, placed (turn t c) .0, c .before .before .before .before .before .before .before .before .good))
     (λ c. search needs) (λ c κs. search needs)
     (λ c κs. placed (turn t (c .before .before .before .before)) .1)
     (λ c. omega (arith, turn t (c .before .before .before .before .before .before .before) .some))
-    (λ c. link-plain (arm (turn t (c .before .before .before .before .before .before .before)) (c .before .before .before .before .before .enum-told2 .given .1)) (c .before .before .before .before .first-due .ensures) (c .before .before .put-successors .ensures))
+    (λ c. link-plain (arm (turn t (c .before .before .before .before .before .before .before))
+    (c .before .before .before .before .before .enum-told2 .given .1)) (c .before .before .before .before .first-due .ensures)
+    (c .before .before .put-successors .ensures))
     (λ c. search needs)
-    (λ c. let u = arm (turn t (c .before .before .before)) (c .before .s .given .1) in omega (arith, placed u .0, u .room, read-counts-if _ _ _ _ _ _ (u .read), c .before .before .before .before .before .before .before .before .before .before .before .good))
-    (λ c. let u = arm (turn t (c .before .before .before)) (c .before .s .given .1) in omega (arith, placed u .0, u .room, read-counts-if _ _ _ _ _ _ (u .read), c .before .before .before .before .before .before .before .before .before .before .before .good))
+    (λ c. let u = arm (turn t (c .before .before .before)) (c .before .s .given .1) in omega (
+      arith,
+      placed u .0,
+      u .room,
+      read-counts-if _ _ _ _ _ _ (u .read),
+      c .before .before .before .before .before .before .before .before .before .before
+          .before .good,
+    ))
+    (λ c. let u = arm (turn t (c .before .before .before)) (c .before .s .given .1) in omega (
+      arith,
+      placed u .0,
+      u .room,
+      read-counts-if _ _ _ _ _ _ (u .read),
+      c .before .before .before .before .before .before .before .before .before .before
+          .before .good,
+    ))
     (λ c κs. search needs) (λ c κs. search needs) (λ c κs. search needs)
     (λ c κs. placed (turn t (c .before .before .before .before .before .before .before)) .1)
-    (λ c κs. let u = turn t (c .before .before .before .before .before .before .before .before .before .before .before) in
-    (left-falls u (c .before .before .before .before .before .before .before .before .before .before .before .before .before .before .before .before .before .before .before .pre .0), room-put u _ (c .before .before .before .put-successors2 .ensures)))
-    (λ c κs. let u = turn t (c .before .before .before .before .before .before .before .before .before .before .before .before .before .before .before) in (
-      left-falls u (c .before .before .before .before .before .before .before .before .before .before .before .before .before .before .before .before .before .before .before .before .before .before .before .pre .0),
-      room-if (arm u (c .before .before .before .before .before .before .before .before .before .before .before .before .before .s .given .1)) _ _ _ (c .before .before .before .before .before .before .before .put-successors2 .ensures) (c .before .before .before .link-block .ensures),
+    (λ c κs. let u = turn t (c .before .before .before .before .before .before .before .before .before .before .before) in (
+      left-falls u (c .before .before .before .before .before .before .before .before .before .before .before .before .before .before .before .before .before
+          .before .before .pre .0),
+      room-put u _ (c .before .before .before .put-successors2 .ensures),
     ))
-    (λ c. omega (arith, turn t (c .before .before .before .before .before .before .before .before .before .before .before .before .before .before .before .before .before .before) .some))
-    (λ c. link-if (arm (turn t (c .before .before .before .before .before .before .before .before .before .before .before .before .before .before .before .before .before .before))
-    (c .before .before .before .before .before .before .before .before .before .before .before .before .before .before .before .before .s .given .1)) (c .before .before .before .before .before .before .before .before .before .before .before .before .before .before .first-due2 .ensures)
-    (c .before .before .before .before .before .before .before .before .before .before .before .before .before .first-due3 .ensures) (c .before .before .before .before .before .before .before .before .before .before .before .before .first-due4 .ensures)
-    (c .before .before .before .before .before .before .before .before .before .before .put-successors2 .ensures) (c .before .before .before .before .before .before .link-block .ensures) (c .before .before .link-block2 .ensures))
+    (λ c κs. let u = turn t (c .before .before .before .before .before .before .before .before .before .before .before .before .before .before .before) in (
+      left-falls u (c .before .before .before .before .before .before .before .before .before .before .before .before .before .before .before .before .before
+          .before .before .before .before .before .before .pre .0),
+      room-if (arm u (c .before .before .before .before .before .before .before .before .before .before .before .before .before .s .given .1)) _ _ _
+          (c .before .before .before .before .before .before .before .put-successors2 .ensures) (c .before .before .before .link-block .ensures),
+    ))
+    (λ c. omega (
+      arith,
+      turn t
+          (c .before .before .before .before .before .before .before .before .before .before .before .before .before .before .before .before .before .before)
+          .some,
+    ))
+    (λ c. link-if (arm (turn t
+    (c .before .before .before .before .before .before .before .before .before .before .before .before .before .before .before .before .before .before))
+    (c .before .before .before .before .before .before .before .before .before .before .before .before .before .before .before .before .s .given .1))
+    (c .before .before .before .before .before .before .before .before .before .before .before .before .before .before .first-due2 .ensures)
+    (c .before .before .before .before .before .before .before .before .before .before .before .before .before .first-due3 .ensures)
+    (c .before .before .before .before .before .before .before .before .before .before .before .before .first-due4 .ensures)
+    (c .before .before .before .before .before .before .before .before .before .before .put-successors2 .ensures)
+    (c .before .before .before .before .before .before .link-block .ensures) (c .before .before .link-block2 .ensures))
     (λ c. search needs)
-    (λ c. let u = arm (turn t (c .before .before .before)) (c .before .s2 .given .1) in omega (arith, placed u .0, u .room, read-counts-while _ _ _ _ _ (u .read), c .before .before .before .before .before .before .before .before .before .before .before .good))
+    (λ c. let u = arm (turn t (c .before .before .before)) (c .before .s2 .given .1) in omega (
+      arith,
+      placed u .0,
+      u .room,
+      read-counts-while _ _ _ _ _ (u .read),
+      c .before .before .before .before .before .before .before .before .before .before
+          .before .good,
+    ))
     (λ c κs. search needs) (λ c κs. search needs)
     (λ c κs. placed (turn t (c .before .before .before .before .before .before)) .1)
-    (λ c κs. let u = turn t (c .before .before .before .before .before .before .before .before .before .before) in
-    (left-falls u (c .before .before .before .before .before .before .before .before .before .before .before .before .before .before .before .before .before .before .pre .0), room-put u _ (c .before .before .before .put-successors3 .ensures)))
+    (λ c κs. let u = turn t (c .before .before .before .before .before .before .before .before .before .before) in (
+      left-falls u (c .before .before .before .before .before .before .before .before .before .before .before .before .before .before .before .before .before
+          .before .pre .0),
+      room-put u _ (c .before .before .before .put-successors3 .ensures),
+    ))
     (λ c. omega (arith, turn t (c .before .before .before .before .before .before .before .before .before .before .before .before .before) .some))
-    (λ c. link-while (arm (turn t (c .before .before .before .before .before .before .before .before .before .before .before .before .before)) (c .before .before .before .before .before .before .before .before .before .before .before .s2 .given .1))
-    (c .before .before .before .before .before .before .before .before .before .first-due5 .ensures) (c .before .before .before .before .before .before .before .before .first-due6 .ensures) (c .before .before .before .before .before .before .put-successors3 .ensures)
+    (λ c. link-while (arm (turn t (c .before .before .before .before .before .before .before .before .before .before .before .before .before))
+    (c .before .before .before .before .before .before .before .before .before .before .before .s2 .given .1))
+    (c .before .before .before .before .before .before .before .before .before .first-due5 .ensures)
+    (c .before .before .before .before .before .before .before .before .first-due6 .ensures)
+    (c .before .before .before .before .before .before .put-successors3 .ensures)
     (c .before .before .link-block3 .ensures))
     (λ c. search needs)
-    (λ c. let u = arm (turn t (c .before .before .before)) (c .before .s3 .given .1) in omega (arith, placed u .0, u .room, read-counts-bundle _ _ _ _ (u .read), c .before .before .before .before .before .before .before .before .before .before .before .good))
+    (λ c. let u = arm (turn t (c .before .before .before)) (c .before .s3 .given .1) in omega (
+      arith,
+      placed u .0,
+      u .room,
+      read-counts-bundle _ _ _ _ (u .read),
+      c .before .before .before .before .before .before .before .before .before .before
+          .before .good,
+    ))
     (λ c κs. search needs) (λ c κs. search needs) (λ c κs. search needs)
     (λ c κs. placed (turn t (c .before .before .before .before .before .before .before)) .1)
-    (λ c κs. room-bundle (arm (turn t (c .before .before .before .before .before .before .before .before .before .before .before)) (c .before .before .before .before .before .before .before .before .before .s3 .given .1)) (c .before .before .before .before .before .before .count-simple .ensures) _
+    (λ c κs. room-bundle (arm (turn t (c .before .before .before .before .before .before .before .before .before .before .before))
+    (c .before .before .before .before .before .before .before .before .before .s3 .given .1))
+    (c .before .before .before .before .before .before .count-simple .ensures) _
     (c .before .before .before .put-successors4 .ensures))
     (λ c. omega (arith, turn t (c .before .before .before .before .before .before .before .before .before .before .before .before .before .before) .some))
-    (λ c. link-bundle (arm (turn t (c .before .before .before .before .before .before .before .before .before .before .before .before .before .before)) (c .before .before .before .before .before .before .before .before .before .before .before .before .s3 .given .1))
-    (c .before .before .before .before .before .before .before .before .before .count-simple .ensures) (c .before .before .before .before .before .before .before .before .before .before .first-due7 .ensures)
-    (c .before .before .before .before .before .before .before .before .first-simple .ensures) (c .before .before .before .before .before .before .put-successors4 .ensures) (c .before .before .link-bundle .ensures))
+    (λ c. link-bundle (arm (turn t (c .before .before .before .before .before .before .before .before .before .before .before .before .before .before))
+    (c .before .before .before .before .before .before .before .before .before .before .before .before .s3 .given .1))
+    (c .before .before .before .before .before .before .before .before .before .count-simple .ensures)
+    (c .before .before .before .before .before .before .before .before .before .before .first-due7 .ensures)
+    (c .before .before .before .before .before .before .before .before .first-simple .ensures)
+    (c .before .before .before .before .before .before .put-successors4 .ensures) (c .before .before .link-bundle .ensures))
     (λ c. search needs)
     (λ c κs. search needs)
     (λ c κs. placed (turn t (c .before .before .before .before)) .1)
     (λ c. omega (arith, turn t (c .before .before .before .before .before .before .before) .some))
-    (λ c. link-call (arm (turn t (c .before .before .before .before .before .before .before)) (c .before .before .before .before .before .enum-told3 .given .1)) (c .before .before .before .before .first-due8 .ensures) (c .before .before .put-successors5 .ensures))
+    (λ c. link-call (arm (turn t (c .before .before .before .before .before .before .before)) (c .before .before .before .before .before .enum-told3 .given .1))
+    (c .before .before .before .before .first-due8 .ensures) (c .before .before .put-successors5 .ensures))
     (λ c. search needs)
     (λ c. link-none (c .before .loop .inv) (c .loop-test .left))

@@ -30,14 +30,31 @@ count-simple-spec =
     (λ c. search needs)
     (λ c. search needs)
     (λ c. search needs)
-    (λ c. let e = simples-unread _ _ _ _ (c .before .before .before .loop-test .taken) (sym (c .before .before .read-statement .ensures) ∙ c .enum-told .given .1) in omega (arith, c .before .before .before .before .loop .inv .0, e))
+    (λ c. let e = simples-unread _ _ _ _ (c .before .before .before .loop-test .taken)
+    (sym (c .before .before .read-statement .ensures) ∙ c .enum-told .given .1) in omega (arith, c .before .before .before .before .loop .inv .0, e))
     (λ c. search needs)
     (λ c. search needs)
-    (λ c. let e = simples-other _ _ _ _ (c .before .before .before .before .before .loop-test .taken) _ (not-plain _ (c .match2 .keys2)) (sym (c .before .before .before .before .read-statement .ensures) ∙ c .before .before .got .given .1) in
+    (λ c. let e = simples-other _ _ _ _ (c .before .before .before .before .before .loop-test .taken) _ (not-plain _ (c .match2 .keys2))
+    (sym (c .before .before .before .before .read-statement .ensures) ∙ c .before .before .got .given .1) in
     omega (arith, c .before .before .before .before .before .before .loop .inv .0, e))
-    (λ c. omega (arith, read-within _ _ _ _ (sym (c .before .before .before .before .before .read-statement .ensures) ∙ c .before .before .before .got .given .1)))
+    (λ c. omega (
+      arith,
+      read-within _ _ _ _
+          (sym (c .before .before .before .before .before .read-statement .ensures) ∙ c .before .before .before .got .given .1),
+    ))
     (λ c. search needs)
     (λ c. search needs)
-    (λ c. let e = simples-plain _ _ _ _ (c .before .before .before .before .before .before .loop-test .taken) _ (sym (c .before .before .before .before .before .read-statement .ensures) ∙ c .before .before .before .got .given .1 ∙ ap Read (c .enum-told2 .given .1)) in
-    (omega (arith, c .before .before .before .before .before .before .before .loop .inv .0, c .before .before .before .before .before .before .before .loop .inv .1, c .before .before .before .before .before .before .loop-test .taken, e), omega arith))
+    (λ c. let e = simples-plain _ _ _ _ (c .before .before .before .before .before .before .loop-test .taken) _
+    (sym (c .before .before .before .before .before .read-statement .ensures) ∙ c .before .before .before .got .given .1
+    ∙ ap Read (c .enum-told2 .given .1)) in (
+      omega (
+        arith,
+        c .before .before .before .before .before .before .before .loop .inv .0,
+        c .before .before .before .before .before .before .before .loop .inv
+            .1,
+        c .before .before .before .before .before .before .loop-test .taken,
+        e,
+      ),
+      omega arith,
+    ))
     (λ c. omega (arith, simples-none _ _ _ _ (c .loop-test .left) (c .before .loop .inv .0))))

@@ -27,11 +27,19 @@ link-bundle-spec =
     (λ c. search needs)
     (λ c. omega (arith, c .before .before .before .pre, c .before .before .before .good, c .before .loop .inv .1))
     (λ c κs. search needs)
-    (λ c κs. omega (arith, c .before .before .before .before .before .pre, c .before .before .before .loop .inv .1, c .before .before .before .loop .inv .2, c .before .before .loop-test .taken))
+    (λ c κs. omega (
+      arith,
+      c .before .before .before .before .before .pre,
+      c .before .before .before .loop .inv .1,
+      c .before .before .before .loop .inv .2,
+      c
+          .before .before .loop-test .taken,
+    ))
     (λ c. search needs)
     (λ c. search needs)
     (λ c. (
-      c .before .before .before .before .before .before .loop .inv .0 ∙ line-some _ _ _ _ _ _ (c .before .before .before .before .before .loop-test .taken) (c .before .before .before .before .first-simple .ensures) (c .before .before .put-successors .ensures),
+      c .before .before .before .before .before .before .loop .inv .0 ∙ line-some _ _ _ _ _ _ (c .before .before .before .before .before .loop-test .taken)
+          (c .before .before .before .before .first-simple .ensures) (c .before .before .put-successors .ensures),
       omega arith,
       ap length (c .before .before .put-successors .ensures) ∙ (length-put _ _ ∙ c .before .before .before .before .before .before .loop .inv .2),
     ))

@@ -14,4 +14,5 @@ may-be-named-spec =
     (tie.spec
     (λ c. search needs)
     (λ c. any-default (c .before .before .args .t1 .each) (c .before .before .args .v) false true (search needs))
-    (λ c. let long : length (c .before .args .t1 .each) ≡ 18 = search needs in sym (List·getD-eq-default (c .before .args .t1 .each) true {n = c .before .args .v} (omega (arith, c .if1 .left)))))
+    (λ c. let long : length (c .before .args .t1 .each)
+    ≡ 18 = search needs in sym (List·getD-eq-default (c .before .args .t1 .each) true {n = c .before .args .v} (omega (arith, c .if1 .left)))))

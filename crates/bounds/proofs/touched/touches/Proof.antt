@@ -10,4 +10,10 @@ touches-spec =
     tie.close
     (tie.spec
     (λ c κs. search needs) (λ c κs. search needs) (λ c κs. search needs) (λ c κs. search needs)
-    (λ c. simp (c .is-pointer .ensures, c .before .replaced-by .ensures, c .before .before .may-be-named .ensures, c .before .before .before .changed-by .ensures)))
+    (λ c. simp (
+      c .is-pointer .ensures,
+      c .before .replaced-by .ensures,
+      c .before .before .may-be-named .ensures,
+      c .before .before .before .changed-by
+          .ensures,
+    )))

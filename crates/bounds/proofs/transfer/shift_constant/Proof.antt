@@ -16,7 +16,20 @@ shift-constant-spec =
     (λ c. simp (lt-leb _ _ (c .if1 .taken)))
     (λ c. simp (le-leb _ _ (c .before .if1 .left), le-ltb _ _ (c .if2 .taken)))
     (λ c. simp (le-leb _ _ (c .before .before .before .if1 .left), lt-ltb _ _ (c .before .before .if2 .left), le-ltb _ _ (c .if3 .taken)))
-    (λ c. let a = c .before .before .before .before .args in let p : a .weight * a .k ≤ 8 * 2 ^ 40 = scale-small (a .weight) (a .k) (2 ^ 40) (c .before .before .before .if1 .left) (omega (arith, c .before .before .if2 .left)) in search needs)
+    (λ c. let a = c .before .before .before .before .args in let p : a .weight * a .k ≤ 8 * 2 ^ 40 = scale-small (a .weight) (a .k) (2 ^ 40)
+    (c .before .before .before .if1 .left) (omega (arith, c .before .before .if2 .left)) in search needs)
     (λ c. search needs) (λ c. search needs)
-    (λ c. simp (le-leb _ _ (c .before .before .before .before .before .if1 .left), lt-ltb _ _ (c .before .before .before .before .if2 .left), lt-ltb _ _ (c .before .before .if3 .left), lt-leb _ _ (c .if4 .taken)))
-    (λ c. simp (le-leb _ _ (c .before .before .before .before .before .if1 .left), lt-ltb _ _ (c .before .before .before .before .if2 .left), lt-ltb _ _ (c .before .before .if3 .left), le-leb _ _ (c .if4 .left))))
+    (λ c. simp (
+      le-leb _ _ (c .before .before .before .before .before .if1 .left),
+      lt-ltb _ _ (c .before .before .before .before .if2 .left),
+      lt-ltb _ _
+          (c .before .before .if3 .left),
+      lt-leb _ _ (c .if4 .taken),
+    ))
+    (λ c. simp (
+      le-leb _ _ (c .before .before .before .before .before .if1 .left),
+      lt-ltb _ _ (c .before .before .before .before .if2 .left),
+      lt-ltb _ _
+          (c .before .before .if3 .left),
+      le-leb _ _ (c .if4 .left),
+    )))

@@ -14,5 +14,6 @@ shift-end-spec =
     (λ c. search needs) (λ c. search needs)
     (λ c. simp (c .enum-told .given .1))
     (λ c κs. search needs) (λ c κs. search needs) (λ c κs. search needs)
-    (λ c. simp (c .before .before .before .before .before .end .given .1, sym (c .before .before .before .end-names .ensures) ∙ c .before .before .if1 .taken) (rw (c .before .weight-of .ensures) at (c .shift-constant .ensures)))
+    (λ c. simp (c .before .before .before .before .before .end .given .1, sym (c .before .before .before .end-names .ensures) ∙ c .before .before .if1 .taken)
+    (rw (c .before .weight-of .ensures) at (c .shift-constant .ensures)))
     (λ c. simp (c .before .before .before .end .given .1, sym (c .before .end-names .ensures) ∙ c .if1 .left)))

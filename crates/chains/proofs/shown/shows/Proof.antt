@@ -14,4 +14,5 @@ shows-spec =
     (λ c κs. search needs)
     (λ c. sym (shown-marked _ _ _ _ (sym (c .before .contradicts .ensures) ∙ c .if1 .taken)))
     (λ c κs. search needs)
-    (λ c. ap (λ (s : ℕ). leb s (c .before .before .before .args .k)) (c .sum .ensures) ∙ sym (shown-clear _ _ _ _ (sym (c .before .before .contradicts .ensures) ∙ c .before .if1 .left))))
+    (λ c. ap (λ (s : ℕ). leb s (c .before .before .before .args .k)) (c .sum .ensures)
+    ∙ sym (shown-clear _ _ _ _ (sym (c .before .before .contradicts .ensures) ∙ c .before .if1 .left))))

@@ -23,11 +23,20 @@ record InRangeEnd (s a b k j : ℕ) : Type 0 where
 within-range : (s a b k j : ℕ) → (leb s 8 && ltb a (2 ^ 40) && ltb b (2 ^ 40) && ltb k (2 ^ 40) && ltb j (2 ^ 40)) ≡ true → InRangeEnd s a b k j
 within-range s a b k j e = go (leb s 8) (ltb a (2 ^ 40)) (ltb b (2 ^ 40)) (ltb k (2 ^ 40)) (ltb j (2 ^ 40)) refl refl refl refl refl e
   where
-    go : (t u v w x : Bool) → leb s 8 ≡ t → ltb a (2 ^ 40) ≡ u → ltb b (2 ^ 40) ≡ v → ltb k (2 ^ 40) ≡ w → ltb j (2 ^ 40) ≡ x → (t && u && v && w && x) ≡ true → InRangeEnd s a b k j
+    go : (t u v w x : Bool) → leb s 8 ≡ t → ltb a (2 ^ 40) ≡ u → ltb b (2 ^ 40) ≡ v → ltb k (2 ^ 40) ≡ w → ltb j (2 ^ 40) ≡ x → (t && u && v && w && x) ≡ true
+        → InRangeEnd s a b k j
     go true true true true true p q r y z e =
         let l : s ≤ 8 = leb-true s 8 p in
         let m : b < 2 ^ 40 = ltb-true b (2 ^ 40) r in
-        record { size = l; first = ltb-true a (2 ^ 40) q; second = m; constant = ltb-true k (2 ^ 40) y; other = ltb-true j (2 ^ 40) z; product = scale-small s b (2 ^ 40) l (omega arith) }
+        record {
+          size = l;
+          first = ltb-true a (2 ^ 40) q;
+          second = m;
+          constant = ltb-true k (2 ^ 40) y;
+          other = ltb-true j (2 ^ 40) z;
+          product = scale-small s b
+              (2 ^ 40) l (omega arith);
+        }
     go false u v w x p q r y z e = absurd (false≢true e)
     go true false v w x p q r y z e = absurd (false≢true e)
     go true true false w x p q r y z e = absurd (false≢true e)
@@ -39,11 +48,17 @@ unfolding withinEnd
 within-end-spec =
     tie.close
     (tie.spec
-    (λ c. let a = c .before .args in let r : InRangeEnd (a .size) (a .a) (a .b) (a .k) (a .j) = within-range (a .size) (a .a) (a .b) (a .k) (a .j) (c .if1 .taken) in search needs)
-    (λ c. let a = c .before .args in let r : InRangeEnd (a .size) (a .a) (a .b) (a .k) (a .j) = within-range (a .size) (a .a) (a .b) (a .k) (a .j) (c .if1 .taken) in search needs)
-    (λ c. let a = c .before .args in let r : InRangeEnd (a .size) (a .a) (a .b) (a .k) (a .j) = within-range (a .size) (a .a) (a .b) (a .k) (a .j) (c .if1 .taken) in search needs)
-    (λ c. let a = c .before .args in let r : InRangeEnd (a .size) (a .a) (a .b) (a .k) (a .j) = within-range (a .size) (a .a) (a .b) (a .k) (a .j) (c .if1 .taken) in search needs)
-    (λ c. let a = c .before .args in let r : InRangeEnd (a .size) (a .a) (a .b) (a .k) (a .j) = within-range (a .size) (a .a) (a .b) (a .k) (a .j) (c .if1 .taken) in search needs)
-    (λ c. let a = c .before .args in let r : InRangeEnd (a .size) (a .a) (a .b) (a .k) (a .j) = within-range (a .size) (a .a) (a .b) (a .k) (a .j) (c .if1 .taken) in search needs)
+    (λ c. let a = c .before .args in let r : InRangeEnd (a .size) (a .a) (a .b) (a .k) (a .j) = within-range (a .size) (a .a) (a .b) (a .k) (a .j)
+    (c .if1 .taken) in search needs)
+    (λ c. let a = c .before .args in let r : InRangeEnd (a .size) (a .a) (a .b) (a .k) (a .j) = within-range (a .size) (a .a) (a .b) (a .k) (a .j)
+    (c .if1 .taken) in search needs)
+    (λ c. let a = c .before .args in let r : InRangeEnd (a .size) (a .a) (a .b) (a .k) (a .j) = within-range (a .size) (a .a) (a .b) (a .k) (a .j)
+    (c .if1 .taken) in search needs)
+    (λ c. let a = c .before .args in let r : InRangeEnd (a .size) (a .a) (a .b) (a .k) (a .j) = within-range (a .size) (a .a) (a .b) (a .k) (a .j)
+    (c .if1 .taken) in search needs)
+    (λ c. let a = c .before .args in let r : InRangeEnd (a .size) (a .a) (a .b) (a .k) (a .j) = within-range (a .size) (a .a) (a .b) (a .k) (a .j)
+    (c .if1 .taken) in search needs)
+    (λ c. let a = c .before .args in let r : InRangeEnd (a .size) (a .a) (a .b) (a .k) (a .j) = within-range (a .size) (a .a) (a .b) (a .k) (a .j)
+    (c .if1 .taken) in search needs)
     (λ c. simp (c .if1 .taken))
     (λ c. simp (c .if1 .left)))

@@ -11,6 +11,12 @@ check-listed-spec =
     tie.close
     (tie.spec
     (λ c κs. search needs) (λ c. search needs) (λ c κs. search needs) (λ c. search needs)
-    (λ c κs. (c .before .before .before .before .pre .0, c .before .before .before .before .pre .1, form-clear _ (c .before .before .check-list .ensures) (c .enum-told .given .1)))
-    (λ c. list-refused _ _ _ _ (c .before .before .before .before .before .before .pre .1) (c .before .before .before .before .check-list .ensures) (c .before .before .form .given .1) (c .refuse .ensures))
+    (λ c κs. (
+      c .before .before .before .before .pre .0,
+      c .before .before .before .before .pre .1,
+      form-clear _ (c .before .before .check-list .ensures)
+          (c .enum-told .given .1),
+    ))
+    (λ c. list-refused _ _ _ _ (c .before .before .before .before .before .before .pre .1) (c .before .before .before .before .check-list .ensures)
+    (c .before .before .form .given .1) (c .refuse .ensures))
     (λ c. c .check-statements .ensures))

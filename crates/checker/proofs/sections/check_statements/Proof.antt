@@ -20,9 +20,15 @@ check-statements-spec =
       entries-few _ _ _ (c .before .before .before .before .before .pre .2),
     ))
     (λ c. search needs) (λ c. search needs)
-    (λ c. walk-accepted _ _ _ _ (c .before .before .before .before .before .before .before .before .before .pre .1) (c .before .before .before .before .before .before .before .before .before .pre .2) (c .before .before .before .before .before .before .own-force .ensures)
-    (c .before .before .before .before .before .new .ensures) (c .before .before .before .before .no-report .ensures) (c .before .before .before .walk .ensures) (c .before .enum-told .given .1) refl refl
+    (λ c. walk-accepted _ _ _ _ (c .before .before .before .before .before .before .before .before .before .pre .1)
+    (c .before .before .before .before .before .before .before .before .before .pre .2)
+    (c .before .before .before .before .before .before .own-force .ensures)
+    (c .before .before .before .before .before .new .ensures) (c .before .before .before .before .no-report .ensures) (c .before .before .before .walk .ensures)
+    (c .before .enum-told .given .1) refl refl
     (c .before .before .before .before .before .before .before .before .before .pre .0 .limits .statements))
     (λ c κs. search needs)
-    (λ c. walk-refused _ _ _ _ (c .before .before .before .before .before .before .before .before .before .before .pre .1) (c .before .before .before .before .before .before .before .before .before .before .pre .2) (c .before .before .before .before .before .before .before .own-force .ensures)
-    (c .before .before .before .before .before .before .new .ensures) (c .before .before .before .before .before .no-report .ensures) (c .before .before .before .before .walk .ensures) (c .before .before .verdict .given .1) (c .refuse .ensures)))
+    (λ c. walk-refused _ _ _ _ (c .before .before .before .before .before .before .before .before .before .before .pre .1)
+    (c .before .before .before .before .before .before .before .before .before .before .pre .2)
+    (c .before .before .before .before .before .before .before .own-force .ensures)
+    (c .before .before .before .before .before .before .new .ensures) (c .before .before .before .before .before .no-report .ensures)
+    (c .before .before .before .before .walk .ensures) (c .before .before .verdict .given .1) (c .refuse .ensures)))

@@ -113,7 +113,8 @@ callees t = (
 )
 
 abbrev Inv : walk-lts.InvT-loop
-Inv table sections listed frame first end allowed words called sizes spans pointers at₀ left₀ force₀ now₀ at left force now = Kept table sections (environmentOf table sections) listed (calleesIn words called) end allowed (parse allowed table sections first end)
+Inv table sections listed frame first end allowed words called sizes spans pointers at₀ left₀ force₀ now₀ at left force now = Kept table sections
+    (environmentOf table sections) listed (calleesIn words called) end allowed (parse allowed table sections first end)
     (stateOf (now₀ .facts) (force₀ .rows .each))
     (now₀ .report .words) at left (now .facts) force (now .report .words)
 
@@ -122,8 +123,10 @@ abbrev μ : walk-lts.MeasureT-loop
 
 -- the turn, once its statement is read
 turn : (t : ℕ) (d : walk-lts.After-known-told (callees t) (walk-at t) walk.Post Inv μ)
-    → let a = d .before .before .before .before .before .before .before .before .before .before .before .before .before .before .args in let l = d .before .before .before .before .before .before .before .before .loop in
-    Turn (now (a .table)) (a .sections) (environmentOf (now (a .table)) (a .sections)) (now (a .listed)) (calleesIn (now (a .words)) (now (a .callees))) (a .end) (a .allowed) (parse (a .allowed) (now (a .table)) (a .sections) (a .first) (a .end)) (stateOf (a .given) (a .begun .rows .each))
+    → let a = d .before .before .before .before .before .before .before .before .before .before .before .before .before .before .args in let l = d .before
+    .before .before .before .before .before .before .before .loop in
+    Turn (now (a .table)) (a .sections) (environmentOf (now (a .table)) (a .sections)) (now (a .listed)) (calleesIn (now (a .words)) (now (a .callees)))
+    (a .end) (a .allowed) (parse (a .allowed) (now (a .table)) (a .sections) (a .first) (a .end)) (stateOf (a .given) (a .begun .rows .each))
     (a .reported .words) (l .at) (l .left) (l .now .facts) (l .force) (l .now .report .words) (d .before .got .given .0 .0)
 turn t d = record {
   so-far = d .before .before .before .before .before .before .before .before .loop .inv;
@@ -133,7 +136,9 @@ turn t d = record {
 }
 
 -- Where an access and any other statement meet again, the facts are those before the statement, and an access is marked where it is safe.
-met : (t : ℕ) (d : walk-lts.Joined2 (callees t) (walk-at t) walk.Post Inv μ) → d .if2 .now .facts ≡ d .before .before .before .before .before .before .before .before .before .before .before .before .before .before .before .before .loop .now .facts
+met : (t : ℕ) (d : walk-lts.Joined2 (callees t) (walk-at t) walk.Post Inv μ)
+    → d .if2 .now .facts
+    ≡ d .before .before .before .before .before .before .before .before .before .before .before .before .before .before .before .before .loop .now .facts
 met t d = ⊎-elim (λ w. ap (λ (r : Walked). r .facts) (w .3)) (λ w. ap (λ (r : Walked). r .facts) (w .1)) (d .if2 .came)
 
 pub +walk-spec : {M : Type 1} → statement M
@@ -143,13 +148,17 @@ pub +walk-spec : {M : Type 1} → statement M
     (λ c κs. search needs)
     (λ c. search needs)
     (λ c. search needs)
-    (λ c. kept-unread (c .before .before .before .before .before .before .before .before .loop .inv) (c .before .before .before .before .before .before .before .loop-test .taken) (c .before .before .before .before .before .before .if1 .left) (sym (c .before .before .before .read-due .ensures) ∙
+    (λ c. kept-unread (c .before .before .before .before .before .before .before .before .loop .inv)
+    (c .before .before .before .before .before .before .before .loop-test .taken) (c .before .before .before .before .before .before .if1 .left)
+    (sym (c .before .before .before .read-due .ensures) ∙
     c .before .enum-told .given .1) refl)
     (λ c. omega (arith, placed (turn t c)))
     (λ c. search needs)
     (λ c κs. search needs)
     (λ c. search needs)
-    (λ c κs. let l = row-named-within (arm (turn t (c .before .before .before .before .before .before .before)) (c .before .before .before .before .before .statement .given .1)) (sym (c .before .before .before .declares-of .ensures) ∙ c .before .declares .given .1) in (
+    (λ c κs. let l = row-named-within
+    (arm (turn t (c .before .before .before .before .before .before .before)) (c .before .before .before .before .before .statement .given .1))
+    (sym (c .before .before .before .declares-of .ensures) ∙ c .before .declares .given .1) in (
       (turn t
           (c .before .before .before .before .before .before .before)) .so-far .forced,
       l .0,
@@ -157,56 +166,97 @@ pub +walk-spec : {M : Type 1} → statement M
     ))
     (λ c. search needs)
     (λ c. search needs)
-    (λ c. row-refused (arm (turn t (c .before .before .before .before .before .before .before .before .before .before .before)) (c .before .before .before .before .before .before .before .before .before .statement .given .1)) (sym
-    (c .before .before .before .before .before .before .before .declares-of .ensures) ∙ c .before .before .before .before .before .declares .given .1) (c .before .before .before .declare-row .ensures) refl (c .before .enum-told3 .given .1))
+    (λ c. row-refused (arm (turn t (c .before .before .before .before .before .before .before .before .before .before .before))
+    (c .before .before .before .before .before .before .before .before .before .statement .given .1)) (sym
+    (c .before .before .before .before .before .before .before .declares-of .ensures) ∙ c .before .before .before .before .before .declares .given .1)
+    (c .before .before .before .declare-row .ensures) refl (c .before .enum-told3 .given .1))
     (λ c. omega (arith, (turn t (c .before .before .before .before .before .before .before .before .before .before .before)) .some))
-    (λ c. turn-row (arm (turn t (c .before .before .before .before .before .before .before .before .before .before .before)) (c .before .before .before .before .before .before .before .before .before .statement .given .1)) (sym
-    (c .before .before .before .before .before .before .before .declares-of .ensures) ∙ c .before .before .before .before .before .declares .given .1) (c .before .before .before .declare-row .ensures) (c .before .enum-told2 .given .1))
+    (λ c. turn-row (arm (turn t (c .before .before .before .before .before .before .before .before .before .before .before))
+    (c .before .before .before .before .before .before .before .before .before .statement .given .1)) (sym
+    (c .before .before .before .before .before .before .before .declares-of .ensures) ∙ c .before .before .before .before .before .declares .given .1)
+    (c .before .before .before .declare-row .ensures) (c .before .enum-told2 .given .1))
     (λ c. search needs)
     (λ c κs. search needs)
-    (λ c κs. plain-ranged (arm (turn t (c .before .before .before .before .before .before .before .before)) (c .before .before .before .before .before .before .statement .given .1)))
+    (λ c κs. plain-ranged
+    (arm (turn t (c .before .before .before .before .before .before .before .before))
+    (c .before .before .before .before .before .before .statement .given .1)))
     (λ c κs. placed (turn t (c .before .before .before .before .before .before .before .before .before)))
-    (λ c κs. plain-ranged (arm (turn t (c .before .before .before .before .before .before .before .before)) (c .before .before .before .before .before .before .statement .given .1)))
+    (λ c κs. plain-ranged
+    (arm (turn t (c .before .before .before .before .before .before .before .before))
+    (c .before .before .before .before .before .before .statement .given .1)))
     (λ c κs. search needs)
-    (λ c κs. plain-ranged (arm (turn t (c .before .before .before .before .before .before .before .before .before .before)) (c .before .before .before .before .before .before .before .before .statement .given .1)))
+    (λ c κs. plain-ranged
+    (arm (turn t (c .before .before .before .before .before .before .before .before .before .before))
+    (c .before .before .before .before .before .before .before .before .statement .given .1)))
     (λ c κs. search needs)
     (λ c κs. search needs)
-    (λ c κs. applied-short (environmentOf (now (c .before .before .before .before .before .before .before .before .before .before .before .before .before .before .before .before .before .before .before .before .before .before .before .before .before .before .before .before .args .table))
-    (c .before .before .before .before .before .before .before .before .before .before .before .before .before .before .before .before .before .before .before .before .before .before .before .before .before .before .before .before .args .sections)) _ _ (measured-by _ _
-    (c .before .before .before .before .before .before .before .before .before .before .before .before .before .before .before .before .before .before .before .before .before .before .before .before .before .before .before .before .pre .1 .1) (carried-from (met t
-    (c .before .before .before .before .before .before)) _ _ _ _ (c .before .before .before .before .before .ask-statement .ensures) (c .before .before .before .before .answer .ensures) (c .before .before .before .plan-statement .ensures) (c .before .before .after .ensures)))
-    (c .before .before .before .before .before .before .before .before .before .before .before .before .before .before .before .before .before .before .before .before .before .before .before .before .before .before .before .before .pre .1 .0) (plain-ranged (arm (turn t
-    (c .before .before .before .before .before .before .before .before .before .before .before .before .before .before)) (c .before .before .before .before .before .before .before .before .before .before .before .before .statement .given .1))))
+    (λ c κs. applied-short
+    (environmentOf (now
+    (c .before .before .before .before .before .before .before .before .before .before .before .before .before .before .before .before .before .before
+    .before .before .before .before .before .before .before .before .before .before .args .table))
+    (c .before .before .before .before .before .before .before .before .before .before .before .before .before .before .before .before .before .before .before
+    .before .before .before .before .before .before .before .before .before .args .sections)) _ _ (measured-by _ _
+    (c .before .before .before .before .before .before .before .before .before .before .before .before .before .before .before .before .before .before .before
+    .before .before .before .before .before .before .before .before .before .pre .1 .1) (carried-from (met t
+    (c .before .before .before .before .before .before)) _ _ _ _ (c .before .before .before .before .before .ask-statement .ensures)
+    (c .before .before .before .before .answer .ensures) (c .before .before .before .plan-statement .ensures) (c .before .before .after .ensures)))
+    (c .before .before .before .before .before .before .before .before .before .before .before .before .before .before .before .before .before .before .before
+    .before .before .before .before .before .before .before .before .before .pre .1 .0) (plain-ranged (arm (turn t
+    (c .before .before .before .before .before .before .before .before .before .before .before .before .before .before))
+    (c .before .before .before .before .before .before .before .before .before .before .before .before .statement .given .1))))
     (λ c. search needs)
     (λ c. search needs)
-    (λ c. plain-refused (arm (turn t (c .before .before .before .before .before .before .before .before .before .before .before .before .before .before .before .before .before .before))
-    (c .before .before .before .before .before .before .before .before .before .before .before .before .before .before .before .before .statement .given .1)) (sym
+    (λ c. plain-refused (arm
+    (turn t (c .before .before .before .before .before .before .before .before .before .before .before .before .before .before .before .before .before
+    .before))
+    (c .before .before .before .before .before .before .before .before .before .before .before .before .before .before .before .before .statement .given .1))
+    (sym
     (c .before .before .before .before .before .before .before .before .before .before .before .before .before .before .declares-of .ensures) ∙
     c .before .before .before .before .before .before .before .before .before .before .before .before .enum-told4 .given .1) (measured-by _ _
-    (c .before .before .before .before .before .before .before .before .before .before .before .before .before .before .before .before .before .before .before .before .before .before .before .before .before .before .before .before .before .before .before .before .pre .1 .1) (carried-from (met t
-    (c .before .before .before .before .before .before .before .before .before .before)) _ _ _ _ (c .before .before .before .before .before .before .before .before .before .ask-statement .ensures) (c .before .before .before .before .before .before .before .before .answer .ensures)
+    (c .before .before .before .before .before .before .before .before .before .before .before .before .before .before .before .before .before .before .before
+    .before .before .before .before .before .before .before .before .before .before .before .before .before .pre .1 .1) (carried-from (met t
+    (c .before .before .before .before .before .before .before .before .before .before)) _ _ _ _
+    (c .before .before .before .before .before .before .before .before .before .ask-statement .ensures)
+    (c .before .before .before .before .before .before .before .before .answer .ensures)
     (c .before .before .before .before .before .before .before .plan-statement .ensures)
-    (c .before .before .before .before .before .before .after .ensures))) (c .before .before .before .check-effect .ensures) refl (c .before .enum-told6 .given .1))
-    (λ c. omega (arith, (turn t (c .before .before .before .before .before .before .before .before .before .before .before .before .before .before .before .before .before)) .some))
-    (λ c. turn-plain (arm (turn t (c .before .before .before .before .before .before .before .before .before .before .before .before .before .before .before .before .before))
-    (c .before .before .before .before .before .before .before .before .before .before .before .before .before .before .before .statement .given .1)) (sym (c .before .before .before .before .before .before .before .before .before .before .before .before .before .declares-of .ensures) ∙
+    (c .before .before .before .before .before .before .after .ensures))) (c .before .before .before .check-effect .ensures) refl
+    (c .before .enum-told6 .given .1))
+    (λ c. omega (
+      arith,
+      (turn t
+          (c .before .before .before .before .before .before .before .before .before .before .before .before .before .before .before .before .before)) .some,
+    ))
+    (λ c. turn-plain (arm
+    (turn t (c .before .before .before .before .before .before .before .before .before .before .before .before .before .before .before .before .before))
+    (c .before .before .before .before .before .before .before .before .before .before .before .before .before .before .before .statement .given .1))
+    (sym (c .before .before .before .before .before .before .before .before .before .before .before .before .before .declares-of .ensures) ∙
     c .before .before .before .before .before .before .before .before .before .before .before .enum-told4 .given .1) (measured-by _ _
-    (c .before .before .before .before .before .before .before .before .before .before .before .before .before .before .before .before .before .before .before .before .before .before .before .before .before .before .before .before .before .before .before .pre .1 .1) (carried-from (met t
-    (c .before .before .before .before .before .before .before .before .before)) _ _ _ _ (c .before .before .before .before .before .before .before .before .ask-statement .ensures) (c .before .before .before .before .before .before .before .answer .ensures)
+    (c .before .before .before .before .before .before .before .before .before .before .before .before .before .before .before .before .before .before .before
+    .before .before .before .before .before .before .before .before .before .before .before .before .pre .1 .1) (carried-from (met t
+    (c .before .before .before .before .before .before .before .before .before)) _ _ _ _
+    (c .before .before .before .before .before .before .before .before .ask-statement .ensures)
+    (c .before .before .before .before .before .before .before .answer .ensures)
     (c .before .before .before .before .before .before .plan-statement .ensures)
     (c .before .before .before .before .before .after .ensures))) (c .before .before .check-effect .ensures)
     (⊎-elim (λ w. marked-safe _ _ _ _ _ (w .1 .ensures) (ap (λ (r : Walked). r .report .words) (w .3) ∙ w .2 .ensures))
-    (λ w. unmarked _ _ _ _ _ (c .before .before .before .before .before .before .before .before .before .before .is-access .ensures) (w .0 .left) (ap (λ (r : Walked). r .report .words) (w .1)))
+    (λ w. unmarked _ _ _ _ _ (c .before .before .before .before .before .before .before .before .before .before .is-access .ensures) (w .0 .left)
+    (ap (λ (r : Walked). r .report .words) (w .1)))
     (c .before .before .before .before .before .before .before .before .before .if2 .came)) (c .enum-told5 .given .1))
     (λ c. omega (arith, (turn t (c .before .before .before .before .before .before .before .before .before .before .before .before .before .before)) .some))
-    (λ c. turn-untouched (arm (turn t (c .before .before .before .before .before .before .before .before .before .before .before .before .before .before)) (c .before .before .before .before .before .before .before .before .before .before .before .before .statement .given .1)) (sym
-    (c .before .before .before .before .before .before .before .before .before .before .declares-of .ensures) ∙ c .before .before .before .before .before .before .before .before .enum-told4 .given .1) (measured-by _ _
-    (c .before .before .before .before .before .before .before .before .before .before .before .before .before .before .before .before .before .before .before .before .before .before .before .before .before .before .before .before .pre .1 .1) (carried-from (met t
-    (c .before .before .before .before .before .before)) _ _ _ _ (c .before .before .before .before .before .ask-statement .ensures) (c .before .before .before .before .answer .ensures) (c .before .before .before .plan-statement .ensures) (c .before .before .after .ensures)))
+    (λ c. turn-untouched (arm (turn t (c .before .before .before .before .before .before .before .before .before .before .before .before .before .before))
+    (c .before .before .before .before .before .before .before .before .before .before .before .before .statement .given .1)) (sym
+    (c .before .before .before .before .before .before .before .before .before .before .declares-of .ensures)
+    ∙ c .before .before .before .before .before .before .before .before .enum-told4 .given .1) (measured-by _ _
+    (c .before .before .before .before .before .before .before .before .before .before .before .before .before .before .before .before .before .before .before
+    .before .before .before .before .before .before .before .before .before .pre .1 .1) (carried-from (met t
+    (c .before .before .before .before .before .before)) _ _ _ _ (c .before .before .before .before .before .ask-statement .ensures)
+    (c .before .before .before .before .answer .ensures) (c .before .before .before .plan-statement .ensures) (c .before .before .after .ensures)))
     (⊎-elim (λ w. marked-safe _ _ _ _ _ (w .1 .ensures) (ap (λ (r : Walked). r .report .words) (w .3) ∙ w .2 .ensures))
-    (λ w. unmarked _ _ _ _ _ (c .before .before .before .before .before .before .before .is-access .ensures) (w .0 .left) (ap (λ (r : Walked). r .report .words) (w .1)))
+    (λ w. unmarked _ _ _ _ _ (c .before .before .before .before .before .before .before .is-access .ensures) (w .0 .left)
+    (ap (λ (r : Walked). r .report .words) (w .1)))
     (c .before .before .before .before .before .before .if2 .came))
-    (c .before .before .before .before .before .before .before .before .before .before .before .before .before .before .before .before .before .before .before .before .before .before .before .before .before .before .before .before .pre .1 .1 .pointers)
+    (c .before .before .before .before .before .before .before .before .before .before .before .before .before .before .before .before .before .before .before
+    .before .before .before .before .before .before .before .before .before .pre .1 .1 .pointers)
     (sym (c .before .touches .ensures) ∙ c .if3 .left))
     (λ c. search needs)
     (λ c. let u = (arm (turn t (c .before .before .before)) (c .before .statement2 .given .1)) in omega (arith, placed u, if-counts u))
@@ -215,54 +265,235 @@ pub +walk-spec : {M : Type 1} → statement M
     (λ c κs. search needs)
     (λ c κs. if-offset (arm (turn t (c .before .before .before .before .before)) (c .before .before .before .statement2 .given .1)))
     (λ c κs. search needs)
-    (λ c κs. (left-falls (turn t (c .before .before .before .before .before .before .before .before)) (c .before .before .before .before .before .before .before .before .before .before .before .before .before .before .before .before .before .before .before .before .before .before .pre .0), (c .before .before .before .before .before .before .before .before .before .before .before .before .before .before .before .before .before .before .before .before .before .before .pre .1 .0, c .before .before .before .before .before .before .before .before .before .before .before .before .before .before .before .before .before .before .before .before .before .before .pre .1 .1, (turn t (c .before .before .before .before .before .before .before .before)) .so-far .forced, let u = arm (turn t (c .before .before .before .before .before .before .before .before)) (c .before .before .before .before .before .before .statement2 .given .1) in then-placed (u .read) (at-node u), c .before .before .before .before .before .before .before .before .before .before .before .before .before .before .before .before .before .before .before .before .before .before .pre .1 .4)))
-    (λ c. search needs)
-    (λ c. search needs)
-    (λ c. then-refused (arm (turn t (c .before .before .before .before .before .before .before .before .before .before)) (c .before .before .before .before .before .before .before .before .statement2 .given .1)) (assumed _ _ _ (c .before .before .before .before .before .before .ask-condition .ensures) (c .before .before .before .before .before .answer2 .ensures) (c .before .before .before .before .assume .ensures) (c .before .before .before .after2 .ensures)) {r = c .before .before .if4 .side} (⊎-elim (λ w. rw (w .2) (w .1 .ensures)) (λ w. rw (w .1) (empty-walks _ _ _ _ _ _ _ _ _ _ _ (w .0 .left))) (c .before .before .if4 .came)) (c .enum-told8 .given .1))
-    (λ c κs. search needs)
-    (λ c κs. negated-offset _ _ (c .negated .ensures) (if-offset (arm (turn t (c .before .before .before .before .before .before .before .before .before .before .before)) (c .before .before .before .before .before .before .before .before .before .statement2 .given .1))))
-    (λ c κs. search needs)
-    (λ c κs. (left-falls (turn t (c .before .before .before .before .before .before .before .before .before .before .before .before .before .before .before)) (c .before .before .before .before .before .before .before .before .before .before .before .before .before .before .before .before .before .before .before .before .before .before .before .before .before .before .before .before .before .pre .0), (c .before .before .before .before .before .before .before .before .before .before .before .before .before .before .before .before .before .before .before .before .before .before .before .before .before .before .before .before .before .pre .1 .0, c .before .before .before .before .before .before .before .before .before .before .before .before .before .before .before .before .before .before .before .before .before .before .before .before .before .before .before .before .before .pre .1 .1, (turn t (c .before .before .before .before .before .before .before .before .before .before .before .before .before .before .before)) .so-far .forced, let u = arm (turn t (c .before .before .before .before .before .before .before .before .before .before .before .before .before .before .before)) (c .before .before .before .before .before .before .before .before .before .before .before .before .before .statement2 .given .1) in else-placed (u .read) (at-node u), c .before .before .before .before .before .before .before .before .before .before .before .before .before .before .before .before .before .before .before .before .before .before .before .before .before .before .before .before .before .pre .1 .4)))
-    (λ c. search needs)
-    (λ c. search needs)
-    (λ c. else-refused (arm (turn t (c .before .before .before .before .before .before .before .before .before .before .before .before .before .before .before .before .before .before)) (c .before .before .before .before .before .before .before .before .before .before .before .before .before .before .before .before .statement2 .given .1)) (assumed _ _ _ (c .before .before .before .before .before .before .before .before .before .before .before .before .before .before .ask-condition .ensures) (c .before .before .before .before .before .before .before .before .before .before .before .before .before .answer2 .ensures) (c .before .before .before .before .before .before .before .before .before .before .before .before .assume .ensures) (c .before .before .before .before .before .before .before .before .before .before .before .after2 .ensures)) {r = c .before .before .before .before .before .before .before .before .before .before .if4 .side} (⊎-elim (λ w. rw (w .2) (w .1 .ensures)) (λ w. rw (w .1) (empty-walks _ _ _ _ _ _ _ _ _ _ _ (w .0 .left))) (c .before .before .before .before .before .before .before .before .before .before .if4 .came)) (c .before .before .before .before .before .before .before .before .enum-told7 .given .1) (c .before .before .before .before .before .before .before .negated .ensures) (assumed _ _ _ (negated-asked _ _ (c .before .before .before .before .before .before .before .negated .ensures) (c .before .before .before .before .before .before .before .before .before .before .before .before .before .before .ask-condition .ensures)) (c .before .before .before .before .before .before .before .before .before .before .before .before .before .answer2 .ensures) (c .before .before .before .before .before .before .assume2 .ensures) (c .before .before .before .before .before .after3 .ensures)) (c .before .before .walk2 .ensures) (c .enum-told10 .given .1))
-    (λ c κs. search needs)
-    (λ c. sides-differ (arm (turn t (c .before .before .before .before .before .before .before .before .before .before .before .before .before .before .before .before .before .before .before)) (c .before .before .before .before .before .before .before .before .before .before .before .before .before .before .before .before .before .statement2 .given .1)) (assumed _ _ _ (c .before .before .before .before .before .before .before .before .before .before .before .before .before .before .before .ask-condition .ensures) (c .before .before .before .before .before .before .before .before .before .before .before .before .before .before .answer2 .ensures) (c .before .before .before .before .before .before .before .before .before .before .before .before .before .assume .ensures) (c .before .before .before .before .before .before .before .before .before .before .before .before .after2 .ensures)) {r = c .before .before .before .before .before .before .before .before .before .before .before .if4 .side} (⊎-elim (λ w. rw (w .2) (w .1 .ensures)) (λ w. rw (w .1) (empty-walks _ _ _ _ _ _ _ _ _ _ _ (w .0 .left))) (c .before .before .before .before .before .before .before .before .before .before .before .if4 .came)) (c .before .before .before .before .before .before .before .before .before .enum-told7 .given .1) (c .before .before .before .before .before .before .before .before .negated .ensures) (assumed _ _ _ (negated-asked _ _ (c .before .before .before .before .before .before .before .before .negated .ensures) (c .before .before .before .before .before .before .before .before .before .before .before .before .before .before .before .ask-condition .ensures)) (c .before .before .before .before .before .before .before .before .before .before .before .before .before .before .answer2 .ensures) (c .before .before .before .before .before .before .before .assume2 .ensures) (c .before .before .before .before .before .before .after3 .ensures)) {o = settled (c .before .before .before .before .if5 .now)} (⊎-elim (λ w. rw (w .4) (settled-walks (w .1 .ensures) (w .3 .given .1))) (λ w. rw (w .1) (empty-walks _ _ _ _ _ _ _ _ _ _ _ (w .0 .left))) (c .before .before .before .before .if5 .came)) refl (c .before .before .same-rows .ensures) (not-true _ (c .before .if6 .taken)) refl)
-    (λ c κs. search needs)
-    (λ c κs. search needs)
-    (λ c κs. search needs)
-    (λ c. omega (arith, (turn t (c .before .before .before .before .before .before .before .before .before .before .before .before .before .before .before .before .before .before .before .before .before .before)) .some))
-    (λ c. turn-if (arm (turn t (c .before .before .before .before .before .before .before .before .before .before .before .before .before .before .before .before .before .before .before .before .before .before)) (c .before .before .before .before .before .before .before .before .before .before .before .before .before .before .before .before .before .before .before .before .statement2 .given .1)) (assumed _ _ _ (c .before .before .before .before .before .before .before .before .before .before .before .before .before .before .before .before .before .before .ask-condition .ensures) (c .before .before .before .before .before .before .before .before .before .before .before .before .before .before .before .before .before .answer2 .ensures) (c .before .before .before .before .before .before .before .before .before .before .before .before .before .before .before .before .assume .ensures) (c .before .before .before .before .before .before .before .before .before .before .before .before .before .before .before .after2 .ensures)) {r = c .before .before .before .before .before .before .before .before .before .before .before .before .before .before .if4 .side} (⊎-elim (λ w. rw (w .2) (w .1 .ensures)) (λ w. rw (w .1) (empty-walks _ _ _ _ _ _ _ _ _ _ _ (w .0 .left))) (c .before .before .before .before .before .before .before .before .before .before .before .before .before .before .if4 .came)) (c .before .before .before .before .before .before .before .before .before .before .before .before .enum-told7 .given .1) (c .before .before .before .before .before .before .before .before .before .before .before .negated .ensures) (assumed _ _ _ (negated-asked _ _ (c .before .before .before .before .before .before .before .before .before .before .before .negated .ensures) (c .before .before .before .before .before .before .before .before .before .before .before .before .before .before .before .before .before .before .ask-condition .ensures)) (c .before .before .before .before .before .before .before .before .before .before .before .before .before .before .before .before .before .answer2 .ensures) (c .before .before .before .before .before .before .before .before .before .before .assume2 .ensures) (c .before .before .before .before .before .before .before .before .before .after3 .ensures)) {o = settled (c .before .before .before .before .before .before .before .if5 .now)} (⊎-elim (λ w. rw (w .4) (settled-walks (w .1 .ensures) (w .3 .given .1))) (λ w. rw (w .1) (empty-walks _ _ _ _ _ _ _ _ _ _ _ (w .0 .left))) (c .before .before .before .before .before .before .before .if5 .came)) refl (c .before .before .before .before .before .same-rows .ensures) (not-false _ (c .before .before .before .before .if6 .left)) (c .before .before .before .before .before .before .before .before .before .before .before .before .before .before .before .before .before .before .before .before .before .before .before .before .before .before .before .before .before .before .before .before .before .before .before .before .pre .1 .1 .pointers) (c .before .before .before .join .ensures) (c .force-of .ensures))
-    (λ c. omega (arith, (turn t (c .before .before .before .before .before .before .before .before .before .before .before .before .before .before .before .before .before .before .before .before .before)) .some))
-    (λ c. turn-if (arm (turn t (c .before .before .before .before .before .before .before .before .before .before .before .before .before .before .before .before .before .before .before .before .before)) (c .before .before .before .before .before .before .before .before .before .before .before .before .before .before .before .before .before .before .before .statement2 .given .1)) (assumed _ _ _ (c .before .before .before .before .before .before .before .before .before .before .before .before .before .before .before .before .before .ask-condition .ensures) (c .before .before .before .before .before .before .before .before .before .before .before .before .before .before .before .before .answer2 .ensures) (c .before .before .before .before .before .before .before .before .before .before .before .before .before .before .before .assume .ensures) (c .before .before .before .before .before .before .before .before .before .before .before .before .before .before .after2 .ensures)) {r = c .before .before .before .before .before .before .before .before .before .before .before .before .before .if4 .side} (⊎-elim (λ w. rw (w .2) (w .1 .ensures)) (λ w. rw (w .1) (empty-walks _ _ _ _ _ _ _ _ _ _ _ (w .0 .left))) (c .before .before .before .before .before .before .before .before .before .before .before .before .before .if4 .came)) (c .before .before .before .before .before .before .before .before .before .before .before .enum-told7 .given .1) (c .before .before .before .before .before .before .before .before .before .before .negated .ensures) (assumed _ _ _ (negated-asked _ _ (c .before .before .before .before .before .before .before .before .before .before .negated .ensures) (c .before .before .before .before .before .before .before .before .before .before .before .before .before .before .before .before .before .ask-condition .ensures)) (c .before .before .before .before .before .before .before .before .before .before .before .before .before .before .before .before .answer2 .ensures) (c .before .before .before .before .before .before .before .before .before .assume2 .ensures) (c .before .before .before .before .before .before .before .before .after3 .ensures)) {o = settled (c .before .before .before .before .before .before .if5 .now)} (⊎-elim (λ w. rw (w .4) (settled-walks (w .1 .ensures) (w .3 .given .1))) (λ w. rw (w .1) (empty-walks _ _ _ _ _ _ _ _ _ _ _ (w .0 .left))) (c .before .before .before .before .before .before .if5 .came)) refl (c .before .before .before .before .same-rows .ensures) (not-false _ (c .before .before .before .if6 .left)) (c .before .before .before .before .before .before .before .before .before .before .before .before .before .before .before .before .before .before .before .before .before .before .before .before .before .before .before .before .before .before .before .before .before .before .before .pre .1 .1 .pointers) (c .before .before .join .ensures) (same-force ((turn t (c .before .before .before .before .before .before .before .before .before .before .before .before .before .before .before .before .before .before .before .before .before)) .so-far .forced) (c .before .same-rows2 .ensures) (not-false _ (c .if7 .left))))
-    (λ c. search needs)
-    (λ c. let u = (arm (turn t (c .before .before .before)) (c .before .statement3 .given .1)) in omega (arith, placed u, while-count u))
-    (λ c κs. (c .before .before .before .before .before .before .before .before .before .before .before .before .before .before .before .before .before .pre .1 .4, omega (arith, placed (turn t (c .before .before .before)))))
-    (λ c. search needs)
-    (λ c. search needs)
-    (λ c. before-refused (arm (turn t (c .before .before .before .before .before .before .before)) (c .before .before .before .before .before .statement3 .given .1)) (c .before .before .before .check-entries .ensures) refl (c .before .enum-told12 .given .1))
-    (λ c κs. let u = (arm (turn t (c .before .before .before .before .before .before)) (c .before .before .before .before .statement3 .given .1)) in omega (arith, placed u, while-count u))
-    (λ c κs. (c .before .before .before .before .before .before .before .before .before .before .before .before .before .before .before .before .before .before .before .before .before .before .pre .1 .4, omega (arith, placed (turn t (c .before .before .before .before .before .before .before .before)))))
-    (λ c κs. while-offset (arm (turn t (c .before .before .before .before .before .before .before .before)) (c .before .before .before .before .before .before .statement3 .given .1)))
-    (λ c κs. search needs)
-    (λ c κs. while-offset (arm (turn t (c .before .before .before .before .before .before .before .before .before .before)) (c .before .before .before .before .before .before .before .before .statement3 .given .1)))
-    (λ c κs. search needs)
     (λ c κs. (
-      left-falls (turn t (c .before .before .before .before .before .before .before .before .before .before .before .before))
-          (c .before .before .before .before .before .before .before .before .before .before .before .before .before .before .before .before .before .before .before .before .before .before .before .before .before .before .pre .0),
+      left-falls (turn t (c .before .before .before .before .before .before .before .before))
+          (c .before .before .before .before .before .before .before .before .before .before .before .before .before .before .before .before .before .before
+          .before .before .before .before .pre .0),
       (
-        c .before .before .before .before .before .before .before .before .before .before .before .before .before .before .before .before .before .before .before .before .before .before .before .before .before .before .pre .1 .0,
-        c .before .before .before .before .before .before .before .before .before .before .before .before .before .before .before .before .before .before .before .before .before .before .before .before .before .before .pre .1 .1,
-        (turn t (c .before .before .before .before .before .before .before .before .before .before .before .before)) .so-far .forced,
-        let u = (arm (turn t (c .before .before .before .before .before .before .before .before .before .before .before .before)) (c .before .before .before .before .before .before .before .before .before .before .statement3 .given .1)) in body-placed (u .read) (at-node u),
-        c .before .before .before .before .before .before .before .before .before .before .before .before .before .before .before .before .before .before .before .before .before .before .before .before .before .before .pre .1 .4,
+        c .before .before .before .before .before .before .before .before .before .before .before .before .before .before .before .before .before .before
+            .before .before .before .before .pre .1 .0,
+        c .before .before .before .before .before .before .before .before .before .before .before .before
+            .before .before .before .before .before .before .before .before .before .before .pre .1 .1,
+        (turn t (c .before .before .before .before .before .before .before .before)) .so-far .forced,
+        let u = arm (turn t (c .before .before .before .before .before .before .before .before))
+            (c .before .before .before .before .before .before .statement2 .given .1) in then-placed (u .read) (at-node u),
+        c .before .before .before .before .before .before .before .before .before .before .before .before .before .before .before .before .before .before
+            .before .before .before .before
+            .pre .1 .4,
       ),
     ))
     (λ c. search needs)
     (λ c. search needs)
-    (λ c. body-refused (arm (turn t (c .before .before .before .before .before .before .before .before .before .before .before .before .before .before .before)) (c .before .before .before .before .before .before .before .before .before .before .before .before .before .statement3 .given .1)) (c .before .before .before .before .before .before .before .before .before .before .before .check-entries .ensures) (c .before .before .before .before .before .before .before .before .before .enum-told11 .given .1) (c .before .before .before .before .before .before .before .before .lose .ensures) (⊎-elim (λ w. ap (λ (r : Walked). r .facts) (w .2) ∙ w .1 .ensures) (λ w. ap (λ (r : Walked). r .facts) (w .1) ∙ no-entries _ _ _ (w .0 .left)) (c .before .before .before .before .before .before .before .if8 .came)) (assumed _ _ _ (c .before .before .before .before .before .before .ask-condition2 .ensures) (c .before .before .before .before .before .answer3 .ensures) (c .before .before .before .before .assume3 .ensures) (c .before .before .before .after4 .ensures)) (c .before .before .walk3 .ensures) (c .enum-told14 .given .1))
+    (λ c. then-refused (arm (turn t (c .before .before .before .before .before .before .before .before .before .before))
+    (c .before .before .before .before .before .before .before .before .statement2 .given .1))
+    (assumed _ _ _ (c .before .before .before .before .before .before .ask-condition
+    .ensures) (c .before .before .before .before .before .answer2 .ensures) (c .before .before .before .before .assume .ensures)
+    (c .before .before .before .after2 .ensures)) {r = c .before .before .if4 .side} (⊎-elim (λ w. rw (w .2) (w .1 .ensures))
+    (λ w. rw (w .1) (empty-walks _ _ _ _ _ _ _ _ _ _ _ (w .0 .left))) (c .before .before .if4 .came)) (c .enum-told8 .given .1))
+    (λ c κs. search needs)
+    (λ c κs. negated-offset _ _ (c .negated .ensures)
+    (if-offset (arm (turn t (c .before .before .before .before .before .before .before .before .before .before .before))
+    (c .before .before .before .before .before .before .before .before .before .statement2 .given .1))))
+    (λ c κs. search needs)
     (λ c κs. (
-      c .before .before .before .before .before .before .before .before .before .before .before .before .before .before .before .before .before .before .before .before .before .before .before .before .before .before .before .before .before .pre .1 .4,
+      left-falls (turn t (c .before .before .before .before .before .before .before .before .before .before .before .before .before .before .before))
+          (c .before .before .before .before .before .before .before .before .before .before .before .before .before .before .before .before .before
+          .before .before .before .before .before .before .before .before .before .before .before .before .pre .0),
+      (
+        c .before .before .before .before .before .before .before .before .before .before .before .before .before .before .before .before .before .before
+            .before .before .before .before .before
+            .before .before .before .before .before .before .pre .1 .0,
+        c .before .before .before .before .before .before .before .before .before .before .before .before .before .before .before .before .before .before
+            .before .before .before .before .before .before .before .before .before .before .before
+            .pre .1 .1,
+        (turn t (c .before .before .before .before .before .before .before .before .before .before .before .before .before .before .before)) .so-far .forced,
+        let u = arm (turn t (c .before .before .before .before .before .before .before .before .before .before .before .before .before
+            .before .before)) (c .before .before .before .before .before .before .before .before .before .before .before .before .before .statement2 .given .1)
+            in else-placed (u .read) (at-node u),
+        c .before .before .before .before .before .before .before .before .before .before .before .before .before
+            .before .before .before .before .before .before .before .before .before .before .before .before .before .before .before .before .pre .1 .4,
+      ),
+    ))
+    (λ c. search needs)
+    (λ c. search needs)
+    (λ c. else-refused (arm
+    (turn t (c .before .before .before .before .before .before .before .before .before .before .before .before .before .before .before .before .before
+    .before)) (c .before .before .before .before .before .before .before .before .before .before .before .before .before
+    .before .before .before .statement2 .given .1))
+    (assumed _ _ _ (c .before .before .before .before .before .before .before .before .before .before .before .before .before .before .ask-condition
+    .ensures) (c .before .before .before .before .before .before .before .before .before .before .before
+    .before .before .answer2 .ensures) (c .before .before .before .before .before .before .before .before .before .before .before .before .assume .ensures)
+    (c .before .before .before .before .before .before .before .before .before .before .before .after2 .ensures)) {r = c .before .before .before
+    .before .before .before .before .before .before .before .if4 .side}
+    (⊎-elim (λ w. rw (w .2) (w .1 .ensures)) (λ w. rw (w .1) (empty-walks _ _ _ _ _ _ _ _ _ _ _ (w .0 .left)))
+    (c .before .before .before .before .before .before .before .before .before .before .if4 .came))
+    (c .before .before .before .before .before .before .before .before .enum-told7 .given .1)
+    (c .before .before .before .before .before .before .before .negated .ensures)
+    (assumed _ _ _ (negated-asked _ _ (c .before .before .before .before .before .before .before .negated .ensures)
+    (c .before .before .before .before .before .before .before .before .before .before .before .before .before .before .ask-condition .ensures))
+    (c .before .before .before .before .before .before .before .before .before .before .before .before .before .answer2 .ensures)
+    (c .before .before .before .before .before .before .assume2 .ensures) (c .before .before .before .before .before .after3 .ensures))
+    (c .before .before .walk2 .ensures) (c .enum-told10 .given .1))
+    (λ c κs. search needs)
+    (λ c. sides-differ (arm
+    (turn t (c .before .before .before .before .before .before .before .before .before .before .before .before .before .before .before .before .before
+    .before .before)) (c .before .before .before .before .before .before .before .before .before .before .before .before
+    .before .before .before .before .before .statement2 .given .1))
+    (assumed _ _ _ (c .before .before .before .before .before .before .before .before .before .before .before .before .before .before .before .ask-condition
+    .ensures) (c .before .before .before .before .before .before .before .before
+    .before .before .before .before .before .before .answer2 .ensures)
+    (c .before .before .before .before .before .before .before .before .before .before .before .before .before .assume .ensures)
+    (c .before .before .before .before .before .before .before .before .before .before .before .before
+    .after2 .ensures)) {r = c .before .before .before .before .before .before .before .before .before .before .before .if4 .side}
+    (⊎-elim (λ w. rw (w .2) (w .1 .ensures)) (λ w. rw (w .1) (empty-walks _ _ _ _ _ _ _ _ _ _ _ (w .0 .left)))
+    (c .before .before .before .before .before .before .before
+    .before .before .before .before .if4 .came)) (c .before .before .before .before .before .before .before .before .before .enum-told7 .given .1)
+    (c .before .before .before .before .before .before .before .before .negated .ensures) (assumed _ _ _
+    (negated-asked _ _ (c .before .before .before .before .before .before .before .before .negated .ensures)
+    (c .before .before .before .before .before .before .before .before .before .before .before .before .before .before .before .ask-condition .ensures))
+    (c .before .before .before .before .before .before .before .before .before .before .before .before .before .before .answer2 .ensures)
+    (c .before .before .before .before .before .before .before .assume2 .ensures) (c .before .before .before .before .before .before .after3 .ensures))
+    {o = settled
+    (c .before .before .before .before .if5 .now)}
+    (⊎-elim (λ w. rw (w .4) (settled-walks (w .1 .ensures) (w .3 .given .1))) (λ w. rw (w .1) (empty-walks _ _ _ _ _ _ _ _ _ _ _ (w .0 .left)))
+    (c .before .before .before .before .if5 .came)) refl (c .before .before .same-rows .ensures)
+    (not-true _ (c .before .if6 .taken)) refl)
+    (λ c κs. search needs)
+    (λ c κs. search needs)
+    (λ c κs. search needs)
+    (λ c. omega (
+      arith,
+      (turn t
+          (c .before .before .before .before .before .before .before .before .before .before .before .before .before .before .before .before .before .before
+          .before .before .before .before)) .some,
+    ))
+    (λ c. turn-if (arm (turn t
+    (c .before .before .before .before .before .before .before .before .before .before .before .before .before .before .before .before .before .before
+    .before .before .before .before)) (c .before .before .before .before .before .before .before .before .before .before
+    .before .before .before .before .before .before .before .before .before .before .statement2 .given .1))
+    (assumed _ _ _ (c .before .before .before .before .before .before .before .before .before .before .before .before .before .before .before .before
+    .before .before .ask-condition .ensures)
+    (c .before .before .before .before .before .before .before .before .before .before .before .before .before .before .before .before .before .answer2
+    .ensures) (c .before .before .before .before .before .before .before .before .before .before .before .before .before .before .before .before
+    .assume .ensures) (c .before .before .before .before .before .before .before .before .before .before .before .before .before .before .before .after2
+    .ensures)) {r = c .before .before .before .before .before .before .before .before .before .before .before .before .before .before .if4 .side}
+    (⊎-elim (λ w. rw (w .2) (w .1 .ensures)) (λ w. rw (w .1) (empty-walks _ _ _ _ _ _ _ _ _ _ _ (w .0 .left)))
+    (c .before .before .before .before .before .before .before .before .before .before .before .before .before .before .if4 .came))
+    (c .before .before .before .before .before .before .before
+    .before .before .before .before .before .enum-told7 .given .1)
+    (c .before .before .before .before .before .before .before .before .before .before .before .negated .ensures)
+    (assumed _ _ _ (negated-asked _ _ (c .before .before .before .before .before .before .before .before .before .before
+    .before .negated .ensures)
+    (c .before .before .before .before .before .before .before .before .before .before .before .before .before .before .before .before .before .before
+    .ask-condition .ensures)) (c .before .before .before .before .before .before .before .before .before .before .before
+    .before .before .before .before .before .before .answer2 .ensures)
+    (c .before .before .before .before .before .before .before .before .before .before .assume2 .ensures)
+    (c .before .before .before .before .before .before .before .before .before .after3 .ensures)) {o = settled
+    (c .before .before .before .before .before .before .before .if5 .now)}
+    (⊎-elim (λ w. rw (w .4) (settled-walks (w .1 .ensures) (w .3 .given .1))) (λ w. rw (w .1) (empty-walks _ _ _ _ _ _ _ _ _ _ _ (w .0 .left)))
+    (c .before .before .before .before .before .before .before .if5 .came)) refl
+    (c .before .before .before .before .before .same-rows .ensures) (not-false _ (c .before .before .before .before .if6 .left))
+    (c .before .before .before .before .before .before .before .before .before .before .before .before .before .before .before .before .before .before
+    .before .before
+    .before .before .before .before .before .before .before .before .before .before .before .before .before .before .before .before .pre .1 .1 .pointers)
+    (c .before .before .before .join .ensures) (c .force-of .ensures))
+    (λ c. omega (
+      arith,
+      (turn t
+          (c .before .before .before .before .before .before .before .before .before .before .before .before .before .before .before .before .before .before
+          .before .before .before)) .some,
+    ))
+    (λ c. turn-if (arm (turn t
+    (c .before .before .before .before .before .before .before .before .before .before .before .before .before .before .before .before .before .before
+    .before .before .before)) (c .before .before .before .before .before .before .before .before .before .before .before
+    .before .before .before .before .before .before .before .before .statement2 .given .1))
+    (assumed _ _ _ (c .before .before .before .before .before .before .before .before .before .before .before .before .before .before .before .before
+    .before .ask-condition .ensures)
+    (c .before .before .before .before .before .before .before .before .before .before .before .before .before .before .before .before .answer2 .ensures)
+    (c .before .before .before .before .before .before .before .before .before .before .before .before .before .before .before .assume .ensures)
+    (c .before .before .before .before .before .before .before .before .before .before .before .before .before .before .after2 .ensures))
+    {r = c .before .before .before .before .before .before .before .before .before .before .before .before .before .if4 .side}
+    (⊎-elim (λ w. rw (w .2) (w .1 .ensures)) (λ w. rw (w .1) (empty-walks _ _ _ _ _ _ _ _ _ _ _ (w .0 .left)))
+    (c .before .before .before .before .before .before .before .before .before .before .before .before .before .if4 .came))
+    (c .before .before .before .before .before .before .before .before
+    .before .before .before .enum-told7 .given .1) (c .before .before .before .before .before .before .before .before .before .before .negated .ensures)
+    (assumed _ _ _ (negated-asked _ _ (c .before .before .before .before .before .before .before .before .before .before .negated .ensures)
+    (c .before .before .before .before .before .before .before .before .before .before .before .before .before .before .before .before .before .ask-condition
+    .ensures)) (c .before .before .before .before .before .before .before .before .before .before .before .before .before .before .before
+    .before .answer2 .ensures) (c .before .before .before .before .before .before .before .before .before .assume2 .ensures)
+    (c .before .before .before .before .before .before .before .before .after3 .ensures))
+    {o = settled (c .before .before .before .before .before .before .if5 .now)}
+    (⊎-elim (λ w. rw (w .4) (settled-walks (w .1 .ensures) (w .3 .given .1))) (λ w. rw (w .1) (empty-walks _ _ _ _ _ _ _ _ _ _ _ (w .0 .left)))
+    (c .before .before .before .before .before .before .if5 .came)) refl (c .before .before .before .before .same-rows .ensures)
+    (not-false _ (c .before .before .before .if6 .left))
+    (c .before .before .before .before .before .before .before .before .before .before .before .before .before .before .before .before .before .before
+    .before .before .before .before .before .before .before .before .before .before .before
+    .before .before .before .before .before .before .pre .1 .1 .pointers) (c .before .before .join .ensures)
+    (same-force ((turn t
+    (c .before .before .before .before .before .before .before .before .before .before .before .before .before .before .before .before .before .before
+    .before .before
+    .before)) .so-far .forced) (c .before .same-rows2 .ensures) (not-false _ (c .if7 .left))))
+    (λ c. search needs)
+    (λ c. let u = (arm (turn t (c .before .before .before)) (c .before .statement3 .given .1)) in omega (arith, placed u, while-count u))
+    (λ c κs. (
+      c .before .before .before .before .before .before .before .before .before .before .before .before .before .before .before .before .before .pre .1
+          .4,
+      omega (arith, placed (turn t (c .before .before .before))),
+    ))
+    (λ c. search needs)
+    (λ c. search needs)
+    (λ c. before-refused (arm (turn t (c .before .before .before .before .before .before .before))
+    (c .before .before .before .before .before .statement3 .given .1)) (c .before .before .before .check-entries .ensures) refl
+    (c .before .enum-told12 .given .1))
+    (λ c κs. let u = (arm (turn t (c .before .before .before .before .before .before)) (c .before .before .before .before .statement3 .given .1)) in omega
+    (arith, placed u, while-count u))
+    (λ c κs. (
+      c .before .before .before .before .before .before .before .before .before .before .before .before .before .before .before .before .before .before .before
+          .before .before .before .pre .1 .4,
+      omega (
+        arith,
+        placed (turn t (c .before .before .before .before .before .before .before
+            .before)),
+      ),
+    ))
+    (λ c κs. while-offset
+    (arm (turn t (c .before .before .before .before .before .before .before .before))
+    (c .before .before .before .before .before .before .statement3 .given .1)))
+    (λ c κs. search needs)
+    (λ c κs. while-offset
+    (arm (turn t (c .before .before .before .before .before .before .before .before .before .before))
+    (c .before .before .before .before .before .before .before .before .statement3 .given .1)))
+    (λ c κs. search needs)
+    (λ c κs. (
+      left-falls (turn t (c .before .before .before .before .before .before .before .before .before .before .before .before))
+          (c .before .before .before .before .before .before .before .before .before .before .before .before .before .before .before .before .before .before
+          .before .before .before .before .before .before .before .before .pre .0),
+      (
+        c .before .before .before .before .before .before .before .before .before .before .before .before .before .before .before .before .before .before
+            .before .before .before .before .before .before .before .before .pre .1 .0,
+        c .before .before .before .before .before .before .before .before .before .before .before .before .before .before .before .before .before .before
+            .before .before .before .before .before .before .before .before .pre .1 .1,
+        (turn t (c .before .before .before .before .before .before .before .before .before .before .before .before)) .so-far .forced,
+        let u = (arm (turn t (c .before .before .before .before .before .before .before .before .before .before .before .before))
+            (c .before .before .before .before .before .before .before .before .before .before .statement3 .given .1)) in body-placed (u .read) (at-node u),
+        c .before .before .before .before .before .before .before .before .before .before .before .before .before .before .before .before .before .before
+            .before .before .before .before .before .before .before .before .pre .1 .4,
+      ),
+    ))
+    (λ c. search needs)
+    (λ c. search needs)
+    (λ c. body-refused (arm (turn t (c .before .before .before .before .before .before .before .before .before .before .before .before .before .before .before))
+    (c .before .before .before .before .before .before .before .before .before .before .before .before .before .statement3 .given .1))
+    (c .before .before .before .before .before .before .before .before .before .before .before .check-entries .ensures)
+    (c .before .before .before .before .before .before .before .before .before .enum-told11 .given .1)
+    (c .before .before .before .before .before .before .before .before .lose
+    .ensures) (⊎-elim (λ w. ap (λ (r : Walked). r .facts) (w .2) ∙ w .1 .ensures) (λ w. ap (λ (r : Walked). r .facts) (w .1) ∙ no-entries _ _ _ (w .0 .left))
+    (c .before .before .before .before .before .before .before .if8 .came)) (assumed _ _ _ (c .before .before .before .before .before .before
+    .ask-condition2 .ensures) (c .before .before .before .before .before .answer3 .ensures) (c .before .before .before .before .assume3 .ensures)
+    (c .before .before .before .after4 .ensures)) (c .before .before .walk3 .ensures) (c .enum-told14 .given .1))
+    (λ c κs. (
+      c .before .before .before .before .before .before .before .before .before .before .before .before .before .before .before .before .before .before .before
+          .before .before .before .before .before .before .before .before .before .before .pre .1 .4,
       omega (
         arith,
         placed (turn t
@@ -271,15 +502,83 @@ pub +walk-spec : {M : Type 1} → statement M
     ))
     (λ c. search needs)
     (λ c. search needs)
-    (λ c. again-refused (arm (turn t (c .before .before .before .before .before .before .before .before .before .before .before .before .before .before .before .before .before .before .before)) (c .before .before .before .before .before .before .before .before .before .before .before .before .before .before .before .before .before .statement3 .given .1)) (c .before .before .before .before .before .before .before .before .before .before .before .before .before .before .before .check-entries .ensures) (c .before .before .before .before .before .before .before .before .before .before .before .before .before .enum-told11 .given .1) (c .before .before .before .before .before .before .before .before .before .before .before .before .lose .ensures) (⊎-elim (λ w. ap (λ (r : Walked). r .facts) (w .2) ∙ w .1 .ensures) (λ w. ap (λ (r : Walked). r .facts) (w .1) ∙ no-entries _ _ _ (w .0 .left)) (c .before .before .before .before .before .before .before .before .before .before .before .if8 .came)) (assumed _ _ _ (c .before .before .before .before .before .before .before .before .before .before .ask-condition2 .ensures) (c .before .before .before .before .before .before .before .before .before .answer3 .ensures) (c .before .before .before .before .before .before .before .before .assume3 .ensures) (c .before .before .before .before .before .before .before .after4 .ensures)) (c .before .before .before .before .before .before .walk3 .ensures) (c .before .before .before .before .enum-told13 .given .1) (c .before .before .before .check-entries2 .ensures) refl (c .before .enum-told16 .given .1))
+    (λ c. again-refused (arm
+    (turn t (c .before .before .before .before .before .before .before .before .before .before .before .before .before .before .before .before .before
+    .before .before)) (c .before .before .before .before .before .before .before .before .before .before .before .before
+    .before .before .before .before .before .statement3 .given .1))
+    (c .before .before .before .before .before .before .before .before .before .before .before .before .before .before .before .check-entries .ensures)
+    (c .before .before .before .before .before .before .before .before .before .before
+    .before .before .before .enum-told11 .given .1)
+    (c .before .before .before .before .before .before .before .before .before .before .before .before .lose .ensures)
+    (⊎-elim (λ w. ap (λ (r : Walked). r .facts) (w .2) ∙ w .1 .ensures) (λ w. ap (λ (r : Walked). r .facts)
+    (w .1) ∙ no-entries _ _ _ (w .0 .left)) (c .before .before .before .before .before .before .before .before .before .before .before .if8 .came))
+    (assumed _ _ _ (c .before .before .before .before .before .before .before .before .before .before .ask-condition2 .ensures)
+    (c .before .before .before .before .before .before .before .before .before .answer3 .ensures)
+    (c .before .before .before .before .before .before .before .before .assume3 .ensures)
+    (c .before .before .before .before .before .before .before .after4 .ensures))
+    (c .before .before .before .before .before .before .walk3 .ensures) (c .before .before .before .before .enum-told13 .given .1)
+    (c .before .before .before .check-entries2 .ensures) refl (c .before .enum-told16 .given .1))
     (λ c κs. search needs)
-    (λ c. ends-differ (arm (turn t (c .before .before .before .before .before .before .before .before .before .before .before .before .before .before .before .before .before .before .before .before .before)) (c .before .before .before .before .before .before .before .before .before .before .before .before .before .before .before .before .before .before .before .statement3 .given .1)) (c .before .before .before .before .before .before .before .before .before .before .before .before .before .before .before .before .before .check-entries .ensures) (c .before .before .before .before .before .before .before .before .before .before .before .before .before .before .before .enum-told11 .given .1) (c .before .before .before .before .before .before .before .before .before .before .before .before .before .before .lose .ensures) (⊎-elim (λ w. ap (λ (r : Walked). r .facts) (w .2) ∙ w .1 .ensures) (λ w. ap (λ (r : Walked). r .facts) (w .1) ∙ no-entries _ _ _ (w .0 .left)) (c .before .before .before .before .before .before .before .before .before .before .before .before .before .if8 .came)) (assumed _ _ _ (c .before .before .before .before .before .before .before .before .before .before .before .before .ask-condition2 .ensures) (c .before .before .before .before .before .before .before .before .before .before .before .answer3 .ensures) (c .before .before .before .before .before .before .before .before .before .before .assume3 .ensures) (c .before .before .before .before .before .before .before .before .before .after4 .ensures)) (c .before .before .before .before .before .before .before .before .walk3 .ensures) (c .before .before .before .before .before .before .enum-told13 .given .1) (c .before .before .before .before .before .check-entries2 .ensures) (c .before .before .before .enum-told15 .given .1) (c .before .before .same-rows3 .ensures) (not-true _ (c .before .if9 .taken)) refl)
+    (λ c. ends-differ (arm
+    (turn t (c .before .before .before .before .before .before .before .before .before .before .before .before .before .before .before .before .before
+    .before .before .before .before)) (c .before .before .before .before .before .before .before .before .before .before .before
+    .before .before .before .before .before .before .before .before .statement3 .given .1))
+    (c .before .before .before .before .before .before .before .before .before .before .before .before .before .before .before .before .before
+    .check-entries .ensures)
+    (c .before .before .before .before .before .before .before .before .before .before .before .before .before .before .before .enum-told11 .given .1)
+    (c .before .before .before .before .before .before .before .before .before .before .before .before .before .before .lose .ensures)
+    (⊎-elim (λ w. ap (λ (r : Walked). r .facts) (w .2) ∙ w .1 .ensures) (λ w. ap (λ (r : Walked). r .facts) (w .1) ∙ no-entries _ _ _ (w .0 .left))
+    (c .before .before .before .before .before .before .before .before .before .before .before .before .before .if8 .came))
+    (assumed _ _ _ (c .before .before .before .before .before .before .before .before .before .before .before .before .ask-condition2 .ensures)
+    (c .before .before .before .before .before .before .before .before .before .before .before .answer3 .ensures)
+    (c .before .before .before .before .before .before .before .before .before .before .assume3 .ensures)
+    (c .before .before .before .before .before .before .before .before .before .after4 .ensures))
+    (c .before .before .before .before .before .before .before .before .walk3 .ensures)
+    (c .before .before .before .before .before .before .enum-told13 .given .1) (c .before .before .before .before .before .check-entries2 .ensures)
+    (c .before .before .before .enum-told15 .given .1) (c .before .before .same-rows3 .ensures) (not-true _
+    (c .before .if9 .taken)) refl)
     (λ c κs. search needs)
-    (λ c κs. negated-offset _ _ (c .negated2 .ensures) (while-offset (arm (turn t (c .before .before .before .before .before .before .before .before .before .before .before .before .before .before .before .before .before .before .before .before .before))
-    (c .before .before .before .before .before .before .before .before .before .before .before .before .before .before .before .before .before .before .before .statement3 .given .1))))
+    (λ c κs. negated-offset _ _ (c .negated2 .ensures)
+    (while-offset (arm
+    (turn t (c .before .before .before .before .before .before .before .before .before .before .before .before .before .before .before .before .before
+    .before .before .before .before))
+    (c .before .before .before .before .before .before .before .before .before .before .before .before .before .before .before .before .before .before .before
+    .statement3 .given .1))))
     (λ c κs. search needs)
-    (λ c. omega (arith, (turn t (c .before .before .before .before .before .before .before .before .before .before .before .before .before .before .before .before .before .before .before .before .before .before .before .before)) .some))
-    (λ c. turn-while (arm (turn t (c .before .before .before .before .before .before .before .before .before .before .before .before .before .before .before .before .before .before .before .before .before .before .before .before)) (c .before .before .before .before .before .before .before .before .before .before .before .before .before .before .before .before .before .before .before .before .before .before .statement3 .given .1)) (c .before .before .before .before .before .before .before .before .before .before .before .before .before .before .before .before .before .before .before .before .check-entries .ensures) (c .before .before .before .before .before .before .before .before .before .before .before .before .before .before .before .before .before .before .enum-told11 .given .1) (c .before .before .before .before .before .before .before .before .before .before .before .before .before .before .before .before .before .lose .ensures) (⊎-elim (λ w. ap (λ (r : Walked). r .facts) (w .2) ∙ w .1 .ensures) (λ w. ap (λ (r : Walked). r .facts) (w .1) ∙ no-entries _ _ _ (w .0 .left)) (c .before .before .before .before .before .before .before .before .before .before .before .before .before .before .before .before .if8 .came)) (assumed _ _ _ (c .before .before .before .before .before .before .before .before .before .before .before .before .before .before .before .ask-condition2 .ensures) (c .before .before .before .before .before .before .before .before .before .before .before .before .before .before .answer3 .ensures) (c .before .before .before .before .before .before .before .before .before .before .before .before .before .assume3 .ensures) (c .before .before .before .before .before .before .before .before .before .before .before .before .after4 .ensures)) (c .before .before .before .before .before .before .before .before .before .before .before .walk3 .ensures) (c .before .before .before .before .before .before .before .before .before .enum-told13 .given .1) (c .before .before .before .before .before .before .before .before .check-entries2 .ensures) (c .before .before .before .before .before .before .enum-told15 .given .1) (c .before .before .before .before .before .same-rows3 .ensures) (not-false _ (c .before .before .before .before .if9 .left)) (c .before .before .before .negated2 .ensures) (assumed _ _ _ (negated-asked _ _ (c .before .before .before .negated2 .ensures) (c .before .before .before .before .before .before .before .before .before .before .before .before .before .before .before .ask-condition2 .ensures)) (c .before .before .before .before .before .before .before .before .before .before .before .before .before .before .answer3 .ensures) (c .before .before .assume4 .ensures) (c .before .after5 .ensures)))
+    (λ c. omega (
+      arith,
+      (turn t
+          (c .before .before .before .before .before .before .before .before .before .before .before .before .before .before .before .before .before .before
+          .before .before .before .before .before .before)) .some,
+    ))
+    (λ c. turn-while (arm
+    (turn t (c .before .before .before .before .before .before .before .before .before .before .before .before .before .before .before .before .before
+    .before .before .before .before .before .before .before)) (c .before .before .before .before .before .before .before .before
+    .before .before .before .before .before .before .before .before .before .before .before .before .before .before .statement3 .given .1))
+    (c .before .before .before .before .before .before .before .before .before .before .before .before .before .before .before .before .before .before
+    .before
+    .before .check-entries .ensures)
+    (c .before .before .before .before .before .before .before .before .before .before .before .before .before .before .before .before .before .before
+    .enum-told11 .given .1) (c .before .before .before .before .before .before .before .before .before .before .before
+    .before .before .before .before .before .before .lose .ensures)
+    (⊎-elim (λ w. ap (λ (r : Walked). r .facts) (w .2) ∙ w .1 .ensures) (λ w. ap (λ (r : Walked). r .facts) (w .1) ∙ no-entries _ _ _ (w .0 .left))
+    (c .before .before .before .before .before .before .before .before .before .before
+    .before .before .before .before .before .before .if8 .came))
+    (assumed _ _ _ (c .before .before .before .before .before .before .before .before .before .before .before .before .before .before .before
+    .ask-condition2 .ensures) (c .before .before .before .before .before .before .before .before
+    .before .before .before .before .before .before .answer3 .ensures)
+    (c .before .before .before .before .before .before .before .before .before .before .before .before .before .assume3 .ensures)
+    (c .before .before .before .before .before .before .before .before .before .before .before .before
+    .after4 .ensures)) (c .before .before .before .before .before .before .before .before .before .before .before .walk3 .ensures)
+    (c .before .before .before .before .before .before .before .before .before .enum-told13 .given .1)
+    (c .before .before .before .before .before .before .before .before
+    .check-entries2 .ensures) (c .before .before .before .before .before .before .enum-told15 .given .1)
+    (c .before .before .before .before .before .same-rows3 .ensures) (not-false _ (c .before .before .before .before .if9 .left))
+    (c .before .before .before .negated2 .ensures)
+    (assumed _ _ _ (negated-asked _ _ (c .before .before .before .negated2 .ensures)
+    (c .before .before .before .before .before .before .before .before .before .before .before .before .before .before .before .ask-condition2 .ensures))
+    (c .before .before .before .before .before .before .before
+    .before .before .before .before .before .before .before .answer3 .ensures) (c .before .before .assume4 .ensures) (c .before .after5 .ensures)))
     (λ c. search needs)
     (λ c. let u = (arm (turn t (c .before .before .before)) (c .before .statement4 .given .1)) in omega (arith, placed u, bundle-count u))
     (λ c κs. (
@@ -290,20 +589,31 @@ pub +walk-spec : {M : Type 1} → statement M
     ))
     (λ c. search needs)
     (λ c. search needs)
-    (λ c. bundle-refused (arm (turn t (c .before .before .before .before .before .before)) (c .before .before .before .before .statement4 .given .1)) (c .before .before .walk-bundle .ensures) (c .enum-told18 .given .1))
+    (λ c. bundle-refused (arm (turn t (c .before .before .before .before .before .before)) (c .before .before .before .before .statement4 .given .1))
+    (c .before .before .walk-bundle .ensures) (c .enum-told18 .given .1))
     (λ c κs. search needs)
     (λ c κs. search needs)
     (λ c. omega (arith, (turn t (c .before .before .before .before .before .before .before .before .before .before)) .some))
-    (λ c. turn-bundle (arm (turn t (c .before .before .before .before .before .before .before .before .before .before)) (c .before .before .before .before .before .before .before .before .statement4 .given .1))
-    (c .before .before .before .before .before .before .walk-bundle .ensures) (c .before .before .before .before .enum-told17 .given .1) (c .force-of2 .ensures))
+    (λ c. turn-bundle (arm (turn t (c .before .before .before .before .before .before .before .before .before .before))
+    (c .before .before .before .before .before .before .before .before .statement4 .given .1))
+    (c .before .before .before .before .before .before .walk-bundle .ensures) (c .before .before .before .before .enum-told17 .given .1)
+    (c .force-of2 .ensures))
     (λ c. omega (arith, (turn t (c .before .before .before .before .before .before .before .before .before)) .some))
-    (λ c. turn-bundle (arm (turn t (c .before .before .before .before .before .before .before .before .before)) (c .before .before .before .before .before .before .before .statement4 .given .1)) (c .before .before .before .before .before .walk-bundle .ensures) (c .before .before .before .enum-told17 .given .1) (same-force ((turn t (c .before .before .before .before .before .before .before .before .before)) .so-far .forced) (c .before .same-rows4 .ensures) (not-false _ (c .if10 .left))))
+    (λ c. turn-bundle (arm (turn t (c .before .before .before .before .before .before .before .before .before))
+    (c .before .before .before .before .before .before .before .statement4 .given .1)) (c .before .before .before .before .before .walk-bundle .ensures)
+    (c .before .before .before .enum-told17 .given .1)
+    (same-force ((turn t (c .before .before .before .before .before .before .before .before .before)) .so-far .forced) (c .before .same-rows4 .ensures)
+    (not-false _ (c .if10 .left))))
     (λ c. search needs)
     (λ c κs. search needs)
     (λ c. search needs)
     (λ c. search needs)
-    (λ c. call-refused (arm (turn t (c .before .before .before .before .before .before .before)) (c .before .before .before .before .before .statement5 .given .1)) (c .before .before .before .check-call .ensures) refl (c .before .enum-told20 .given .1))
+    (λ c. call-refused (arm (turn t (c .before .before .before .before .before .before .before))
+    (c .before .before .before .before .before .statement5 .given .1)) (c .before .before .before .check-call .ensures) refl
+    (c .before .enum-told20 .given .1))
     (λ c κs. search needs)
     (λ c. omega (arith, (turn t (c .before .before .before .before .before .before .before)) .some))
-    (λ c. turn-call (arm (turn t (c .before .before .before .before .before .before .before)) (c .before .before .before .before .before .statement5 .given .1)) (c .before .before .before .check-call .ensures) (c .before .enum-told19 .given .1) (c .drop-result .ensures))
-    (λ c. ⊎-elim (λ w. kept-done (c .before .before .before .before .loop .inv) (w .left) refl refl refl refl) (λ w. kept-end (c .before .before .before .before .loop .inv) (w .1 .taken) refl refl refl refl) (c .before .before .before .loop-test .came))
+    (λ c. turn-call (arm (turn t (c .before .before .before .before .before .before .before)) (c .before .before .before .before .before .statement5 .given .1))
+    (c .before .before .before .check-call .ensures) (c .before .enum-told19 .given .1) (c .drop-result .ensures))
+    (λ c. ⊎-elim (λ w. kept-done (c .before .before .before .before .loop .inv) (w .left) refl refl refl refl)
+    (λ w. kept-end (c .before .before .before .before .loop .inv) (w .1 .taken) refl refl refl refl) (c .before .before .before .loop-test .came))

@@ -13,4 +13,11 @@ argument-fits-spec =
     (λ c κs. search needs)
     (λ c κs. search needs)
     (λ c κs. search needs)
-    (λ c. simp (c .bounds-fit .ensures, c .before .is-pointer .ensures, c .before .before .kind-fits .ensures, c .before .before .before .argument .ensures, c .before .before .before .before .is-parameter .ensures)))
+    (λ c. simp (
+      c .bounds-fit .ensures,
+      c .before .is-pointer .ensures,
+      c .before .before .kind-fits .ensures,
+      c .before .before .before .argument .ensures,
+      c
+          .before .before .before .before .is-parameter .ensures,
+    )))

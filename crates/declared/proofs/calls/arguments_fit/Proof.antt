@@ -14,4 +14,12 @@ arguments-fit-spec =
     (λ c κs. search needs)
     (λ c κs. search needs)
     (λ c κs. search needs)
-    (λ c. simp (c .argument-fits4 .ensures, c .before .argument-fits3 .ensures, c .before .before .argument-fits2 .ensures, c .before .before .before .argument-fits .ensures, c .before .before .before .before .last-integer .ensures, c .before .before .before .before .before .in-order .ensures)))
+    (λ c. simp (
+      c .argument-fits4 .ensures,
+      c .before .argument-fits3 .ensures,
+      c .before .before .argument-fits2 .ensures,
+      c .before .before .before
+          .argument-fits .ensures,
+      c .before .before .before .before .last-integer .ensures,
+      c .before .before .before .before .before .in-order .ensures,
+    )))

@@ -13,4 +13,5 @@ check-call-spec =
     (λ c. checked-refused _ _ _ _ _ _ refl (c .before .before .check-callee .ensures) (c .enum-told2 .given .1))
     (λ c κs. search needs)
     (λ c κs. result-short _ (c .result-effect .ensures))
-    (λ c. checked-through _ _ _ _ _ _ refl (c .before .before .before .before .check-callee .ensures) (c .before .before .enum-told .given .1) (c .before .before .before .before .before .drop-result .ensures) (c .before .result-effect .ensures) (c .check-effect .ensures)))
+    (λ c. checked-through _ _ _ _ _ _ refl (c .before .before .before .before .check-callee .ensures) (c .before .before .enum-told .given .1)
+    (c .before .before .before .before .before .drop-result .ensures) (c .before .result-effect .ensures) (c .check-effect .ensures)))

@@ -14,4 +14,12 @@ in-order-spec =
     (λ c κs. search needs)
     (λ c κs. search needs)
     (λ c κs. search needs)
-    (λ c. simp (c .is-parameter6 .ensures, c .before .is-parameter5 .ensures, c .before .before .is-parameter4 .ensures, c .before .before .before .is-parameter3 .ensures, c .before .before .before .before .is-parameter2 .ensures, c .before .before .before .before .before .is-parameter .ensures)))
+    (λ c. simp (
+      c .is-parameter6 .ensures,
+      c .before .is-parameter5 .ensures,
+      c .before .before .is-parameter4 .ensures,
+      c .before .before .before
+          .is-parameter3 .ensures,
+      c .before .before .before .before .is-parameter2 .ensures,
+      c .before .before .before .before .before .is-parameter .ensures,
+    )))

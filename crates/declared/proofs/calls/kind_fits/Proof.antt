@@ -14,4 +14,12 @@ kind-fits-spec =
     (λ c κs. search needs)
     (λ c κs. search needs)
     (λ c κs. search needs)
-    (λ c. simp (c .alike2 .ensures, c .before .is-string2 .ensures, c .before .before .is-string .ensures, c .before .before .before .alike .ensures, c .before .before .before .before .is-pointer2 .ensures, c .before .before .before .before .before .is-pointer .ensures)))
+    (λ c. simp (
+      c .alike2 .ensures,
+      c .before .is-string2 .ensures,
+      c .before .before .is-string .ensures,
+      c .before .before .before .alike .ensures,
+      c .before
+          .before .before .before .is-pointer2 .ensures,
+      c .before .before .before .before .before .is-pointer .ensures,
+    )))

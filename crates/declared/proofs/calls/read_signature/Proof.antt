@@ -10,4 +10,10 @@ read-signature-spec =
     tie.close
     (tie.spec
     (λ c κs. search needs) (λ c κs. search needs) (λ c κs. search needs) (λ c κs. search needs)
-    (λ c. simp (c .read-declared .ensures, c .before .read-strings .ensures, c .before .before .read-pointers .ensures, c .before .before .before .sections-of .ensures)))
+    (λ c. simp (
+      c .read-declared .ensures,
+      c .before .read-strings .ensures,
+      c .before .before .read-pointers .ensures,
+      c .before .before .before .sections-of
+          .ensures,
+    )))

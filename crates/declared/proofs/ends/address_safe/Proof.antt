@@ -14,6 +14,15 @@ address-safe-spec =
     (λ c. search needs) (λ c κs. search needs)
     (λ c. simp (sym (c .before .shows .ensures) ∙ not-true _ (c .if1 .taken)))
     (λ c κs. search needs)
-    (λ c. simp (sym (c .before .before .before .shows .ensures) ∙ not-false _ (c .before .before .if1 .left), sym (c .before .known-at-most .ensures) ∙ not-true _ (c .if2 .taken)))
+    (λ c. simp (
+      sym (c .before .before .before .shows .ensures) ∙ not-false _ (c .before .before .if1 .left),
+      sym (c .before .known-at-most .ensures)
+          ∙ not-true _ (c .if2 .taken),
+    ))
     (λ c. search needs) (λ c κs. search needs)
-    (λ c. simp (sym (c .before .before .before .before .shows .ensures) ∙ not-false _ (c .before .before .before .if1 .left), sym (c .before .before .known-at-most .ensures) ∙ not-false _ (c .before .if2 .left)) (c .known-at-most2 .ensures)))
+    (λ c. simp (
+      sym (c .before .before .before .before .shows .ensures)
+          ∙ not-false _ (c .before .before .before .if1 .left),
+      sym (c .before .before .known-at-most .ensures) ∙ not-false _ (c .before .if2 .left),
+    )
+    (c .known-at-most2 .ensures)))

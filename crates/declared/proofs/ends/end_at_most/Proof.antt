@@ -15,6 +15,14 @@ end-at-most-spec =
     (λ c κs. search needs)
     (λ c. simp (sym (c .before .comparable-ends .ensures) ∙ not-true _ (c .if1 .taken)))
     (λ c κs. search needs)
-    (λ c. simp (sym (c .before .before .before .comparable-ends .ensures) ∙ not-false _ (c .before .before .if1 .left), sym (c .before .same-end .ensures) ∙ c .if2 .taken))
+    (λ c. simp (
+      sym (c .before .before .before .comparable-ends .ensures) ∙ not-false _ (c .before .before .if1 .left),
+      sym (c .before .same-end .ensures)
+          ∙ c .if2 .taken,
+    ))
     (λ c κs. search needs)
-    (λ c. simp (sym (c .before .before .before .before .comparable-ends .ensures) ∙ not-false _ (c .before .before .before .if1 .left), sym (c .before .before .same-end .ensures) ∙ c .before .if2 .left) (c .shows-end .ensures)))
+    (λ c. simp (
+      sym (c .before .before .before .before .comparable-ends .ensures)
+          ∙ not-false _ (c .before .before .before .if1 .left),
+      sym (c .before .before .same-end .ensures) ∙ c .before .if2 .left,
+    ) (c .shows-end .ensures)))

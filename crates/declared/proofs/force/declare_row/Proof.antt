@@ -13,5 +13,7 @@ declare-row-spec =
     (λ c κs. omega (arith, c .before .before .pre .2)) (λ c. search needs) (λ c. search needs)
     (λ c. row-refused _ _ _ _ (c .before .before .before .before .before .pre .0) refl (c .before .before .check-row .ensures) (c .enum-told2 .given .1) refl)
     (λ c κs. search needs) (λ c κs. search needs) (λ c κs. search needs) (λ c κs. search needs)
-    (λ c. row-taken _ _ _ _ (c .before .before .before .before .before .before .before .before .before .pre .0) refl (c .before .before .before .before .before .before .check-row .ensures)
-    (c .before .before .before .before .enum-told .given .1) (c .before .before .before .with-row .ensures) (c .before .before .force-of .ensures) (c .before .bounds-after .ensures) (c .check-known .ensures) refl))
+    (λ c. row-taken _ _ _ _ (c .before .before .before .before .before .before .before .before .before .pre .0) refl
+    (c .before .before .before .before .before .before .check-row .ensures)
+    (c .before .before .before .before .enum-told .given .1) (c .before .before .before .with-row .ensures) (c .before .before .force-of .ensures)
+    (c .before .bounds-after .ensures) (c .check-known .ensures) refl))

@@ -14,7 +14,11 @@ assume-entries-spec =
     (λ listed at facts₀ n e₀ facts e. n - e)
     (λ c κs. search needs)
     (λ c. assumed-none _ _ _ _)
-    (λ c κs. (omega (arith, c .loop-test .taken, c .before .before .entry-count .ensures, c .before .before .before .pre .0), c .before .before .before .pre .1))
+    (λ c κs. (
+      omega (arith, c .loop-test .taken, c .before .before .entry-count .ensures, c .before .before .before .pre .0),
+      c .before .before .before .pre
+          .1,
+    ))
     (λ c. omega arith)
     (λ c. omega arith)
     (λ c. assumed-more (c .before .before .loop .inv) (c .before .loop-test .taken) (c .assume-entry .ensures))

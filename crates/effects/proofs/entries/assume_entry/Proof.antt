@@ -12,4 +12,5 @@ assume-entry-spec =
     (λ c κs. search needs)
     (λ c. simp (sym (c .before .belongs .ensures) ∙ not-true _ (c .if1 .taken)))
     (λ c κs. search needs) (λ c κs. search needs)
-    (λ c. simp (sym (c .before .before .before .belongs .ensures) ∙ not-false _ (c .before .before .if1 .left), sym (c .before .entry-at .ensures)) (c .add .ensures)))
+    (λ c. simp (sym (c .before .before .before .belongs .ensures) ∙ not-false _ (c .before .before .if1 .left), sym (c .before .entry-at .ensures))
+    (c .add .ensures)))

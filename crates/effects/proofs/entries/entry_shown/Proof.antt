@@ -14,4 +14,5 @@ entry-shown-spec =
     (λ c κs. search needs)
     (λ c. simp (sym (c .before .belongs .ensures) ∙ not-true _ (c .if1 .taken)))
     (λ c κs. search needs) (λ c κs. search needs)
-    (λ c. simp (sym (c .before .before .before .belongs .ensures) ∙ not-false _ (c .before .before .if1 .left), sym (c .before .entry-at .ensures)) (c .shows .ensures)))
+    (λ c. simp (sym (c .before .before .before .belongs .ensures) ∙ not-false _ (c .before .before .if1 .left), sym (c .before .entry-at .ensures))
+    (c .shows .ensures)))

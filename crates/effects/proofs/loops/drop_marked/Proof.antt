@@ -25,5 +25,9 @@ drop-marked-spec =
     Inv-loop μ-loop
     (λ c. (dropped-none _ _, search needs))
     (λ c. search needs) (λ c κs. search needs) (λ c κs. search needs) (λ c. search needs) (λ c. search needs)
-    (λ c. let at = c .before .before .before .loop in (⊎-elim (λ w. drop-marked _ _ _ (at .inv .0) (w .0 .taken) (drop-made _ (w .2 .ensures) (w .1 .ensures)) (w .3)) (λ w. drop-unmarked _ _ _ (at .inv .0) (w .0 .left) (w .1)) (c .if1 .came), search needs))
+    (λ c. let at = c .before .before .before .loop in (
+      ⊎-elim (λ w. drop-marked _ _ _ (at .inv .0) (w .0 .taken) (drop-made _ (w .2 .ensures) (w .1 .ensures)) (w .3))
+          (λ w. drop-unmarked _ _ _ (at .inv .0) (w .0 .left) (w .1)) (c .if1 .came),
+      search needs,
+    ))
     (λ c. drop-done _ _ _ (c .before .loop .inv .0) (omega (arith, c .before .loop .inv .1, c .loop-test .left))))

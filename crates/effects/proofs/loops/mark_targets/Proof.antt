@@ -8,7 +8,8 @@ use Rattle.effects.proofs.loops.mark_targets.Statement.{statement}
 use Rattle.effects.proofs.loops.mark_targets.Tie as tie
 
 abbrev Inv-loop : tie.InvT-loop
-Inv-loop table sections first count marks₀ at₀ left₀ marks at left = (marked noMarks (targetsFrom table sections first count) ≡ marked (marks .each) (targetsFrom table sections at left)) × (at + left ≡ first + count)
+Inv-loop table sections first count marks₀ at₀ left₀ marks at
+    left = (marked noMarks (targetsFrom table sections first count) ≡ marked (marks .each) (targetsFrom table sections at left)) × (at + left ≡ first + count)
 
 abbrev μ-loop : tie.MeasureT-loop
 μ-loop table sections first count marks₀ at₀ left₀ marks at left = left
@@ -20,5 +21,6 @@ mark-targets-spec =
     Inv-loop μ-loop
     (λ c. (refl, refl))
     (λ c κs. search needs) (λ c κs. search needs) (λ c. search needs) (λ c. search needs) (λ c. search needs)
-    (λ c. let at = c .before .before .before .loop in (at .inv .0 ∙ mark-more _ _ _ _ _ (c .before .before .loop-test .taken) (c .before .read-due .ensures) (c .mark-target .ensures), search needs))
+    (λ c. let at = c .before .before .before .loop in
+    (at .inv .0 ∙ mark-more _ _ _ _ _ (c .before .before .loop-test .taken) (c .before .read-due .ensures) (c .mark-target .ensures), search needs))
     (λ c. sym (c .before .loop .inv .0 ∙ mark-none _ _ _ _ _ (c .loop-test .left))))

@@ -27,6 +27,10 @@ lay-own-spec =
     (λ c. search needs)
     (λ c. let n : length (c .before .before .before .args .environment .declared) ≡ 16 = search (length-under, needs) in omega (arith, c .loop-test .taken))
     (λ c κs. search needs) (λ c. search needs) (λ c. search needs) (λ c. search needs) (λ c. search needs)
-    (λ c. let n : length (c .before .before .before .before .before .args .environment .declared) ≡ 16 = search (length-under, needs) in filled-more (c .before .before .before .loop .inv) (search needs)
-    (c .bounds-number .ensures ∙ ap (λ (x : Bounds). boundsNumber x (c .before .before .before .loop .i % 6)) (any-default (c .before .before .before .before .before .args .environment .declared) (c .before .before .before .loop .i / 6) _ _ (omega (arith, c .before .before .loop-test .taken)))))
+    (λ c. let n : length (c .before .before .before .before .before .args .environment .declared)
+    ≡ 16 = search (length-under, needs) in filled-more (c .before .before .before .loop .inv) (search needs)
+    (c .bounds-number .ensures
+    ∙ ap (λ (x : Bounds). boundsNumber x (c .before .before .before .loop .i % 6))
+    (any-default (c .before .before .before .before .before .args .environment .declared) (c .before .before .before .loop .i / 6) _ _
+    (omega (arith, c .before .before .loop-test .taken)))))
     (λ c. filled-whole (c .before .loop .inv) (c .loop-test .left)))

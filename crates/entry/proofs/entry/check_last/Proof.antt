@@ -12,7 +12,9 @@ use Rattle.entry.proofs.entry.check_last.Statement.{statement}
 use Rattle.entry.proofs.entry.check_last.Tie as tie
 
 abbrev Inv-loop : tie.InvT-loop
-Inv-loop environment directory cells count o₀ o = (failures (lastRight environment directory cells) LastCell count 0 ≡ failures (lastRight environment directory cells) LastCell (count - o) o) × (o ≤ count)
+Inv-loop environment directory cells count o₀
+    o = (failures (lastRight environment directory cells) LastCell count 0 ≡ failures (lastRight environment directory cells) LastCell (count - o) o)
+    × (o ≤ count)
 
 abbrev μ-loop : tie.MeasureT-loop
 μ-loop environment directory cells count o₀ o = count - o
@@ -24,13 +26,16 @@ check-last-spec =
     Inv-loop μ-loop
     (λ c. let z : c .before .before .args .sections .objects - 0 ≡ c .before .before .args .sections .objects = omega arith in (rw z, omega arith))
     (λ c κs. omega (arith, c .before .before .before .before .pre, c .loop-test .taken))
-    (λ c. failures-first _ _ (c .before .before .before .before .before .before .args .sections .objects - c .before .before .before .loop .o) _ (omega (arith, c .before .before .loop-test .taken)) (sym (c .before .last-right .ensures) ∙ not-true _ (c .if1 .taken))
+    (λ c. failures-first _ _ (c .before .before .before .before .before .before .args .sections .objects - c .before .before .before .loop .o) _
+    (omega (arith, c .before .before .loop-test .taken)) (sym (c .before .last-right .ensures) ∙ not-true _ (c .if1 .taken))
     ∙ ap entered (sym (c .before .before .before .loop .inv .0)))
     (λ c. search needs)
     (λ c. omega (arith, c .before .before .loop-test .taken))
     (λ c. (
       c .before .before .before .loop .inv .0
-          ∙ failures-next _ _ _ (c .before .before .before .before .before .before .args .sections .objects - (c .before .before .before .loop .o + 1)) _ (omega (arith, c .before .before .loop-test .taken)) (sym (c .before .last-right .ensures) ∙ not-false _ (c .if1 .left)),
+          ∙ failures-next _ _ _ (c .before .before .before .before .before .before .args .sections .objects - (c .before .before .before .loop .o + 1)) _
+          (omega (arith, c .before .before .loop-test .taken)) (sym (c .before .last-right .ensures) ∙ not-false _ (c .if1 .left)),
       omega (arith, c .before .before .loop-test .taken),
     ))
-    (λ c. failures-none _ _ (c .before .before .before .before .args .sections .objects - c .before .loop .o) _ (omega (arith, c .loop-test .left)) ∙ ap entered (sym (c .before .loop .inv .0))))
+    (λ c. failures-none _ _ (c .before .before .before .before .args .sections .objects - c .before .loop .o) _ (omega (arith, c .loop-test .left))
+    ∙ ap entered (sym (c .before .loop .inv .0))))

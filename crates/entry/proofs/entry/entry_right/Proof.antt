@@ -10,6 +10,14 @@ entry-right-spec =
     tie.close
     (tie.spec
     (λ c κs. search needs) (λ c κs. search needs) (λ c κs. search needs)
-    (λ c. simp (c .bounds-true .ensures, simp (c .before .before .value-at .ensures .0, c .before .before .before .is-pointer .ensures) at (c .before .if1 .taken)))
+    (λ c. simp (
+      c .bounds-true .ensures,
+      simp (c .before .before .value-at .ensures .0, c .before .before .before .is-pointer .ensures) at
+          (c .before .if1 .taken),
+    ))
     (λ c κs. search needs)
-    (λ c. simp (c .value-at2 .ensures .0, simp (c .before .before .value-at .ensures .0, c .before .before .before .is-pointer .ensures) at (c .before .if1 .left))))
+    (λ c. simp (
+      c .value-at2 .ensures .0,
+      simp (c .before .before .value-at .ensures .0, c .before .before .before .is-pointer .ensures) at
+          (c .before .if1 .left),
+    )))

@@ -10,5 +10,13 @@ unfolding lastRight boundsRules.upperLimit
 last-right-spec =
     tie.close
     (tie.spec
-    (λ c. search needs) (λ c κs. search needs) (λ c. search needs) (λ c. search needs) (λ c κs. search needs) (λ c. search needs) (λ c κs. search needs) (λ c κs. search needs) (λ c κs. search needs)
-    (λ c. rw (c .value-at3 .ensures .0, c .before .is-terminated .ensures, c .before .before .upper-limit .ensures .0, c .before .before .before .value-at2 .ensures .0, c .before .before .before .before .value-at .ensures .0)))
+    (λ c. search needs) (λ c κs. search needs) (λ c. search needs) (λ c. search needs) (λ c κs. search needs) (λ c. search needs) (λ c κs. search needs)
+    (λ c κs. search needs) (λ c κs. search needs)
+    (λ c. rw (
+      c .value-at3 .ensures .0,
+      c .before .is-terminated .ensures,
+      c .before .before .upper-limit .ensures .0,
+      c .before .before .before .value-at2
+          .ensures .0,
+      c .before .before .before .before .value-at .ensures .0,
+    )))

@@ -11,4 +11,10 @@ pair-right-spec =
     (tie.spec
     (λ c. search needs) (λ c κs. search needs) (λ c. search needs) (λ c. search needs) (λ c κs. search needs) (λ c κs. search needs)
     (λ c. search needs) (λ c κs. search needs)
-    (λ c. rw (c .length-at .ensures, c .before .end-before .ensures, c .before .before .before .value-at .ensures .0, c .before .before .value-at2 .ensures .0)))
+    (λ c. rw (
+      c .length-at .ensures,
+      c .before .end-before .ensures,
+      c .before .before .before .value-at .ensures .0,
+      c .before .before .value-at2 .ensures
+          .0,
+    )))

@@ -16,15 +16,27 @@ bounds-true-spec =
     (λ c κs. search needs)
     (λ c. rw (eq-eqb _ _ (sym (c .before .value-at .ensures .0) ∙ c .if1 .taken)))
     (λ c κs. search needs)
-    (λ c. rw (ne-eqb _ _ (λ e. c .before .before .if1 .left (c .before .before .before .value-at .ensures .0 ∙ e))) (origin-none _ _ _ _ _ _ (sym (c .before .value-at2 .ensures .0) ∙ c .if2 .taken)))
+    (λ c. rw (ne-eqb _ _ (λ e. c .before .before .if1 .left (c .before .before .before .value-at .ensures .0 ∙ e)))
+    (origin-none _ _ _ _ _ _ (sym (c .before .value-at2 .ensures .0) ∙ c .if2 .taken)))
     (λ c. search needs) (λ c. search needs) (λ c. search needs)
     (λ c. rw (ne-eqb _ _ (λ e. c .before .before .before .if1 .left (c .before .before .before .before .value-at .ensures .0 ∙ e)))
-    (origin-past _ _ _ _ _ _ (λ e. c .before .if2 .left (c .before .before .value-at2 .ensures .0 ∙ e)) (omega (arith, c .if3 .taken, c .before .before .value-at2 .ensures .0))))
+    (origin-past _ _ _ _ _ _ (λ e. c .before .if2 .left (c .before .before .value-at2 .ensures .0 ∙ e))
+    (omega (arith, c .if3 .taken, c .before .before .value-at2 .ensures .0))))
     (λ c κs. search needs) (λ c κs. search needs) (λ c. search needs) (λ c κs. search needs) (λ c κs. search needs)
     (λ c κs. search needs) (λ c κs. search needs) (λ c κs. search needs) (λ c κs. search needs) (λ c. search needs)
-    (λ c κs. (search needs, rw (c .before .before .size-at .ensures) (c .before .before .before .before .before .before .before .before .before .before .before .before .before .before .before .before .before .before .before .before .pre _)))
+    (λ c κs. (
+      search needs,
+      rw (c .before .before .size-at .ensures)
+          (c .before .before .before .before .before .before .before .before .before .before .before .before .before .before .before .before .before .before
+          .before .before .pre _),
+    ))
     (λ c κs. search needs) (λ c. search needs)
-    (λ c κs. (search needs, rw (c .before .before .before .before .size-at .ensures) (c .before .before .before .before .before .before .before .before .before .before .before .before .before .before .before .before .before .before .before .before .before .before .pre _)))
+    (λ c κs. (
+      search needs,
+      rw (c .before .before .before .before .size-at .ensures)
+          (c .before .before .before .before .before .before .before .before .before .before .before .before .before .before .before .before .before .before
+          .before .before .before .before .pre _),
+    ))
     (λ c. rw (
       c .ends-by .ensures,
       c .before .before .starts-by .ensures,
@@ -37,12 +49,18 @@ bounds-true-spec =
       c .before .before .before .before .before .before .before .before .is-terminated .ensures,
       c .before .before .before .before .before .before .before .before .before .before .before .before .before .object-end .ensures .0,
       c .before .before .before .before .before .before .before .before .before .before .before .before .before .before .value-at3 .ensures .0,
-      c .before .before .before .before .before .before .before .before .before .before .before .before .before .before .before .before .before .value-at2 .ensures .0,
-      ne-eqb _ _ (λ e. c .before .before .before .before .before .before .before .before .before .before .before .before .before .before .before .before .before .before .if1 .left
-          (c .before .before .before .before .before .before .before .before .before .before .before .before .before .before .before .before .before .before .before .value-at .ensures .0 ∙ e)),
-    ) (origin-some _ _ _ _ _ _ (λ e. c .before .before .before .before .before .before .before .before .before .before .before .before .before .before .before .before .if2 .left
-    (c .before .before .before .before .before .before .before .before .before .before .before .before .before .before .before .before .before .value-at2 .ensures .0 ∙ e)) (omega (
+      c .before .before .before .before .before .before .before .before .before .before .before .before .before .before .before .before .before .value-at2
+          .ensures .0,
+      ne-eqb _ _ (λ e. c .before .before .before .before .before .before .before .before .before .before .before .before .before .before .before .before .before
+          .before .if1 .left
+          (c .before .before .before .before .before .before .before .before .before .before .before .before .before .before .before .before .before .before
+          .before .value-at .ensures .0 ∙ e)),
+    ) (origin-some _ _ _ _ _ _
+    (λ e. c .before .before .before .before .before .before .before .before .before .before .before .before .before .before .before .before .if2 .left
+    (c .before .before .before .before .before .before .before .before .before .before .before .before .before .before .before .before .before .value-at2
+    .ensures .0 ∙ e)) (omega (
       arith,
       c .before .before .before .before .before .before .before .before .before .before .before .before .before .before .before .if3 .left,
-      c .before .before .before .before .before .before .before .before .before .before .before .before .before .before .before .before .before .value-at2 .ensures .0,
+      c .before .before .before .before .before .before .before .before .before .before .before .before .before .before .before .before .before .value-at2
+          .ensures .0,
     )))))

@@ -13,6 +13,13 @@ ends-by-spec =
     tie.close
     (tie.spec
     (λ c κs. search needs) (λ c κs. search needs) (λ c κs. search needs) (λ c. search needs)
-    (λ c. let a = c .before .before .before .before .before .before .args in sym (lt-leb (endValue (now (a .values)) (a .size) (a .e)) (a .high) (omega (arith, c .if1 .taken, c .before .before .before .before .before .before .pre .0))))
+    (λ c. let a = c .before .before .before .before .before .before .args in sym
+    (lt-leb (endValue (now (a .values)) (a .size) (a .e)) (a .high)
+    (omega (arith, c .if1 .taken, c .before .before .before .before .before .before .pre .0))))
     (λ c. search needs)
-    (λ c. rw (c .before .before .before .before .before .value-at .ensures .0, c .before .before .before .scaled .ensures .0, c .before .before .before .before .value-at2 .ensures .0)))
+    (λ c. rw (
+      c .before .before .before .before .before .value-at .ensures .0,
+      c .before .before .before .scaled .ensures .0,
+      c .before .before .before .before
+          .value-at2 .ensures .0,
+    )))

@@ -11,7 +11,14 @@ mizzengrape-dispatch-spec =
     (tie.spec
     (λ c. no-words _ _ _ _ _ _ (c .if1 .taken))
     (λ c κs. search needs)
-    (λ c κs. (few-ran _ _ _ _ _ _ _ _ (c .before .before .before .before .before .before .before .before .before .before .dispatch .ensures), c .before .before .before .before .before .before .before .before .before .before .before .before .before .before .before .if1 .left))
+    (λ c κs. (
+      few-ran _ _ _ _ _ _ _ _ (c .before .before .before .before .before .before .before .before .before .before .dispatch .ensures),
+      c .before .before
+          .before .before .before .before .before .before .before .before .before .before .before .before .before .if1 .left,
+    ))
     (λ c. search needs) (λ c. search needs) (λ c. search needs) (λ c. search needs) (λ c. search needs)
-    (λ c. said-answered _ _ _ _ _ _ _ _ _ _ _ (c .before .before .before .before .before .before .before .before .before .before .before .before .before .before .before .before .before .before .if1 .left) _
-    (c .before .before .before .before .before .before .before .before .before .before .before .before .before .dispatch .ensures) (c .before .before .put-said .ensures .0) (c .before .before .put-said .ensures .1)))
+    (λ c. said-answered _ _ _ _ _ _ _ _ _ _ _
+    (c .before .before .before .before .before .before .before .before .before .before .before .before .before .before .before .before .before .before .if1
+    .left) _
+    (c .before .before .before .before .before .before .before .before .before .before .before .before .before .dispatch .ensures)
+    (c .before .before .put-said .ensures .0) (c .before .before .put-said .ensures .1)))

@@ -9,4 +9,5 @@ put-outcome-at-spec =
     tie.close
     (tie.spec
     (λ c. search needs) (λ c. search needs) (λ c. search needs) (λ c. search needs) (λ c κs. search needs) (λ c. search needs)
-    (λ c. tail-put (c .before .before .before .before .before .args .at) _ (c .before .before .before .before .before .args .answer .now) _ (c .before .before .put-outcome .ensures)))
+    (λ c. tail-put (c .before .before .before .before .before .args .at) _ (c .before .before .before .before .before .args .answer .now) _
+    (c .before .before .put-outcome .ensures)))

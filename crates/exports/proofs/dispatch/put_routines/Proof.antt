@@ -28,7 +28,14 @@ put-routines-spec =
     (λ c. omega (arith, c .loop-test .taken, c .before .before .before .pre .0))
     (λ c. omega (arith, c .before .before .loop-test .taken, c .before .before .before .before .before .pre .0))
     (λ c. omega (arith, c .before .before .loop-test .taken, c .before .before .before .before .before .pre .0))
-    (λ c κs. omega (arith, c .before .before .loop-test .taken, c .before .before .before .before .before .pre .0, c .before .before .before .before .before .pre .1, c .before .before .before .loop .inv .2))
+    (λ c κs. omega (
+      arith,
+      c .before .before .loop-test .taken,
+      c .before .before .before .before .before .pre .0,
+      c .before .before .before .before .before
+          .pre .1,
+      c .before .before .before .loop .inv .2,
+    ))
     (λ c. omega (arith, c .before .before .before .before .before .loop-test .taken, c .before .before .before .before .before .before .before .before .pre .0))
     (λ c. omega (arith, c .before .before .before .before .before .loop-test .taken))
     (λ c. (

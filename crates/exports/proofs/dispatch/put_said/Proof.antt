@@ -16,18 +16,24 @@ put-said-spec =
     (λ c κs. search needs) (λ c κs. search needs) (λ c κs. search needs) (λ c κs. search needs) (λ c. search needs) (λ c κs. search needs)
     (λ c κs. search needs) (λ c. search needs) (λ c κs. search needs) (λ c κs. search needs)
     (λ c κs. (
-      ran-few _ (c .before .before .before .before .before .before .enum-told3 .given .1) (c .before .before .before .before .before .before .before .before .before .pre .0),
+      ran-few _ (c .before .before .before .before .before .before .enum-told3 .given .1)
+          (c .before .before .before .before .before .before .before .before .before .pre .0),
       omega
           (arith, c .before .before .answer4 .given, c .before .before .before .before .before .before .before .before .before .pre .1),
     ))
     (λ c. search needs)
     (λ c. wrong-count-said _ _ _ (c .before .before .before .before .enum-told2 .given .1) (c .before .before .put-five .ensures))
     (λ c. search needs)
-    (λ c. refused-said _ _ _ (c .before .before .before .before .before .before .before .before .before .before .before .said .given .1) (c .before .before .before .before .before .before .before .before .before .refusal-number .ensures)
-    (c .before .before .before .word-of3 .ensures) (c .before .before .before .before .before .before .before .before .refusal-place .ensures) (c .before .before .before .before .before .before .before .word-of .ensures)
-    (c .before .before .before .before .before .before .refusal-pointer .ensures) (c .before .before .before .before .before .word-of2 .ensures) (c .before .before .put-five2 .ensures))
+    (λ c. refused-said _ _ _ (c .before .before .before .before .before .before .before .before .before .before .before .said .given .1)
+    (c .before .before .before .before .before .before .before .before .before .refusal-number .ensures)
+    (c .before .before .before .word-of3 .ensures) (c .before .before .before .before .before .before .before .before .refusal-place .ensures)
+    (c .before .before .before .before .before .before .before .word-of .ensures)
+    (c .before .before .before .before .before .before .refusal-pointer .ensures) (c .before .before .before .before .before .word-of2 .ensures)
+    (c .before .before .put-five2 .ensures))
     (λ c. search needs)
-    (λ c. overlaps-said _ _ _ (c .before .before .before .before .before .before .said2 .given .1) (c .before .before .before .before .word-of4 .ensures) (c .before .before .put-five3 .ensures))
+    (λ c. overlaps-said _ _ _ (c .before .before .before .before .before .before .said2 .given .1) (c .before .before .before .before .word-of4 .ensures)
+    (c .before .before .put-five3 .ensures))
     (λ c. search needs)
-    (λ c. ran-said _ _ _ (c .before .before .before .before .before .before .before .before .before .enum-told3 .given .1) (c .before .before .before .before .before .before .before .word-of5 .ensures) (c .before .before .before .before .before .before .put-five4 .ensures)
+    (λ c. ran-said _ _ _ (c .before .before .before .before .before .before .before .before .before .enum-told3 .given .1)
+    (c .before .before .before .before .before .before .before .word-of5 .ensures) (c .before .before .before .before .before .before .put-five4 .ensures)
     (c .before .before .put-routines .ensures)))

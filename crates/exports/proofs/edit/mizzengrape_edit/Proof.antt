@@ -12,4 +12,6 @@ mizzengrape-edit-spec =
     (tie.spec
     (λ c. no-edit (c .if1 .taken))
     (λ c κs. search needs) (λ c κs. search needs) (λ c κs. search needs) (λ c. search needs) (λ c. search needs) (λ c. search needs)
-    (λ c. edit-words _ _ (c .before .before .before .before .before .before .before .before .before .before .before .if1 .left) (c .before .before .before .before .before .before .before .before .before .before .edit-of .ensures) (c .before .before .before .before .before .before .before .edit-table .ensures) (c .before .before .put-edit .ensures)))
+    (λ c. edit-words _ _ (c .before .before .before .before .before .before .before .before .before .before .before .if1 .left)
+    (c .before .before .before .before .before .before .before .before .before .before .edit-of .ensures)
+    (c .before .before .before .before .before .before .before .edit-table .ensures) (c .before .before .put-edit .ensures)))

@@ -14,4 +14,6 @@ mizzengrape-edit-start-spec =
     (λ c κs. search needs)
     (λ c. simp length-take (omega (arith, c .before .cut-at .ensures)))
     (λ c κs. search needs) (λ c κs. search needs) (λ c. search needs) (λ c. search needs)
-    (λ c. start-words _ _ _ (c .before .before .before .before .before .before .before .before .before .before .if1 .left) (c .before .before .before .before .before .before .before .before .before .cut-at .ensures) (c .before .before .before .before .before .before .start .ensures) (c .before .before .put-edit .ensures)))
+    (λ c. start-words _ _ _ (c .before .before .before .before .before .before .before .before .before .before .if1 .left)
+    (c .before .before .before .before .before .before .before .before .before .cut-at .ensures)
+    (c .before .before .before .before .before .before .start .ensures) (c .before .before .put-edit .ensures)))

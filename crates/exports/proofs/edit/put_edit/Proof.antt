@@ -13,8 +13,21 @@ put-edit-spec =
     (λ c κs. search needs) (λ c κs. search needs)
     (λ c. omega (arith, verdict-long _ _ (c .before .before .before .put-verdict .ensures), c .before .before .before .before .before .before .pre))
     (λ c κs. search needs)
-    (λ c. simp length-set (omega (arith, verdict-long _ _ (c .before .before .before .before .put-verdict .ensures), c .before .before .before .before .before .before .before .pre)))
+    (λ c. simp length-set
+    (omega (
+      arith,
+      verdict-long _ _ (c .before .before .before .before .put-verdict .ensures),
+      c .before .before .before .before .before .before .before
+          .pre,
+    )))
     (λ c κs. search needs)
-    (λ c. simp length-set (omega (arith, verdict-long _ _ (c .before .before .before .before .before .put-verdict .ensures), c .before .before .before .before .before .before .before .before .pre)))
+    (λ c. simp length-set
+    (omega (
+      arith,
+      verdict-long _ _ (c .before .before .before .before .before .put-verdict .ensures),
+      c .before .before .before .before .before .before
+          .before .before .pre,
+    )))
     (λ c. simp length-set (verdict-long _ _ (c .before .before .before .before .before .put-verdict .ensures)))
-    (λ c. put-words _ _ (c .before .before .before .before .before .put-verdict .ensures) (c .before .before .word-of .ensures) (c .before .word-of2 .ensures) (c .flag-of .ensures)))
+    (λ c. put-words _ _ (c .before .before .before .before .before .put-verdict .ensures) (c .before .before .word-of .ensures) (c .before .word-of2 .ensures)
+    (c .flag-of .ensures)))

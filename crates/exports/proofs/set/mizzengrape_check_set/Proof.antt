@@ -12,4 +12,6 @@ mizzengrape-check-set-spec =
     (λ c κs. search needs) (λ c. search needs) (λ c. search needs) (λ c. search needs)
     (λ c. no-member (c .before .before .before .check-set .ensures) (c .enum-told .given .1))
     (λ c κs. search needs) (λ c. search needs) (λ c. search needs)
-    (λ c. checked-set (c .before .before .before .before .before .before .before .before .before .before .if1 .left) (c .before .before .before .before .before .before .before .before .check-set .ensures) (c .before .before .before .before .before .checked .given .1) (c .before .before .put-set-verdict .ensures)))
+    (λ c. checked-set (c .before .before .before .before .before .before .before .before .before .before .if1 .left)
+    (c .before .before .before .before .before .before .before .before .check-set .ensures) (c .before .before .before .before .before .checked .given .1)
+    (c .before .before .put-set-verdict .ensures)))

@@ -14,4 +14,7 @@ mizzengrape-run-set-spec =
     (λ c. no-run-room (c .before .before .before .before .before .before .before .before .before .before .before .run-set .ensures) (c .enum-told .given .1))
     (λ c κs. search needs) (λ c. search needs) (λ c. search needs) (λ c. search needs) (λ c. search needs) (λ c. search needs)
     (λ c. search needs)
-    (λ c. ran-set (c .before .before .before .before .before .before .before .before .before .before .before .before .before .before .before .before .before .before .before .before .before .before .if1 .left) (c .before .before .before .before .before .before .before .before .before .before .before .before .before .before .before .before .run-set .ensures) (c .before .before .before .before .before .ran .given .1) (c .before .before .put-set-outcome .ensures)))
+    (λ c. ran-set (c .before .before .before .before .before .before .before .before .before .before .before .before .before .before .before .before .before
+    .before .before .before .before .before .if1 .left)
+    (c .before .before .before .before .before .before .before .before .before .before .before .before .before .before .before .before .run-set .ensures)
+    (c .before .before .before .before .before .ran .given .1) (c .before .before .put-set-outcome .ensures)))

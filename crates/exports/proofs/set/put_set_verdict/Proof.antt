@@ -12,4 +12,5 @@ put-set-verdict-spec =
     (λ c. search needs) (λ c. search needs)
     (λ c. accepted-set _ (c .before .before .before .before .enum-told .given .1) (c .before .before .put-verdict .ensures))
     (λ c. search needs)
-    (λ c. refused-set _ (c .before .before .before .before .before .before .verdict .given .1) (c .before .before .before .put-verdict2 .ensures) (c .word-of .ensures)))
+    (λ c. refused-set _ (c .before .before .before .before .before .before .verdict .given .1) (c .before .before .before .put-verdict2 .ensures)
+    (c .word-of .ensures)))

@@ -1,4 +1,5 @@
--- `facts::FactSet::after` meets its contract: the first loop takes the rows apart, and the second moves one more row's sum a turn; each turn of the third adds one more
+-- `facts::FactSet::after` meets its contract: the first loop takes the rows apart, and the second moves one more row's sum a turn; each turn of the third adds
+-- one more
 -- fact, and each turn of the fourth, inside it, lowers one more row; the last puts the rows together.
 use Prim.Native.Nat.{ℕ, _+_, _-_, _*_, _<_}
 use mathlib.Core.Path.{_≡_, refl, ap, ap₂, _∙_}
@@ -52,7 +53,8 @@ abbrev μ-loop5 : tie.MeasureT-loop5
 μ-loop5 target base mark sums next₀ i₀ next i = 17 - i
 
 -- The set before the facts are added.
-remade : (c : tie.Joined1 Inv-loop μ-loop Inv-loop2 μ-loop2 Inv-loop4 μ-loop4 Inv-loop3 μ-loop3 Inv-loop5 μ-loop5) → let from = c .before .before .before .args in
+remade : (c : tie.Joined1 Inv-loop μ-loop Inv-loop2 μ-loop2 Inv-loop4 μ-loop4 Inv-loop3 μ-loop3 Inv-loop5 μ-loop5)
+    → let from = c .before .before .before .args in
     setWith (c .if1 .sums) (from .t1 .contradiction) ≡ anew (from .t1) (from .change .target) (from .change .base) (from .change .up) (from .change .down)
 remade c =
     let from = c .before .before .before .args in
@@ -87,30 +89,41 @@ after-spec =
     (tie.spec
     Inv-loop μ-loop Inv-loop2 μ-loop2 Inv-loop4 μ-loop4 Inv-loop3 μ-loop3 Inv-loop5 μ-loop5
     (λ c. loading-none _ _ (search needs))
-    (λ c. row-fits (c .loop-test .taken)) (λ c. c .loop-test .taken) (λ c κs. tt) (λ c. row-fits (c .before .before .loop-test .taken)) (λ c. c .before .before .loop-test .taken)
+    (λ c. row-fits (c .loop-test .taken)) (λ c. c .loop-test .taken) (λ c κs. tt) (λ c. row-fits (c .before .before .loop-test .taken))
+    (λ c. c .before .before .loop-test .taken)
     (λ c. next-fits (c .before .before .loop-test .taken) (lit< tt)) (λ c. falls 17 _ (c .before .before .loop-test .taken))
     (λ c. loading-more _ _ _ (c .before .before .before .loop .inv) (c .before .before .loop-test .taken) (c .sums-of .ensures .0) (c .sums-of .ensures .1))
     (λ c. row-fits (c .if2 .taken)) (λ c. c .if2 .taken) (λ c κs. tt)
     (λ c. let at = c .before .before .before .before .before .loop in
     rerouting-none _ _ _ _ _ (search (length-under, needs)) (loading-long _ _ _ (at .inv) (c .before .before .before .before .loop-test .left)))
-    (λ c. row-fits (c .loop2-test .taken)) (λ c. sum-fits (c .before .before .before .before .if2 .taken)) (λ c. c .loop2-test .taken) (λ c. c .before .before .before .before .if2 .taken) (λ c κs. tt)
-    (λ c. row-fits (c .before .before .loop2-test .taken)) (λ c. sum-fits (a-row (c .before .before .before .before .before .before .before .if1 .taken))) (λ c. c .before .before .loop2-test .taken)
-    (λ c. a-row (c .before .before .before .before .before .before .before .if1 .taken)) (λ c. next-fits (c .before .before .loop2-test .taken) (lit< tt)) (λ c. falls 17 _ (c .before .before .loop2-test .taken))
-    (λ c. rerouting-more _ _ _ _ _ _ (c .before .before .before .loop2 .inv) (c .before .before .loop2-test .taken) (a-row (c .before .before .before .before .before .before .before .if1 .taken)) (c .concat .ensures))
+    (λ c. row-fits (c .loop2-test .taken)) (λ c. sum-fits (c .before .before .before .before .if2 .taken)) (λ c. c .loop2-test .taken)
+    (λ c. c .before .before .before .before .if2 .taken) (λ c κs. tt)
+    (λ c. row-fits (c .before .before .loop2-test .taken)) (λ c. sum-fits (a-row (c .before .before .before .before .before .before .before .if1 .taken)))
+    (λ c. c .before .before .loop2-test .taken)
+    (λ c. a-row (c .before .before .before .before .before .before .before .if1 .taken)) (λ c. next-fits (c .before .before .loop2-test .taken) (lit< tt))
+    (λ c. falls 17 _ (c .before .before .loop2-test .taken))
+    (λ c. rerouting-more _ _ _ _ _ _ (c .before .before .before .loop2 .inv) (c .before .before .loop2-test .taken)
+    (a-row (c .before .before .before .before .before .before .before .if1 .taken)) (c .concat .ensures))
     (λ c. row-fits (a-row (c .before .before .before .before .before .if1 .taken))) (λ c. a-row (c .before .before .before .before .before .if1 .taken))
     (λ c. told-none (ap (λ (f : FactSet). length (f .rows)) (remade (c .before)) ∙ long-anew _ _ _ _ _ (search (length-under, needs))))
     (λ c. fact-fits (c .loop3-test .taken)) (λ c. c .loop3-test .taken)
     (λ c. row-fits (c .before .before .if3 .taken)) (λ c. sum-fits (c .before .if4 .taken)) (λ c. c .before .before .if3 .taken) (λ c. c .before .if4 .taken)
-    (λ c. row-fits (c .before .before .before .if4 .taken)) (λ c. sum-fits (c .before .before .before .before .if3 .taken)) (λ c. c .before .before .before .if4 .taken) (λ c. c .before .before .before .before .if3 .taken) (λ c κs. tt)
+    (λ c. row-fits (c .before .before .before .if4 .taken)) (λ c. sum-fits (c .before .before .before .before .if3 .taken))
+    (λ c. c .before .before .before .if4 .taken) (λ c. c .before .before .before .before .if3 .taken) (λ c κs. tt)
     (λ c. row-fits (c .before .before .before .before .before .before .if4 .taken)) (λ c. c .before .before .before .before .before .before .if4 .taken)
     (λ c κs. tt)
     (λ c. lowering-none (c .before .before .before .before .before .before .before .before .before .before .before .before .loop3 .inv .long))
-    (λ c. row-fits (c .loop4-test .taken)) (λ c. sum-fits (c .before .before .before .before .before .before .before .before .before .before .before .if3 .taken)) (λ c. c .loop4-test .taken)
+    (λ c. row-fits (c .loop4-test .taken))
+    (λ c. sum-fits (c .before .before .before .before .before .before .before .before .before .before .before .if3 .taken)) (λ c. c .loop4-test .taken)
     (λ c. c .before .before .before .before .before .before .before .before .before .before .before .if3 .taken) (λ c κs. tt)
-    (λ c. row-fits (c .before .before .loop4-test .taken)) (λ c. sum-fits (c .before .before .before .before .before .before .before .before .before .before .before .before .if4 .taken)) (λ c. c .before .before .loop4-test .taken)
+    (λ c. row-fits (c .before .before .loop4-test .taken))
+    (λ c. sum-fits (c .before .before .before .before .before .before .before .before .before .before .before .before .if4 .taken))
+    (λ c. c .before .before .loop4-test .taken)
     (λ c. c .before .before .before .before .before .before .before .before .before .before .before .before .if4 .taken)
-    (λ c. row-fits (c .before .before .before .before .loop4-test .taken)) (λ c. c .before .before .before .before .loop4-test .taken) (λ c κs. c .before .before .before .before .before .before .before .all-plain .ensures)
-    (λ c. row-fits (c .before .before .before .before .before .before .loop4-test .taken)) (λ c. c .before .before .before .before .before .before .loop4-test .taken)
+    (λ c. row-fits (c .before .before .before .before .loop4-test .taken)) (λ c. c .before .before .before .before .loop4-test .taken)
+    (λ c κs. c .before .before .before .before .before .before .before .all-plain .ensures)
+    (λ c. row-fits (c .before .before .before .before .before .before .loop4-test .taken))
+    (λ c. c .before .before .before .before .before .before .loop4-test .taken)
     (λ c. next-fits (c .before .before .before .before .loop4-test .taken) (lit< tt)) (λ c. falls 17 _ (c .before .before .before .before .loop4-test .taken))
     (λ c. let at = c .before .before .before .before .before .loop4 in
     let turn = c .before .before .before .before .loop4-test .taken in
@@ -120,16 +133,20 @@ after-spec =
     (λ c. next-fits (c .before .before .loop3-test .taken) (lit< tt)) (λ c. falls 3 _ (c .before .before .loop3-test .taken))
     (λ c. let at = c .before .before .before .loop3 in
     told-more (at .inv) (c .before .before .loop3-test .taken)
-    (⊎-elim (λ w. grid-closed (at .sums) (at .mark) _ _ _ (w .0 .taken) (w .1 .taken) (w .2 .taken) (w .4 .taken) (w .6 .ensures) (w .7 .taken) (ap₂ setWith (w .9) (w .8)))
-    (⊎-elim (λ w. grid-lowered (at .sums) (at .mark) _ _ _ (w .0 .taken) (w .1 .taken) (w .2 .taken) (w .4 .taken) (w .6 .ensures) (w .7 .left) (w .10 .inv) (w .11 .left) (ap₂ setWith (w .13) (w .12)))
+    (⊎-elim (λ w. grid-closed (at .sums) (at .mark) _ _ _ (w .0 .taken) (w .1 .taken) (w .2 .taken) (w .4 .taken) (w .6 .ensures) (w .7 .taken)
+    (ap₂ setWith (w .9) (w .8)))
+    (⊎-elim (λ w. grid-lowered (at .sums) (at .mark) _ _ _ (w .0 .taken) (w .1 .taken) (w .2 .taken) (w .4 .taken) (w .6 .ensures) (w .7 .left) (w .10 .inv)
+    (w .11 .left) (ap₂ setWith (w .13) (w .12)))
     (⊎-elim (λ w. grid-known (at .sums) (at .mark) _ _ _ (w .0 .taken) (w .1 .taken) (w .4 .left) (ap₂ setWith (w .6) (w .5)))
     (⊎-elim (λ w. way-marked _ _ _ _ (w .0 .taken) (w .1 .taken) (w .2 .left) (ap₂ setWith (w .4) (w .3)))
     (⊎-elim (λ w. way-right _ _ _ _ (w .0 .taken) (w .1 .left) (ap₂ setWith (w .3) (w .2)))
     (λ w. way-left _ _ _ _ (w .0 .left) (ap₂ setWith (w .2) (w .1))))))) (c .if3 .came)))
     (λ c. (filled-none _ _ _ (search needs), refl))
-    (λ c. row-fits (c .loop5-test .taken)) (λ c. c .loop5-test .taken) (λ c κs. tt) (λ c. row-fits (c .before .before .loop5-test .taken)) (λ c. c .before .before .loop5-test .taken)
+    (λ c. row-fits (c .loop5-test .taken)) (λ c. c .loop5-test .taken) (λ c κs. tt) (λ c. row-fits (c .before .before .loop5-test .taken))
+    (λ c. c .before .before .loop5-test .taken)
     (λ c. next-fits (c .before .before .loop5-test .taken) (lit< tt)) (λ c. falls 17 _ (c .before .before .loop5-test .taken))
     (λ c. let at = c .before .before .before .loop5 in (filled-more (at .inv .0) (c .before .before .loop5-test .taken) (c .row-of .ensures), at .inv .1))
     (λ c. let told = c .before .before .before .loop3 in
     changed-steps _ _ (remade (c .before .before .before .before .before))
-    (stored (told .sums) (c .before .loop5 .inv .0) (c .loop5-test .left) (c .before .loop5 .inv .1) (told .inv .long) ∙ told-all (told .inv) (c .before .before .loop3-test .left))))
+    (stored (told .sums) (c .before .loop5 .inv .0) (c .loop5-test .left) (c .before .loop5 .inv .1) (told .inv .long)
+    ∙ told-all (told .inv) (c .before .before .loop3-test .left))))

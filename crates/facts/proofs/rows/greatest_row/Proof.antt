@@ -22,6 +22,7 @@ greatest-row-spec =
     (tie.spec
     Inv-loop μ-loop
     (λ c. filled-none _ _ _ (search needs))
-    (λ c. search needs) (λ c. search needs) (λ c. search needs) (λ c. search needs) (λ c κs. search needs) (λ c. search needs) (λ c. search needs) (λ c. search needs) (λ c. search needs)
+    (λ c. search needs) (λ c. search needs) (λ c. search needs) (λ c. search needs) (λ c κs. search needs) (λ c. search needs) (λ c. search needs)
+    (λ c. search needs) (λ c. search needs)
     (λ c. filled-more (c .before .before .before .before .loop .inv) (search needs) (c .greatest .ensures))
     (λ c. ap (λ (l : List ℕ). record { sums = l }) (filled-whole (c .before .loop .inv) (c .loop-test .left))))

@@ -23,7 +23,8 @@ lowered-plain-spec =
     (tie.spec
     Inv-loop μ-loop
     (λ c. filled-none _ _ _ (search needs))
-    (λ c. search needs) (λ c. search needs) (λ c. search needs) (λ c. search needs) (λ c κs. (c .before .before .pre .0, c .before .before .pre .1 .each _ (c .loop-test .taken))) (λ c κs. search needs) (λ c. search needs)
+    (λ c. search needs) (λ c. search needs) (λ c. search needs) (λ c. search needs)
+    (λ c κs. (c .before .before .pre .0, c .before .before .pre .1 .each _ (c .loop-test .taken))) (λ c κs. search needs) (λ c. search needs)
     (λ c. search needs) (λ c. search needs) (λ c. search needs)
     (λ c. filled-more (c .before .before .before .loop .inv) (search needs) (c .least .ensures ∙ ap (min _) (c .before .concat-plain .ensures)))
     (λ c. ap (λ (l : List ℕ). record { sums = l }) (filled-whole (c .before .loop .inv) (c .loop-test .left))))

@@ -19,7 +19,9 @@ through-zero-spec =
     Inv-loop μ-loop
     (λ c. search needs)
     (λ c. routing-none (search needs))
-    (λ c. search needs) (λ c. search needs) (λ c. search needs) (λ c κs. search needs) (λ c. search needs) (λ c. search needs) (λ c. search needs) (λ c. search needs)
+    (λ c. search needs) (λ c. search needs) (λ c. search needs) (λ c κs. search needs) (λ c. search needs) (λ c. search needs) (λ c. search needs)
+    (λ c. search needs)
     (λ c. let at = c .before .before .loop in
-    ⊎-elim (λ w. routing-mixed (at .inv) (search needs) (w .0 .taken) (w .2 .ensures) (w .3)) (λ w. routing-alike (at .inv) (search needs) (w .0 .left) (w .1)) (c .if1 .came))
+    ⊎-elim (λ w. routing-mixed (at .inv) (search needs) (w .0 .taken) (w .2 .ensures) (w .3)) (λ w. routing-alike (at .inv) (search needs) (w .0 .left) (w .1))
+    (c .if1 .came))
     (λ c. routing-done (c .before .loop .inv) (c .loop-test .left)))

@@ -15,4 +15,5 @@ word-at-spec =
     (λ c. search needs) (λ c. search needs) (λ c κs. search needs) (λ c. search needs) (λ c. search needs) (λ c κs. search needs) (λ c. search needs)
     (λ c. search needs) (λ c. search needs) (λ c. search needs) (λ c κs. search needs)
     (λ c. toZ-ofZ {w = w32} {z = c .signed .result} (record { sfits = c .signed .ok }) ∙ c .signed .ensures
-    ∙ word-of _ _ (c .before .before .before .before .before .before .before .wide .ensures .0) (c .before .before .before .before .before .wide2 .ensures .0) (c .before .before .before .wide3 .ensures .0) (c .before .wide4 .ensures .0)))
+    ∙ word-of _ _ (c .before .before .before .before .before .before .before .wide .ensures .0) (c .before .before .before .before .before .wide2 .ensures .0)
+    (c .before .before .before .wide3 .ensures .0) (c .before .wide4 .ensures .0)))

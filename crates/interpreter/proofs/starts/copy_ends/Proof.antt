@@ -30,9 +30,11 @@ copy-ends-spec =
     (λ c. (
       omega arith,
       length-set (c .before .loop .ends) _ _ ∙ c .before .loop .inv .1,
-      let w : c .before .loop .i < length (c .before .loop .ends) = omega (arith, c .before .before .pre, c .before .loop .inv .1) in copied-more (c .before .loop .ends) (c .before .before .args .t1)
+      let w : c .before .loop .i < length (c .before .loop .ends) = omega (arith, c .before .before .pre, c .before .loop .inv .1) in copied-more
+          (c .before .loop .ends) (c .before .before .args .t1)
           (c .before .loop .i) w (c .before .loop .inv .2),
     ))
     (λ c. search needs)
     (λ c. let n : length (c .before .before .args .t1) ≡ 512 = search needs in
-    ext-getD 0 (c .before .loop .ends) (c .before .before .args .t1) (omega (arith, c .before .before .pre, c .before .loop .inv .1)) (λ j l. c .before .loop .inv .2 j (omega (arith, c .before .before .pre, c .before .loop .inv .1)))))
+    ext-getD 0 (c .before .loop .ends) (c .before .before .args .t1) (omega (arith, c .before .before .pre, c .before .loop .inv .1))
+    (λ j l. c .before .loop .inv .2 j (omega (arith, c .before .before .pre, c .before .loop .inv .1)))))

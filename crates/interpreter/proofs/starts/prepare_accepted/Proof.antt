@@ -13,11 +13,18 @@ prepare-accepted-spec =
     (λ c. search needs)
     (λ c. search needs)
     (λ c κs. (
-      (sym (c .before .before .before .before .before .read-form .ensures) ∙ c .before .before .before .form2 .given .1, c .before .before .before .before .before .before .before .before .before .before .before .before .pre .0),
+      (
+        sym (c .before .before .before .before .before .read-form .ensures)
+            ∙ c .before .before .before .form2 .given .1,
+        c .before .before .before .before .before .before .before .before .before .before .before .before .pre
+            .0 .0,
+        c .before .before .before .before .before .before .before .before .before .before .before .before .pre .0 .1,
+      ),
       c .before .before .before .before .before .before .before
           .before .before .before .before .before .pre .1,
     ))
-    (λ c. absurd (no-form-refused _ _ _ (c .before .before .before .before .before .before .before .before .before .before .pre .0) (sym (c .before .before .before .read-form .ensures) ∙ c .before .form .given .1)))
+    (λ c. absurd (no-form-refused _ _ _ (c .before .before .before .before .before .before .before .before .before .before .pre .0 .0)
+    (sym (c .before .before .before .read-form .ensures) ∙ c .before .form .given .1)))
     (λ c. search needs)
     (λ c. search needs)
     (λ c. search needs))

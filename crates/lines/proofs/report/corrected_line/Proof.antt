@@ -12,4 +12,9 @@ corrected-line-spec =
     tie.close
     (tie.spec
     (λ c κs. search needs) (λ c. search needs) (λ c κs. search needs) (λ c. search needs) (λ c κs. search needs) (λ c κs. search needs)
-    (λ c. record { text = grown-both (grown-both (grown-both (c .before .before .before .before .before .new .ensures) (c .before .before .before .put .ensures .0)) (c .before .put2 .ensures .0)) (c .push .ensures) .text; fits = search needs }))
+    (λ c. record {
+      text = grown-both
+          (grown-both (grown-both (c .before .before .before .before .before .new .ensures) (c .before .before .before .put .ensures .0))
+          (c .before .put2 .ensures .0)) (c .push .ensures) .text;
+      fits = search needs;
+    }))

@@ -12,6 +12,9 @@ first-row-line-spec =
     tie.close
     (tie.spec
     (λ c κs. search needs) (λ c. search needs) (λ c κs. search needs) (λ c κs. search needs)
-    (λ c. same-row (search needs) (c .before .before .before .if1 .taken) (grown-both (grown-both (c .before .before .before .before .new .ensures) (c .before .put .ensures .0)) (c .push .ensures)))
+    (λ c. same-row (search needs) (c .before .before .before .if1 .taken)
+    (grown-both (grown-both (c .before .before .before .before .new .ensures) (c .before .put .ensures .0)) (c .push .ensures)))
     (λ c. search needs) (λ c κs. search needs) (λ c. search needs) (λ c κs. search needs) (λ c κs. search needs)
-    (λ c. other-row (search needs) (c .before .before .before .before .before .if1 .left) (grown-both (grown-both (grown-both (c .before .before .before .before .before .before .new .ensures) (c .before .before .before .put2 .ensures .0)) (c .before .put3 .ensures .0)) (c .push2 .ensures))))
+    (λ c. other-row (search needs) (c .before .before .before .before .before .if1 .left)
+    (grown-both (grown-both (grown-both (c .before .before .before .before .before .before .new .ensures) (c .before .before .before .put2 .ensures .0))
+    (c .before .put3 .ensures .0)) (c .push2 .ensures))))

@@ -14,4 +14,5 @@ left-line-spec =
     (λ c κs. search needs) (λ c. search needs) (λ c κs. search needs)
     (λ c. full (search needs) (c .before .before .before .if1 .taken) (grown-both (c .before .before .new .ensures) (c .push-all .ensures)))
     (λ c κs. search needs) (λ c. search needs) (λ c κs. search needs) (λ c κs. search needs)
-    (λ c. some-left (search needs) (c .before .before .before .before .if1 .left) (grown-both (grown-both (c .before .before .before .new2 .ensures) (c .before .put .ensures .0)) (c .push .ensures))))
+    (λ c. some-left (search needs) (c .before .before .before .before .if1 .left)
+    (grown-both (grown-both (c .before .before .before .new2 .ensures) (c .before .put .ensures .0)) (c .push .ensures))))

@@ -9,4 +9,8 @@ pub put-spec : {M : Type 1} → statement M
 put-spec =
     tie.close
     (tie.spec (λ c κs. search needs) (λ c κs. search needs)
-    (λ c. (grown-both (c .before .push-all .ensures) (c .push-number .ensures), omega (arith, within 20 _ (c .push-number .ensures), c .before .push-all .ensures .long))))
+    (λ c. (
+      grown-both (c .before .push-all .ensures) (c .push-number .ensures),
+      omega
+          (arith, within 20 _ (c .push-number .ensures), c .before .push-all .ensures .long),
+    )))

@@ -12,4 +12,8 @@ put-check-spec =
     tie.close
     (tie.spec
     (λ c κs. search needs) (λ c κs. search needs) (λ c. search needs) (λ c. search needs) (λ c κs. search needs) (λ c. search needs) (λ c κs. search needs)
-    (λ c. (stopped-at _ (c .before .before .before .before .before .check-number .ensures) (c .before .before .before .before .check-statement .ensures) (grown-both (c .before .before .put .ensures .0) (c .put2 .ensures .0)), search needs)))
+    (λ c. (
+      stopped-at _ (c .before .before .before .before .before .check-number .ensures) (c .before .before .before .before .check-statement .ensures)
+          (grown-both (c .before .before .put .ensures .0) (c .put2 .ensures .0)),
+      search needs,
+    )))

@@ -11,11 +11,21 @@ unfolding bytesOf
 put-refusal-spec =
     tie.close
     (tie.spec
-    (λ c κs. search needs) (λ c κs. search needs) (λ c. search needs) (λ c. search needs) (λ c κs. search needs) (λ c κs. search needs) (λ c. search needs) (λ c κs. search needs) (λ c. search needs) (λ c κs. search needs)
+    (λ c κs. search needs) (λ c κs. search needs) (λ c. search needs) (λ c. search needs) (λ c κs. search needs) (λ c κs. search needs) (λ c. search needs)
+    (λ c κs. search needs) (λ c. search needs) (λ c κs. search needs)
     (λ c. (
-      refused-eight _ (c .before .before .before .before .before .before .before .before .before .refusal-number .ensures) (c .before .before .before .before .before .before .before .before .refusal-place .ensures) (c .before .before .before .before .refusal-pointer .ensures)
-          (c .before .before .before .before .before .if1 .taken) (grown-both (c .before .before .before .before .before .before .put .ensures .0) (grown-both (c .before .before .put2 .ensures .0) (c .put3 .ensures .0))),
+      refused-eight _ (c .before .before .before .before .before .before .before .before .before .refusal-number .ensures)
+          (c .before .before .before .before .before .before .before .before .refusal-place .ensures)
+          (c .before .before .before .before .refusal-pointer .ensures)
+          (c .before .before .before .before .before .if1 .taken)
+          (grown-both (c .before .before .before .before .before .before .put .ensures .0)
+          (grown-both (c .before .before .put2 .ensures .0) (c .put3 .ensures .0))),
       search needs,
     ))
     (λ c. search needs) (λ c κs. search needs)
-    (λ c. (refused-other _ (c .before .before .before .before .before .before .refusal-number .ensures) (c .before .before .before .before .before .refusal-place .ensures) (c .before .before .if1 .left) (grown-both (c .before .before .before .put .ensures .0) (c .put4 .ensures .0)), search needs)))
+    (λ c. (
+      refused-other _ (c .before .before .before .before .before .before .refusal-number .ensures)
+          (c .before .before .before .before .before .refusal-place .ensures) (c .before .before .if1 .left)
+          (grown-both (c .before .before .before .put .ensures .0) (c .put4 .ensures .0)),
+      search needs,
+    )))

@@ -18,7 +18,9 @@ both-laptops-spec =
     tie.close
     (tie.spec
     Inv-loop μ-loop
-    (λ c. search needs) (λ c κs. search needs) (λ c κs. search needs) (λ c κs. search needs) (λ c. (search needs, search needs, search needs)) (λ c. search needs)
+    (λ c. search needs) (λ c κs. search needs) (λ c κs. search needs) (λ c κs. search needs) (λ c. (search needs, search needs, search needs))
+    (λ c. search needs)
     (λ c. search needs) (λ c. search needs) (λ c. search needs) (λ c. search needs) (λ c. search needs) (λ c. search needs)
-    (λ c. search needs) (λ c κs. simp length-set (omega (arith, c .before .before .before .before .before .loop .inv .1))) (λ c. search needs) (λ c. search needs) (λ c. (search needs, search needs, search needs)) (λ c. search needs)
+    (λ c. search needs) (λ c κs. simp length-set (omega (arith, c .before .before .before .before .before .loop .inv .1))) (λ c. search needs)
+    (λ c. search needs) (λ c. (search needs, search needs, search needs)) (λ c. search needs)
     (λ c κs. search needs) (λ c. search needs))

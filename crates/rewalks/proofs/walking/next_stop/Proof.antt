@@ -22,5 +22,6 @@ next-stop-spec =
     (λ c κs. search needs) (λ c. c .before .before .before .loop .inv) (λ c κs. search needs)
     (λ c. omega (arith, c .span2 .ensures .2, c .before .before .before .loop-test .taken, c .before .before .before .before .before .before .before .pre .1))
     (λ c. omega (arith, c .span2 .ensures .1, c .before .before .before .loop-test .taken))
-    (λ c. stop-more _ (c .before .before .before .before .loop .inv) (sym (c .before .before .is-named .ensures) ∙ c .before .if1 .left) (c .before .before .before .loop-test .taken) (c .span2 .ensures .0))
+    (λ c. stop-more _ (c .before .before .before .before .loop .inv) (sym (c .before .before .is-named .ensures) ∙ c .before .if1 .left)
+    (c .before .before .before .loop-test .taken) (c .span2 .ensures .0))
     (λ c. c .before .loop .inv))

@@ -37,5 +37,7 @@ go-on-spec =
     (λ c. search needs)
     (λ c. search needs)
     (λ c. search needs)
-    (λ c. gone-raw (c .before .before .before .before .before .before .before .before .before .before .before .before .before .before .before .before .before .before .before .before .before .before .pre .0) (c .before .before .before .before .before .before .resume .kept .1 .1 .0)
-    (c .before .before .before .before .before .before .resume .kept .1 .1 .1 .1 .1 .1 .1 .0) (c .before .before .before .before .before .before .resume .ensures)))
+    (λ c. gone-raw (c .before .before .before .before .before .before .before .before .before .before .before .before .before .before .before .before .before
+    .before .before .before .before .before .pre .0) (c .before .before .before .before .before .before .resume .kept .1 .1 .0)
+    (c .before .before .before .before .before .before .resume .kept .1 .1 .1 .1 .1 .1 .1 .0)
+    (c .before .before .before .before .before .before .resume .ensures)))

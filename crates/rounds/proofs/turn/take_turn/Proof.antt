@@ -10,14 +10,20 @@ take-turn-spec =
     tie.close
     (tie.spec
     (λ c. search needs)
-    (λ c κs. (c .before .before .before .before .before .before .before .before .before .before .before .pre .0, may-spent _ (c .before .before .before .before .outcome .given .1) (c .before .before .before .before .before .before .before .before .before .before .before .pre .1)))
+    (λ c κs. (
+      c .before .before .before .before .before .before .before .before .before .before .before .pre .0,
+      may-spent _
+          (c .before .before .before .before .outcome .given .1)
+          (c .before .before .before .before .before .before .before .before .before .before .before .pre .1),
+    ))
     (λ c. search needs)
     (λ c. search needs)
     (λ c. search needs)
     (λ c. search needs)
     (λ c. search needs)
     (λ c. search needs)
-    (λ c. turned-spent _ (c .before .before .before .before .before .before .before .before .before .before .before .outcome .given .1) (c .before .before .before .before .before .before .go-on .ensures))
+    (λ c. turned-spent _ (c .before .before .before .before .before .before .before .before .before .before .before .outcome .given .1)
+    (c .before .before .before .before .before .before .go-on .ensures))
     (λ c. rw (c .before .outcome2 .given .1) (record { outcome = refl; ends-same = refl; values-same = refl; cells-same = refl }))
     (λ c. rw (c .before .outcome3 .given .1) (record { outcome = refl; ends-same = refl; values-same = refl; cells-same = refl }))
     (λ c. rw (c .before .outcome4 .given .1) (record { outcome = refl; ends-same = refl; values-same = refl; cells-same = refl })))

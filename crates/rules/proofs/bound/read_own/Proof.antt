@@ -16,5 +16,6 @@ read-own-spec =
     tie.close
     (tie.spec
     (λ c κs. search needs) (λ c κs. search needs)
-    (λ c. within 16 (λ v. boundsOf (variableAt (now (c .before .before .before .args .table)) (c .before .before .before .args .sections) v)) _ nothingKnown (c .before .before .if1 .taken) (c .bounds-of .ensures ∙ ap (λ (r : VariableRead). boundsOf r) (c .before .read-variable .ensures)))
+    (λ c. within 16 (λ v. boundsOf (variableAt (now (c .before .before .before .args .table)) (c .before .before .before .args .sections) v)) _ nothingKnown
+    (c .before .before .if1 .taken) (c .bounds-of .ensures ∙ ap (λ (r : VariableRead). boundsOf r) (c .before .read-variable .ensures)))
     (λ c. beyond 16 (λ v. boundsOf (variableAt (now (c .before .args .table)) (c .before .args .sections) v)) _ nothingKnown (c .if1 .left)))

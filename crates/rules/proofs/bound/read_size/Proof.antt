@@ -15,5 +15,6 @@ read-size-spec =
     tie.close
     (tie.spec
     (λ c κs. search needs) (λ c κs. search needs)
-    (λ c. within 16 (λ v. variableSize (variableAt (now (c .before .before .before .args .table)) (c .before .before .before .args .sections) v)) _ 1 (c .before .before .if1 .taken) (c .variable-size .ensures ∙ ap (λ (r : VariableRead). variableSize r) (c .before .read-variable .ensures)))
+    (λ c. within 16 (λ v. variableSize (variableAt (now (c .before .before .before .args .table)) (c .before .before .before .args .sections) v)) _ 1
+    (c .before .before .if1 .taken) (c .variable-size .ensures ∙ ap (λ (r : VariableRead). variableSize r) (c .before .read-variable .ensures)))
     (λ c. beyond 16 (λ v. variableSize (variableAt (now (c .before .args .table)) (c .before .args .sections) v)) _ 1 (c .if1 .left)))

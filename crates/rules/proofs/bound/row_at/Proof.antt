@@ -16,5 +16,6 @@ row-at-spec =
     tie.close
     (tie.spec
     (λ c κs. search needs) (λ c κs. search needs)
-    (λ c. within 64 (λ v. rowBounds (rowAt (now (c .before .before .before .args .table)) (c .before .before .before .args .sections) v)) _ nothingKnown (c .before .before .if1 .taken) (c .row-bounds .ensures ∙ ap (λ (r : RowRead). rowBounds r) (c .before .read-row .ensures)))
+    (λ c. within 64 (λ v. rowBounds (rowAt (now (c .before .before .before .args .table)) (c .before .before .before .args .sections) v)) _ nothingKnown
+    (c .before .before .if1 .taken) (c .row-bounds .ensures ∙ ap (λ (r : RowRead). rowBounds r) (c .before .read-row .ensures)))
     (λ c. beyond 64 (λ v. rowBounds (rowAt (now (c .before .args .table)) (c .before .args .sections) v)) _ nothingKnown (c .if1 .left)))

@@ -22,5 +22,6 @@ read-declared-spec =
     Inv-loop μ-loop
     (λ c. filled-none _ _ _ (search needs))
     (λ c κs. search needs) (λ c κs. search needs) (λ c. search needs) (λ c. search needs) (λ c. search needs) (λ c. search needs)
-    (λ c. filled-more (c .before .before .before .loop .inv) (search needs) (c .bounds-of .ensures ∙ ap (λ (r : VariableRead). boundsOf r) (c .before .read-variable .ensures)))
+    (λ c. filled-more (c .before .before .before .loop .inv) (search needs)
+    (c .bounds-of .ensures ∙ ap (λ (r : VariableRead). boundsOf r) (c .before .read-variable .ensures)))
     (λ c. filled-whole (c .before .loop .inv) (c .loop-test .left)))

@@ -22,5 +22,6 @@ read-rows-spec =
     Inv-loop μ-loop
     (λ c. filled-none _ _ _ (search needs))
     (λ c κs. search needs) (λ c κs. search needs) (λ c. search needs) (λ c. search needs) (λ c. search needs) (λ c. search needs)
-    (λ c. filled-more (c .before .before .before .loop .inv) (search needs) (c .row-bounds .ensures ∙ ap (λ (r : RowRead). rowBounds r) (c .before .read-row .ensures)))
+    (λ c. filled-more (c .before .before .before .loop .inv) (search needs)
+    (c .row-bounds .ensures ∙ ap (λ (r : RowRead). rowBounds r) (c .before .read-row .ensures)))
     (λ c. filled-whole (c .before .loop .inv) (c .loop-test .left)))

@@ -23,5 +23,6 @@ read-sizes-spec =
     Inv-loop μ-loop
     (λ c. filled-none _ _ _ (search needs))
     (λ c κs. search needs) (λ c κs. search needs) (λ c. search needs) (λ c. search needs) (λ c. search needs) (λ c. search needs)
-    (λ c. filled-more (c .before .before .before .loop .inv) (search needs) (c .variable-size .ensures ∙ ap (λ (r : VariableRead). variableSize r) (c .before .read-variable .ensures)))
+    (λ c. filled-more (c .before .before .before .loop .inv) (search needs)
+    (c .variable-size .ensures ∙ ap (λ (r : VariableRead). variableSize r) (c .before .read-variable .ensures)))
     (λ c. filled-whole (c .before .loop .inv) (c .loop-test .left)))

@@ -23,5 +23,6 @@ read-spans-spec =
     Inv-loop μ-loop
     (λ c. filled-none _ _ _ (search needs))
     (λ c κs. search needs) (λ c κs. search needs) (λ c κs. search needs) (λ c. search needs) (λ c. search needs) (λ c. search needs) (λ c. search needs)
-    (λ c. filled-more (c .before .before .before .before .loop .inv) (search needs) (c .upper-limit .ensures .0 ∙ ap₂ upperLimit (c .before .before .object-terminated .ensures) (c .before .read-object .ensures)))
+    (λ c. filled-more (c .before .before .before .before .loop .inv) (search needs)
+    (c .upper-limit .ensures .0 ∙ ap₂ upperLimit (c .before .before .object-terminated .ensures) (c .before .read-object .ensures)))
     (λ c. filled-whole (c .before .loop .inv) (c .loop-test .left)))

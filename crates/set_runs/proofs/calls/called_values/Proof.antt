@@ -22,5 +22,6 @@ called-values-spec =
     Inv-loop μ-loop
     (λ c. filled-none _ _ _ (search needs))
     (λ c κs. search needs) (λ c κs. search needs) (λ c. search needs) (λ c. search needs) (λ c. search needs) (λ c. search needs) (λ c. search needs)
-    (λ c. filled-more (c .before .before .before .loop .inv) (search needs) (c .value-at .ensures .0 ∙ ap (value (now (c .before .before .before .before .before .args .values))) (c .before .argument .ensures)))
+    (λ c. filled-more (c .before .before .before .loop .inv) (search needs)
+    (c .value-at .ensures .0 ∙ ap (value (now (c .before .before .before .before .before .args .values))) (c .before .argument .ensures)))
     (λ c. filled-whole (c .before .loop .inv) (c .loop-test .left)))

@@ -10,5 +10,4 @@ call-at-spec =
     (tie.spec
     (λ c κs. search needs) (λ c. search needs) (λ c. search needs) (λ c. search needs) (λ c. search needs)
     (λ c κs. decode-within _ _ _ (c .before .part-of .ensures .0) _ (c .before .before .before .pre .1))
-    (λ c κs. search needs)
-    (λ c. site-is _ _ _ (c .before .before .before .part-of .ensures .0) _ (c .before .decode-statement .ensures) (c .site-of .ensures)))
+    (λ c. site-is _ _ _ (c .before .before .part-of .ensures .0) _ (c .decode-call-at .ensures)))

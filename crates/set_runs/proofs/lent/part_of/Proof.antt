@@ -11,6 +11,8 @@ part-of-spec =
     (λ c κs. search needs) (λ c κs. search needs) (λ c. search needs) (λ c. search needs) (λ c. search needs) (λ c. search needs) (λ c κs. search needs)
     (λ c. search needs) (λ c. search needs) (λ c. search needs) (λ c. search needs) (λ c κs. search needs) (λ c κs. search needs)
     (λ c. let own = c .before .before .before .before .before .span-of2 in (
-      part-is _ _ _ (c .before .before .before .before .before .before .span-of .ensures .0) (own .ensures .0) (c .before .before .before .sections-of .ensures) (c .before .sections-of2 .ensures) (c .back .ensures),
-      part-within _ _ _ (c .before .before .before .before .before .before .span-of .ensures .0) (own .ensures .0) (c .before .before .before .sections-of .ensures) (c .before .sections-of2 .ensures) (c .back .ensures) (own .ensures .1 .0) (own .ensures .1 .1),
+      part-is _ _ _ (c .before .before .before .before .before .before .span-of .ensures .0) (own .ensures .0) (c .before .before .before .sections-of .ensures)
+          (c .before .sections-of2 .ensures) (c .back .ensures),
+      part-within _ _ _ (c .before .before .before .before .before .before .span-of .ensures .0) (own .ensures .0)
+          (c .before .before .before .sections-of .ensures) (c .before .sections-of2 .ensures) (c .back .ensures) (own .ensures .1 .0) (own .ensures .1 .1),
     )))

@@ -65,40 +65,185 @@ abbrev μ : run-routine-lts.MeasureT-loop
 
 -- Where a call is due.
 calling : (t : ℕ) (d : run-routine-lts.After-known-told2 (callees t) (run-routine-at t) run-routine.Post Inv μ)
-    → Calling (now (d .before .before .before .before .before .before .before .before .before .before .before .before .before .before .before .before .before .before .before .before .before .before .before .before .before .args .tables)) (now (d .before .before .before .before .before .before .before .before .before .before .before .before .before .before .before .before .before .before .before .before .before .before .before .before .before .args .lengths)) (now (d .before .before .before .before .before .before .before .before .before .before .before .before .before .before .before .before .before .before .before .before .before .before .before .before .before .args .directory)) (now (d .before .before .before .before .before .before .before .before .before .before .before .before .before .before .before .before .before .before .before .before .before .before .before .before .before .args .successors)) (d .before .before .before .before .before .before .before .before .before .before .before .before .before .before .before .before .before .before .before .before .before .before .before .before .before .args .n) (d .before .before .before .before .before .before .before .before .before .before .before .before .before .before .before .before .before .before .before .before .before .before .before .before .before .args .limit) (d .before .before .before .before .before .before .before .before .before .before .before .before .before .before .before .before .before .before .before .before .before .before .before .before .before .args .made)
-    (d .before .before .before .before .before .before .before .before .before .before .before .before .before .before .before .before .before .lay-routine .last .1 .1 .1 .0) (now (d .before .before .before .before .before .before .before .before .before .before .before .before .before .before .before .before .before .before .before .before .before .before .before .before .before .args .values)) (now (d .before .before .before .before .before .before .before .before .before .before .before .before .before .before .before .before .before .before .before .before .before .before .before .before .before .args .cells)) (d .before .before .before .before .before .before .before .before .before .before .stretch .result) (d .before .before .before .before .before .before .before .before .before .before .before .before .before .before .loop .steps) (d .before .pause2 .given .0 .0) (d .before .pause2 .given .0 .1 .0)
-    (d .before .before .before .before .before .before .before .before .before .before .stretch .last .1 .1 .1 .1 .1 .0) (d .before .before .before .before .before .before .before .before .before .before .stretch .last .1 .1 .1 .1 .1 .1 .1 .1 .0) (d .before .before .before .before .before .before .before .before .before .before .stretch .last .1 .1 .1 .1 .1 .1 .1 .1 .1 .0)
-calling t d = calls-now _ _ _ _ _ _ _ _ _ _ (d .before .before .before .before .before .before .before .before .before .before .before .before .before .before .loop .inv .0) (d .before .before .before .before .before .before .before .before .before .before .stretch .ensures) (d .before .before .before .pause-of .ensures) (d .before .pause2 .given .1) (d .before .before .before .before .before .before .before .before .before .before .stretch .kept .1 .1 .1 .1 .1 .1 .1 .1 .0) (d .before .before .before .before .before .before .before .before .before .before .stretch .kept .1 .1 .1 .1 .1 .1 .1 .1 .1 .0)
+    → Calling (now (d .before .before .before .before .before .before .before .before .before .before .before .before .before .before .before .before .before
+    .before .before .before .before .before .before .before .before .args .tables))
+    (now (d .before .before .before .before .before .before .before .before .before .before .before .before .before .before .before .before .before .before
+    .before .before .before .before .before .before .before .args .lengths))
+    (now (d .before .before .before .before .before .before .before .before .before .before .before .before .before .before .before .before .before .before
+    .before .before .before .before .before .before .before .args .directory))
+    (now (d .before .before .before .before .before .before .before .before .before .before .before .before .before .before .before .before .before .before
+    .before .before .before .before .before .before .before .args .successors))
+    (d .before .before .before .before .before .before .before .before .before .before .before .before .before .before .before .before .before .before
+    .before .before .before .before .before .before .before .args .n)
+    (d .before .before .before .before .before .before .before .before .before .before .before .before .before .before .before .before .before .before
+    .before .before .before .before .before .before .before .args .limit)
+    (d .before .before .before .before .before .before .before .before .before .before .before .before .before .before .before .before .before .before
+    .before .before .before .before .before .before .before .args .made)
+    (d .before .before .before .before .before .before .before .before .before .before .before .before .before .before .before .before .before .lay-routine
+    .last .1 .1 .1 .0)
+    (now (d .before .before .before .before .before .before .before .before .before .before .before .before .before .before .before .before .before .before
+    .before .before .before .before .before .before .before .args .values))
+    (now (d .before .before .before .before .before .before .before .before .before .before .before .before .before .before .before .before .before .before
+    .before .before .before .before .before .before .before .args .cells))
+    (d .before .before .before .before .before .before .before .before .before .before .stretch .result)
+    (d .before .before .before .before .before .before .before .before .before .before .before .before .before .before .loop .steps)
+    (d .before .pause2 .given .0 .0) (d .before .pause2 .given .0 .1 .0)
+    (d .before .before .before .before .before .before .before .before .before .before .stretch .last .1 .1 .1 .1 .1 .0)
+    (d .before .before .before .before .before .before .before .before .before .before .stretch .last .1 .1 .1 .1 .1 .1 .1 .1 .0)
+    (d .before .before .before .before .before .before .before .before .before .before .stretch .last .1 .1 .1 .1 .1 .1 .1 .1 .1 .0)
+calling t d = calls-now _ _ _ _ _ _ _ _ _ _
+    (d .before .before .before .before .before .before .before .before .before .before .before .before .before .before .loop .inv .0)
+    (d .before .before .before .before .before .before .before .before .before .before .stretch .ensures) (d .before .before .before .pause-of .ensures)
+    (d .before .pause2 .given .1) (d .before .before .before .before .before .before .before .before .before .before .stretch .kept .1 .1 .1 .1 .1 .1 .1 .1 .0)
+    (d .before .before .before .before .before .before .before .before .before .before .stretch .kept .1 .1 .1 .1 .1 .1 .1 .1 .1 .0)
 
 pub +run-routine-spec : {M : Type 1} → statement M
 +run-routine-spec = close μ-run-routine λ t. run-routine-lts.spec (callees t) (run-routine-at t) run-routine.Post Inv μ
     (λ c κs. let p = c .before .before .before .before .before .before .before .pre .1 in (few (p .callable) _ (p .known), p .room))
-    (λ c. let p = c .before .before .before .before .before .before .before .before .before .before .pre .1 in let l = few (p .callable) _ (p .known) in omega (arith, l))
-    (λ c. (loop-starts _ _ _ _ _ _ _ (c .before .before .before .before .before .before .before .before .before .before .pre .1) (c .before .before .lay-routine .ensures), refl))
+    (λ c. let p = c .before .before .before .before .before .before .before .before .before .before .pre .1 in let l = few (p .callable) _ (p .known) in omega
+    (arith, l))
+    (λ c. (
+      loop-starts _ _ _ _ _ _ _ (c .before .before .before .before .before .before .before .before .before .before .pre .1)
+          (c .before .before .lay-routine .ensures),
+      refl,
+    ))
     (λ c κs. loop-asks _ _ _ _ _ _ _ _ _ _ (c .before .before .before .loop .inv .0))
     (λ c κs. search needs)
     (λ c. search needs)
-    (λ c. c .before .before .before .before .before .before .before .before .before .before .stretch .ensures .kept .long ∙ (c .before .before .before .before .before .before .before .before .before .before .before .before .before .before .loop .inv .0 .ends-long ∙ c .before .before .before .before .before .before .before .before .before .before .before .before .before .before .before .before .before .lay-routine .ensures .long))
-    (λ c. c .before .before .before .before .before .before .before .before .before .before .stretch .kept .1 .1 .1 .1 .1 .1 .1 .1 .0 ∙ c .before .before .before .before .before .before .before .before .before .before .before .before .before .before .loop .inv .0 .values-long)
-    (λ c. c .before .before .before .before .before .before .before .before .before .before .stretch .kept .1 .1 .1 .1 .1 .1 .1 .1 .1 .0 ∙ c .before .before .before .before .before .before .before .before .before .before .before .before .before .before .loop .inv .0 .cells-long)
-    (λ c. leaves-now _ _ _ _ _ _ _ _ _ _ (c .before .before .before .before .before .before .before .before .before .before .before .before .before .before .loop .inv .0) (c .before .before .before .before .before .before .before .before .before .before .stretch .ensures) (c .before .before .before .pause-of .ensures) (c .before .pause .given .1))
+    (λ c. c .before .before .before .before .before .before .before .before .before .before .stretch .ensures .kept .long
+    ∙ (c .before .before .before .before .before .before .before .before .before .before .before .before .before .before .loop .inv .0 .ends-long
+    ∙ c .before .before .before .before .before .before .before .before .before .before .before .before .before .before .before .before .before .lay-routine
+    .ensures .long))
+    (λ c. c .before .before .before .before .before .before .before .before .before .before .stretch .kept .1 .1 .1 .1 .1 .1 .1 .1 .0
+    ∙ c .before .before .before .before .before .before .before .before .before .before .before .before .before .before .loop .inv .0 .values-long)
+    (λ c. c .before .before .before .before .before .before .before .before .before .before .stretch .kept .1 .1 .1 .1 .1 .1 .1 .1 .1 .0
+    ∙ c .before .before .before .before .before .before .before .before .before .before .before .before .before .before .loop .inv .0 .cells-long)
+    (λ c. leaves-now _ _ _ _ _ _ _ _ _ _
+    (c .before .before .before .before .before .before .before .before .before .before .before .before .before .before .loop .inv .0)
+    (c .before .before .before .before .before .before .before .before .before .before .stretch .ensures) (c .before .before .before .pause-of .ensures)
+    (c .before .pause .given .1))
     (λ c. search needs)
     (λ c κs. (number-few _ _ _ _ _ _ _ _ _ _ (calling t c), call-within _ _ _ _ _ _ _ _ _ _ (calling t c)))
-    (λ c κs. omega (arith, number-few _ _ _ _ _ _ _ _ _ _ (calling t (c .before)), below _ _ _ _ _ _ _ _ _ _ (calling t (c .before)), ap (λ (s : CallSite). s .callee) (c .call-at .ensures)))
+    (λ c κs. omega (
+      arith,
+      number-few _ _ _ _ _ _ _ _ _ _ (calling t (c .before)),
+      below _ _ _ _ _ _ _ _ _ _ (calling t (c .before)),
+      ap
+          (λ (s : CallSite). s .callee) (c .call-at .ensures),
+    ))
     (λ c κs. search needs)
-    (λ c. omega (arith, steps-left _ _ _ _ _ _ _ _ _ _ (calling t (c .before .before .before .before)), c .before .before .before .before .before .before .before .before .before .before .before .before .before .before .before .before .before .before .before .before .before .before .before .before .before .before .before .before .before .good))
+    (λ c. omega (
+      arith,
+      steps-left _ _ _ _ _ _ _ _ _ _ (calling t (c .before .before .before .before)),
+      c .before .before .before .before .before .before
+          .before .before .before .before .before .before .before .before .before .before .before .before .before .before .before .before .before .before .before
+          .before .before .before .before .good,
+    ))
     (λ c. let p = calling t (c .before .before .before .before) in omega (arith, p .asks .room, p .ends-long))
     (λ c. sym (taken-room _ _ _ _ _ _ _ _ _ _ (calling t (c .before .before .before .before .before))))
-    (λ c. code-long _ _ _ _ _ _ _ _ _ _ (calling t (c .before .before .before .before .before)) (c .before .before .before .before .call-at .result) (c .before .before .before .variables-of .result) (c .before .called-values .result) (c .before .before .before .before .call-at .ensures) (c .before .before .before .variables-of .ensures) (c .before .called-values .ensures))
-    (λ c. sym (code-taken _ _ _ _ _ _ _ _ _ _ (calling t (c .before .before .before .before .before .before)) (c .before .before .before .before .before .call-at .result) (c .before .before .before .before .variables-of .result) (c .before .before .called-values .result) (c .before .before .before .before .before .call-at .ensures) (c .before .before .before .before .variables-of .ensures) (c .before .before .called-values .ensures)))
-    (λ c κs. let l = code-below _ _ _ _ _ _ _ _ _ _ (calling t (c .before .before .before .before .before .before .before)) (c .before .before .before .before .before .before .call-at .result) (c .before .before .before .before .before .variables-of .result) (c .before .before .before .called-values .result) (c .before .before .before .before .before .before .call-at .ensures) (c .before .before .before .before .before .variables-of .ensures) (c .before .before .before .called-values .ensures) in (omega (arith, l, c .before .before .before .before .before .before .before .before .before .before .before .before .before .before .before .before .before .before .before .before .before .before .before .before .before .before .before .before .before .before .before .before .pre .0), code-asks _ _ _ _ _ _ _ _ _ _ (calling t (c .before .before .before .before .before .before .before)) (c .before .before .before .before .before .before .call-at .result) (c .before .before .before .before .before .variables-of .result) (c .before .before .before .called-values .result) (c .before .before .before .before .before .before .call-at .ensures) (c .before .before .before .before .before .variables-of .ensures) (c .before .before .before .called-values .ensures)))
+    (λ c. code-long _ _ _ _ _ _ _ _ _ _ (calling t (c .before .before .before .before .before)) (c .before .before .before .before .call-at .result)
+    (c .before .before .before .variables-of .result) (c .before .called-values .result) (c .before .before .before .before .call-at .ensures)
+    (c .before .before .before .variables-of .ensures) (c .before .called-values .ensures))
+    (λ c. sym (code-taken _ _ _ _ _ _ _ _ _ _ (calling t (c .before .before .before .before .before .before))
+    (c .before .before .before .before .before .call-at .result) (c .before .before .before .before .variables-of .result)
+    (c .before .before .called-values .result) (c .before .before .before .before .before .call-at .ensures)
+    (c .before .before .before .before .variables-of .ensures) (c .before .before .called-values .ensures)))
+    (λ c κs. let l = code-below _ _ _ _ _ _ _ _ _ _ (calling t (c .before .before .before .before .before .before .before))
+    (c .before .before .before .before .before .before .call-at .result) (c .before .before .before .before .before .variables-of .result)
+    (c .before .before .before .called-values .result) (c .before .before .before .before .before .before .call-at .ensures)
+    (c .before .before .before .before .before .variables-of .ensures) (c .before .before .before .called-values .ensures) in (
+      omega (
+        arith,
+        l,
+        c .before .before .before .before .before .before .before .before .before .before .before .before .before .before .before .before
+            .before .before .before .before .before .before .before .before .before .before .before .before .before .before .before .before .pre .0,
+      ),
+      code-asks _ _
+          _ _ _ _ _ _ _ _ (calling t (c .before .before .before .before .before .before .before))
+          (c .before .before .before .before .before .before .call-at .result) (c .before .before .before .before .before .variables-of .result)
+          (c .before .before .before .called-values .result) (c .before .before .before .before .before .before .call-at .ensures)
+          (c .before .before .before .before .before .variables-of .ensures) (c .before .before .before .called-values .ensures),
+    ))
     (λ c. search needs)
-    (λ c. ends-back _ _ _ _ _ _ _ _ _ _ (calling t (c .before .before .before .before .before .before .before .before .before .before .before .before .before .before .before)) (c .before .before .before .before .before .before .before .run-routine .last .1 .1 .1 .1 .0) (c .before .before .before .before .before .before .before .run-routine .kept .1 .1 .1 .1 .0) ∙ c .before .before .before .before .before .before .before .before .before .before .before .before .before .before .before .before .before .before .before .before .before .before .before .before .before .before .before .before .before .before .before .before .lay-routine .ensures .long)
-    (λ c. c .before .before .before .before .before .before .before .before .before .before .before .before .before .before .before .before .before .before .before .before .before .before .before .before .before .stretch .kept .1 .1 .1 .1 .1 .1 .1 .1 .0 ∙ c .before .before .before .before .before .before .before .before .before .before .before .before .before .before .before .before .before .before .before .before .before .before .before .before .before .before .before .before .before .loop .inv .0 .values-long)
-    (λ c. c .before .before .before .before .before .before .before .run-routine .kept .1 .1 .1 .1 .1 .1 .1 .1 .0 ∙ (c .before .before .before .before .before .before .before .before .before .before .before .before .before .before .before .before .before .before .before .before .before .before .before .before .before .stretch .kept .1 .1 .1 .1 .1 .1 .1 .1 .1 .0 ∙ c .before .before .before .before .before .before .before .before .before .before .before .before .before .before .before .before .before .before .before .before .before .before .before .before .before .before .before .before .before .loop .inv .0 .cells-long))
-    (λ c. code-halts _ _ _ _ _ _ _ _ _ _ (calling t (c .before .before .before .before .before .before .before .before .before .before .before .before .before .before .before)) (c .before .before .before .before .before .before .before .before .before .before .before .before .before .before .call-at .result) (c .before .before .before .before .before .before .before .before .before .before .before .before .before .variables-of .result) (c .before .before .before .before .before .before .before .before .before .before .before .called-values .result) (c .before .before .before .before .before .before .before .before .before .before .before .before .before .before .call-at .ensures) (c .before .before .before .before .before .before .before .before .before .before .before .before .before .variables-of .ensures) (c .before .before .before .before .before .before .before .before .before .before .before .called-values .ensures) _ _ _ (c .before .before .before .before .before .before .before .run-routine .ensures) (c .enum-told .given .1))
+    (λ c. ends-back _ _ _ _ _ _ _ _ _ _
+    (calling t (c .before .before .before .before .before .before .before .before .before .before .before .before .before .before .before))
+    (c .before .before .before .before .before .before .before .run-routine .last .1 .1 .1 .1 .0)
+    (c .before .before .before .before .before .before .before .run-routine .kept .1 .1 .1 .1 .0)
+    ∙ c .before .before .before .before .before .before .before .before .before .before .before .before .before .before .before .before .before .before
+    .before .before .before .before .before .before .before .before .before .before .before .before .before .before .lay-routine .ensures .long)
+    (λ c. c .before .before .before .before .before .before .before .before .before .before .before .before .before .before .before .before .before .before
+    .before .before .before .before .before .before .before .stretch .kept .1 .1 .1 .1 .1 .1 .1 .1 .0
+    ∙ c .before .before .before .before .before .before .before .before .before .before .before .before .before .before .before .before .before .before
+    .before .before .before .before .before .before .before .before .before .before .before .loop .inv .0 .values-long)
+    (λ c. c .before .before .before .before .before .before .before .run-routine .kept .1 .1 .1 .1 .1 .1 .1 .1 .0
+    ∙ (c .before .before .before .before .before .before .before .before .before .before .before .before .before .before .before .before .before .before
+    .before .before .before .before .before .before .before .stretch .kept .1 .1 .1 .1 .1 .1 .1 .1 .1 .0
+    ∙ c .before .before .before .before .before .before .before .before .before .before .before .before .before .before .before .before .before .before
+    .before .before .before .before .before .before .before .before .before .before .before .loop .inv .0 .cells-long))
+    (λ c. code-halts _ _ _ _ _ _ _ _ _ _
+    (calling t (c .before .before .before .before .before .before .before .before .before .before .before .before .before .before .before))
+    (c .before .before .before .before .before .before .before .before .before .before .before .before .before .before .call-at .result)
+    (c .before .before .before .before .before .before .before .before .before .before .before .before .before .variables-of .result)
+    (c .before .before .before .before .before .before .before .before .before .before .before .called-values .result)
+    (c .before .before .before .before .before .before .before .before .before .before .before .before .before .before .call-at .ensures)
+    (c .before .before .before .before .before .before .before .before .before .before .before .before .before .variables-of .ensures)
+    (c .before .before .before .before .before .before .before .before .before .before .before .called-values .ensures) _ _ _
+    (c .before .before .before .before .before .before .before .run-routine .ensures) (c .enum-told .given .1))
     (λ c. search needs)
-    (λ c κs. code-some _ _ _ _ _ _ _ _ _ _ (calling t (c .before .before .before .before .before .before .before .before .before .before .before .before .before .before .before .before .before)) (c .before .before .before .before .before .before .before .before .before .before .before .before .before .before .before .before .call-at .result) (c .before .before .before .before .before .before .before .before .before .before .before .before .before .before .before .variables-of .result) (c .before .before .before .before .before .before .before .before .before .before .before .before .before .called-values .result) (c .before .before .before .before .before .before .before .before .before .before .before .before .before .before .before .before .call-at .ensures) (c .before .before .before .before .before .before .before .before .before .before .before .before .before .before .before .variables-of .ensures) (c .before .before .before .before .before .before .before .before .before .before .before .before .before .called-values .ensures))
-    (λ c κs. let p = calling t (c .before .before .before .before .before .before .before .before .before .before .before .before .before .before .before .before .before .before .before .before) in (number-few _ _ _ _ _ _ _ _ _ _ p, statement-within _ _ _ _ _ _ _ _ _ _ p, p .asks .callable .flow-long))
-    (λ c. let l = code-more _ _ _ _ _ _ _ _ _ _ (calling t (c .before .before .before .before .before .before .before .before .before .before .before .before .before .before .before .before .before .before .before .before .before)) (c .before .before .before .before .before .before .before .before .before .before .before .before .before .before .before .before .before .before .before .before .call-at .result) (c .before .before .before .before .before .before .before .before .before .before .before .before .before .before .before .before .before .before .before .variables-of .result) (c .before .before .before .before .before .before .before .before .before .before .before .before .before .before .before .before .before .called-values .result) (c .before .before .before .before .before .before .before .before .before .before .before .before .before .before .before .before .before .before .before .before .call-at .ensures) (c .before .before .before .before .before .before .before .before .before .before .before .before .before .before .before .before .before .before .before .variables-of .ensures) (c .before .before .before .before .before .before .before .before .before .before .before .before .before .before .before .before .before .called-values .ensures) _ _ _ (c .before .before .before .before .before .before .before .before .before .before .before .before .before .run-routine .ensures) (c .before .before .before .before .before .before .level .given .1) in let p = calling t (c .before .before .before .before .before .before .before .before .before .before .before .before .before .before .before .before .before .before .before .before .before) in omega (arith, l, p .later, steps-left _ _ _ _ _ _ _ _ _ _ p))
-    (λ c. (code-loops _ _ _ _ _ _ _ _ _ _ (calling t (c .before .before .before .before .before .before .before .before .before .before .before .before .before .before .before .before .before .before .before .before .before)) (c .before .before .before .before .before .before .before .before .before .before .before .before .before .before .before .before .before .before .before .before .call-at .result) (c .before .before .before .before .before .before .before .before .before .before .before .before .before .before .before .before .before .before .before .variables-of .result) (c .before .before .before .before .before .before .before .before .before .before .before .before .before .before .before .before .before .called-values .result) (c .before .before .before .before .before .before .before .before .before .before .before .before .before .before .before .before .before .before .before .before .call-at .ensures) (c .before .before .before .before .before .before .before .before .before .before .before .before .before .before .before .before .before .before .before .variables-of .ensures) (c .before .before .before .before .before .before .before .before .before .before .before .before .before .before .before .before .before .called-values .ensures) _ _ _ (c .before .before .before .before .before .before .before .before .before .before .before .before .before .run-routine .ensures) (c .before .before .before .before .before .before .before .before .before .before .before .before .before .run-routine .last .1 .1 .1 .1 .0) (c .before .before .before .before .before .before .level .given .1) (c .before .before .before .before .before .before .before .before .before .before .before .before .before .run-routine .kept .1 .1 .1 .1 .1 .1 .1 .0) (c .before .before .before .before .before .before .before .before .before .before .before .before .before .run-routine .kept .1 .1 .1 .1 .0) (c .due-after .ensures) (c .before .before .before .give-result .ensures) (c .before .before .before .give-result .kept .0) (c .before .before .before .before .before .before .before .before .before .before .before .before .before .run-routine .kept .1 .1 .1 .1 .1 .1 .1 .1 .0), c .before .before .before .before .before .before .before .before .before .before .before .before .before .before .before .before .before .before .before .before .before .before .before .before .before .before .before .before .before .before .before .before .before .before .before .loop .inv .1))
+    (λ c κs. code-some _ _ _ _ _ _ _ _ _ _
+    (calling t (c .before .before .before .before .before .before .before .before .before .before .before .before .before .before .before .before .before))
+    (c .before .before .before .before .before .before .before .before .before .before .before .before .before .before .before .before .call-at .result)
+    (c .before .before .before .before .before .before .before .before .before .before .before .before .before .before .before .variables-of .result)
+    (c .before .before .before .before .before .before .before .before .before .before .before .before .before .called-values .result)
+    (c .before .before .before .before .before .before .before .before .before .before .before .before .before .before .before .before .call-at .ensures)
+    (c .before .before .before .before .before .before .before .before .before .before .before .before .before .before .before .variables-of .ensures)
+    (c .before .before .before .before .before .before .before .before .before .before .before .before .before .called-values .ensures))
+    (λ c κs. let p = calling t
+    (c .before .before .before .before .before .before .before .before .before .before .before .before .before .before .before .before .before .before
+    .before .before) in (number-few _ _ _ _ _ _ _ _ _ _ p, statement-within _ _ _ _ _ _ _ _ _ _ p, p .asks .callable .flow-long))
+    (λ c. let l = code-more _ _ _ _ _ _ _ _ _ _
+    (calling t (c .before .before .before .before .before .before .before .before .before .before .before .before .before .before .before .before .before
+    .before .before .before .before))
+    (c .before .before .before .before .before .before .before .before .before .before .before .before .before .before .before .before .before .before
+    .before .before .call-at .result)
+    (c .before .before .before .before .before .before .before .before .before .before .before .before .before .before .before .before .before .before
+    .before .variables-of .result)
+    (c .before .before .before .before .before .before .before .before .before .before .before .before .before .before .before .before .before
+    .called-values .result)
+    (c .before .before .before .before .before .before .before .before .before .before .before .before .before .before .before .before .before .before
+    .before .before .call-at .ensures)
+    (c .before .before .before .before .before .before .before .before .before .before .before .before .before .before .before .before .before .before
+    .before .variables-of .ensures)
+    (c .before .before .before .before .before .before .before .before .before .before .before .before .before .before .before .before .before
+    .called-values .ensures) _ _ _
+    (c .before .before .before .before .before .before .before .before .before .before .before .before .before .run-routine .ensures)
+    (c .before .before .before .before .before .before .level .given .1) in let p = calling t
+    (c .before .before .before .before .before .before .before .before .before .before .before .before .before .before .before .before .before .before
+    .before .before .before) in omega (arith, l, p .later, steps-left _ _ _ _ _ _ _ _ _ _ p))
+    (λ c. (
+      code-loops _ _ _ _ _ _ _ _ _ _
+          (calling t (c .before .before .before .before .before .before .before .before .before .before .before .before .before .before .before .before .before
+          .before .before .before .before))
+          (c .before .before .before .before .before .before .before .before .before .before .before .before .before .before .before .before .before .before
+          .before .before .call-at .result)
+          (c .before .before .before .before .before .before .before .before .before .before .before .before .before .before .before .before .before .before
+          .before .variables-of .result)
+          (c .before .before .before .before .before .before .before .before .before .before .before .before .before .before .before .before .before
+          .called-values .result)
+          (c .before .before .before .before .before .before .before .before .before .before .before .before .before .before .before .before .before .before
+          .before .before .call-at .ensures)
+          (c .before .before .before .before .before .before .before .before .before .before .before .before .before .before .before .before .before .before
+          .before .variables-of .ensures)
+          (c .before .before .before .before .before .before .before .before .before .before .before .before .before .before .before .before .before
+          .called-values .ensures) _ _ _
+          (c .before .before .before .before .before .before .before .before .before .before .before .before .before .run-routine .ensures)
+          (c .before .before .before .before .before .before .before .before .before .before .before .before .before .run-routine .last .1 .1 .1 .1 .0)
+          (c .before .before .before .before .before .before .level .given .1)
+          (c .before .before .before .before .before .before .before .before .before .before .before .before .before .run-routine .kept .1 .1 .1 .1 .1 .1 .1 .0)
+          (c .before .before .before .before .before .before .before .before .before .before .before .before .before .run-routine .kept .1 .1 .1 .1 .0)
+          (c .due-after .ensures) (c .before .before .before .give-result .ensures) (c .before .before .before .give-result .kept .0)
+          (c .before .before .before .before .before .before .before .before .before .before .before .before .before .run-routine .kept .1 .1 .1 .1 .1 .1 .1 .1
+          .0),
+      c .before .before .before .before .before .before .before .before .before .before .before .before .before .before .before .before .before .before
+          .before .before .before .before .before .before .before .before .before .before .before .before .before .before .before .before .before .loop .inv .1,
+    ))

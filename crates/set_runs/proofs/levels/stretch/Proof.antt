@@ -12,8 +12,10 @@ stretch-spec =
     (λ c κs. search needs) (λ c. search needs) (λ c. search needs) (λ c. search needs) (λ c. search needs) (λ c. search needs)
     (λ c. search needs) (λ c. search needs) (λ c. search needs) (λ c. search needs) (λ c. search needs) (λ c. search needs)
     (λ c. search needs) (λ c. search needs) (λ c. search needs) (λ c. search needs) (λ c. search needs)
-    (λ c κs. may-raw _ _ _ (c .before .before .before .before .before .part-of .ensures .0) (c .before .before .before .before .before .before .before .before .before .before .before .before .pre))
+    (λ c κs. may-raw _ _ _ (c .before .before .before .before .before .part-of .ensures .0)
+    (c .before .before .before .before .before .before .before .before .before .before .before .before .pre))
     (λ c. search needs) (λ c. search needs) (λ c. search needs)
     (λ c. ran-raw _ _ _ (c .before .before .before .before .before .before .before .before .before .before .before .before .part-of .ensures .0)
-    (c .before .before .before .before .before .before .before .before .before .before .before .before .before .before .before .before .before .before .before .pre) (c .before .before .before .before .before .before .resume .kept .1 .1 .0)
+    (c .before .before .before .before .before .before .before .before .before .before .before .before .before .before .before .before .before .before .before
+    .pre) (c .before .before .before .before .before .before .resume .kept .1 .1 .0)
     (c .before .before .before .before .before .before .resume .ensures)))

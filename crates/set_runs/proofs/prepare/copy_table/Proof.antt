@@ -30,6 +30,7 @@ copy-table-spec =
     (λ c. let v = c .before .before .loop .inv in omega (arith, v .0 .long, v .1, v .2, c .before .loop-test .taken))
     (λ c. search needs)
     (λ c. search needs)
-    (λ c. let v = c .before .before .loop .inv in (copied-more (v .0) (omega (arith, v .1, v .2, c .before .loop-test .taken)) (toZ-ofZ {w = w32} ((record { sfits = c .member .given }))), v .1, v .2))
+    (λ c. let v = c .before .before .loop .inv in
+    (copied-more (v .0) (omega (arith, v .1, v .2, c .before .loop-test .taken)) (toZ-ofZ {w = w32} ((record { sfits = c .member .given }))), v .1, v .2))
     (λ c. c .before .loop .inv .0 .long)
     (λ c. let v = c .before .loop .inv in holds-copied (v .0) refl (c .loop-test .left) (v .2)))

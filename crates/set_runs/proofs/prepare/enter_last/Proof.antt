@@ -21,4 +21,6 @@ enter-last-spec =
     (λ c κs. search needs)
     (λ c κs. λ p. rw (c .read-environment .ensures) (sizes-small _ _ p))
     (λ c. c .before .before .before .before .before .before .put-member .ensures .long)
-    (λ c. entered-last _ _ (c .before .before .before .before .before .before .before .before .before .before .before .before .before .pre .0) _ _ _ _ refl (c .before .before .before .before .before .before .put-member .ensures) (c .before .before .before .sections-of .ensures) (c .before .read-environment .ensures) (c .enter .ensures)))
+    (λ c. entered-last _ _ (c .before .before .before .before .before .before .before .before .before .before .before .before .before .pre .0) _ _ _ _ refl
+    (c .before .before .before .before .before .before .put-member .ensures) (c .before .before .before .sections-of .ensures)
+    (c .before .read-environment .ensures) (c .enter .ensures)))

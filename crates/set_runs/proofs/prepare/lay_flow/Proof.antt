@@ -21,4 +21,6 @@ lay-flow-spec =
     (λ c. let p = c .before .before .before .before .before .before .before .before .pre in omega (arith, p .1, p .3, few-lengths _ _ (p .0)))
     (λ c κs. search needs)
     (λ c. c .before .before .before .before .before .before .before .before .put-member .ensures .long) (λ c. search needs)
-    (λ c. let p = c .before .before .before .before .before .before .before .before .before .before .before .before .pre in flow-laid _ _ (p .0) _ (p .1) (c .before .before .before .before .before .before .before .before .put-member .ensures) (c .before .before .before .before .before .sections-of .ensures) (p .3) (c .before .before .write-successors .ensures)))
+    (λ c. let p = c .before .before .before .before .before .before .before .before .before .before .before .before .pre in flow-laid _ _ (p .0) _ (p .1)
+    (c .before .before .before .before .before .before .before .before .put-member .ensures)
+    (c .before .before .before .before .before .sections-of .ensures) (p .3) (c .before .before .write-successors .ensures)))

@@ -15,7 +15,9 @@ member-word-spec =
     (λ c. toZ-ofZ {w = w32} {z = c .head-word .result} (record { sfits = c .head-word .ok }) ∙ c .head-word .ensures)
     (λ c. search needs) (λ c. search needs)
     (λ c κs. search needs)
-    (λ c. toZ-ofZ {w = w32} {z = c .signed-word .result} (record { sfits = c .signed-word .ok }) ∙ c .signed-word .ensures ∙ word-object (c .before .before .before .before .before .pre .0) _ (c .before .before .before .before .if1 .left) (c .before .before .if2 .taken))
+    (λ c. toZ-ofZ {w = w32} {z = c .signed-word .result} (record { sfits = c .signed-word .ok }) ∙ c .signed-word .ensures
+    ∙ word-object (c .before .before .before .before .before .pre .0) _ (c .before .before .before .before .if1 .left) (c .before .before .if2 .taken))
     (λ c. search needs)
     (λ c κs. search needs)
-    (λ c. toZ-ofZ {w = w32} {z = c .signed-word2 .result} (record { sfits = c .signed-word2 .ok }) ∙ c .signed-word2 .ensures ∙ word-behind (c .before .before .before .before .before .pre .0) _ (c .before .before .if2 .left)))
+    (λ c. toZ-ofZ {w = w32} {z = c .signed-word2 .result} (record { sfits = c .signed-word2 .ok }) ∙ c .signed-word2 .ensures
+    ∙ word-behind (c .before .before .before .before .before .pre .0) _ (c .before .before .if2 .left)))

@@ -23,21 +23,37 @@ put-objects-spec =
     (tie.spec
     Inv-loop μ-loop
     (λ c κs. search needs) (λ c κs. search needs)
-    (λ c. let p = puts-made _ _ (c .before .before .before .pre .0) (c .before .before .before .pre .1) (c .before .before .sections-of .ensures) (c .before .sections-of2 .ensures) (c .before .before .before .pre .2) in record { fits = omega (arith, full-long p, full-within p) })
+    (λ c. let p = puts-made _ _ (c .before .before .before .pre .0) (c .before .before .before .pre .1) (c .before .before .sections-of .ensures)
+    (c .before .sections-of2 .ensures) (c .before .before .before .pre .2) in record { fits = omega (arith, full-long p, full-within p) })
     (λ c. copied-none _ _)
-    (λ c κs. let p = puts-made _ _ (c .before .before .before .before .before .pre .0) (c .before .before .before .before .before .pre .1) (c .before .before .before .before .sections-of .ensures) (c .before .before .before .sections-of2 .ensures)
+    (λ c κs. let p = puts-made _ _ (c .before .before .before .before .before .pre .0) (c .before .before .before .before .before .pre .1)
+    (c .before .before .before .before .sections-of .ensures) (c .before .before .before .sections-of2 .ensures)
     (c .before .before .before .before .before .pre .2) in (p, omega (arith, c .loop-test .taken, full-long p, full-within p)))
-    (λ c. let p = puts-made _ _ (c .before .before .before .before .before .before .pre .0) (c .before .before .before .before .before .before .pre .1) (c .before .before .before .before .before .sections-of .ensures) (c .before .before .before .before .sections-of2 .ensures)
+    (λ c. let p = puts-made _ _ (c .before .before .before .before .before .before .pre .0) (c .before .before .before .before .before .before .pre .1)
+    (c .before .before .before .before .before .sections-of .ensures) (c .before .before .before .before .sections-of2 .ensures)
     (c .before .before .before .before .before .before .pre .2) in record { fits = omega (arith, c .before .loop-test .taken, full-long p, full-within p) })
-    (λ c. let p = puts-made _ _ (c .before .before .before .before .before .before .pre .0) (c .before .before .before .before .before .before .pre .1) (c .before .before .before .before .before .sections-of .ensures) (c .before .before .before .before .sections-of2 .ensures)
-    (c .before .before .before .before .before .before .pre .2) in omega (arith, c .before .loop-test .taken, full-long p, full-within p, c .before .before .loop .inv .long, c .before .before .before .before .before .before .pre .3))
-    (λ c. let p = puts-made _ _ (c .before .before .before .before .before .before .pre .0) (c .before .before .before .before .before .before .pre .1) (c .before .before .before .before .before .sections-of .ensures) (c .before .before .before .before .sections-of2 .ensures)
+    (λ c. let p = puts-made _ _ (c .before .before .before .before .before .before .pre .0) (c .before .before .before .before .before .before .pre .1)
+    (c .before .before .before .before .before .sections-of .ensures) (c .before .before .before .before .sections-of2 .ensures)
+    (c .before .before .before .before .before .before .pre .2) in omega (
+      arith,
+      c .before .loop-test .taken,
+      full-long p,
+      full-within p,
+      c .before .before .loop .inv .long,
+      c .before .before .before .before .before .before
+          .pre .3,
+    ))
+    (λ c. let p = puts-made _ _ (c .before .before .before .before .before .before .pre .0) (c .before .before .before .before .before .before .pre .1)
+    (c .before .before .before .before .before .sections-of .ensures) (c .before .before .before .before .sections-of2 .ensures)
     (c .before .before .before .before .before .before .pre .2) in record { fits = omega (arith, c .before .loop-test .taken, full-long p, full-within p) })
     (λ c. omega (arith, c .before .loop-test .taken))
-    (λ c. let p = puts-made _ _ (c .before .before .before .before .before .before .pre .0) (c .before .before .before .before .before .before .pre .1) (c .before .before .before .before .before .sections-of .ensures) (c .before .before .before .before .sections-of2 .ensures)
+    (λ c. let p = puts-made _ _ (c .before .before .before .before .before .before .pre .0) (c .before .before .before .before .before .before .pre .1)
+    (c .before .before .before .before .before .sections-of .ensures) (c .before .before .before .before .sections-of2 .ensures)
     (c .before .before .before .before .before .before .pre .2) in
-    copied-more (c .before .before .loop .inv) (omega (arith, c .before .loop-test .taken, full-long p, full-within p, c .before .before .before .before .before .before .pre .3))
+    copied-more (c .before .before .loop .inv)
+    (omega (arith, c .before .loop-test .taken, full-long p, full-within p, c .before .before .before .before .before .before .pre .3))
     (toZ-ofZ {w = w32} {z = c .member-word .result} (record { sfits = c .member-word .ok }) ∙ c .member-word .ensures))
     (λ c. c .before .loop .inv .long)
-    (λ c. copied-whole (puts-made _ _ (c .before .before .before .before .before .pre .0) (c .before .before .before .before .before .pre .1) (c .before .before .before .before .sections-of .ensures) (c .before .before .before .sections-of2 .ensures)
+    (λ c. copied-whole (puts-made _ _ (c .before .before .before .before .before .pre .0) (c .before .before .before .before .before .pre .1)
+    (c .before .before .before .before .sections-of .ensures) (c .before .before .before .sections-of2 .ensures)
     (c .before .before .before .before .before .pre .2)) (c .before .before .before .before .before .pre .3) refl (c .loop-test .left) (c .before .loop .inv)))

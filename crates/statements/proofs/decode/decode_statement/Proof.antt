@@ -1,7 +1,6 @@
 -- `statements::decode::decode_statement` meets its contract.
-use mathlib.Core.Path.{ap, _∙_}
 use borrow.Author.Needs.{needs}
-use Rattle.statements.specs.Decode.{decoded, decodedAt}
+use Rattle.statements.specs.Decode.{decodedAt}
 use Rattle.statements.proofs.decode.decode_statement.Statement.{statement}
 use Rattle.statements.proofs.decode.decode_statement.Tie as tie
 
@@ -10,5 +9,5 @@ unfolding decodedAt
 decode-statement-spec =
     tie.close
     (tie.spec
-    (λ c. search needs) (λ c. search needs) (λ c. search needs) (λ c. search needs) (λ c. search needs) (λ c κs. search needs) (λ c κs. search needs)
-    (λ c. c .decode-kind .ensures ∙ ap decoded (c .before .fields-within .ensures)))
+    (λ c κs. search needs) (λ c κs. search needs)
+    (λ c. rw (c .before .record-start .ensures) at (c .decode-kind .ensures)))

@@ -16,6 +16,18 @@ read-add-constant-spec =
     (λ c. simp (
       c .plain2 .ensures,
       c .before .plain .ensures,
-      simp (c .before .before .before .unused-from .ensures, c .before .before .before .before .is-constant .ensures, c .before .before .before .before .before .names-integer2 .ensures, c .before .before .before .before .before .before .names-integer .ensures) at (c .before .before .if1 .taken),
+      simp (
+        c .before .before .before .unused-from .ensures,
+        c .before .before .before .before .is-constant .ensures,
+        c .before .before .before .before .before
+            .names-integer2 .ensures,
+        c .before .before .before .before .before .before .names-integer .ensures,
+      ) at (c .before .before .if1 .taken),
     ))
-    (λ c. simp (simp (c .before .unused-from .ensures, c .before .before .is-constant .ensures, c .before .before .before .names-integer2 .ensures, c .before .before .before .before .names-integer .ensures) at (c .if1 .left))))
+    (λ c. simp (simp (
+      c .before .unused-from .ensures,
+      c .before .before .is-constant .ensures,
+      c .before .before .before .names-integer2 .ensures,
+      c .before
+          .before .before .before .names-integer .ensures,
+    ) at (c .if1 .left))))

@@ -29,4 +29,11 @@ read-arithmetic-spec =
         c .before .before .before .before .before .before .before .before .before .names-integer .ensures,
       ) at (c .before .before .before .before .if1 .taken),
     ))
-    (λ c. simp (simp (c .before .unused-from .ensures, c .before .before .is-below .ensures, c .before .before .before .names-integer3 .ensures, c .before .before .before .before .names-integer2 .ensures, c .before .before .before .before .before .names-integer .ensures) at (c .if1 .left))))
+    (λ c. simp (simp (
+      c .before .unused-from .ensures,
+      c .before .before .is-below .ensures,
+      c .before .before .before .names-integer3 .ensures,
+      c .before
+          .before .before .before .names-integer2 .ensures,
+      c .before .before .before .before .before .names-integer .ensures,
+    ) at (c .if1 .left))))

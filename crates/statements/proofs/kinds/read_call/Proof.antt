@@ -23,4 +23,11 @@ read-call-spec =
         c .before .before .before .before .before .before .names-index .ensures,
       ) at (c .before .if1 .taken),
     ))
-    (λ c. simp (simp (c .before .is-argument4 .ensures, c .before .before .is-argument3 .ensures, c .before .before .before .is-argument2 .ensures, c .before .before .before .before .is-argument .ensures, c .before .before .before .before .before .names-index .ensures) at (c .if1 .left))))
+    (λ c. simp (simp (
+      c .before .is-argument4 .ensures,
+      c .before .before .is-argument3 .ensures,
+      c .before .before .before .is-argument2 .ensures,
+      c .before
+          .before .before .before .is-argument .ensures,
+      c .before .before .before .before .before .names-index .ensures,
+    ) at (c .if1 .left))))

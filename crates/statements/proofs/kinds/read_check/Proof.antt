@@ -10,5 +10,9 @@ read-check-spec =
     (λ c κs. tt)
     (λ c κs. tt)
     (λ c κs. tt)
-    (λ c. simp (c .condition-of .ensures, simp (c .before .before .unused-from .ensures, c .before .before .before .condition-right .ensures) at (c .before .if1 .taken)))
+    (λ c. simp (
+      c .condition-of .ensures,
+      simp (c .before .before .unused-from .ensures, c .before .before .before .condition-right .ensures) at
+          (c .before .if1 .taken),
+    ))
     (λ c. simp (simp (c .before .unused-from .ensures, c .before .before .condition-right .ensures) at (c .if1 .left))))

@@ -12,5 +12,15 @@ read-declare-spec =
     (λ c κs. tt)
     (λ c κs. tt)
     (λ c κs. tt)
-    (λ c. simp (c .plain2 .ensures, c .before .plain .ensures, simp (c .before .before .before .unused-from .ensures, c .before .before .before .before .is-below .ensures, c .before .before .before .before .before .names-pointer .ensures) at (c .before .before .if1 .taken)))
-    (λ c. simp (simp (c .before .unused-from .ensures, c .before .before .is-below .ensures, c .before .before .before .names-pointer .ensures) at (c .if1 .left))))
+    (λ c. simp (
+      c .plain2 .ensures,
+      c .before .plain .ensures,
+      simp (
+        c .before .before .before .unused-from .ensures,
+        c .before .before .before .before .is-below .ensures,
+        c .before .before .before .before .before
+            .names-pointer .ensures,
+      ) at (c .before .before .if1 .taken),
+    ))
+    (λ c. simp (simp (c .before .unused-from .ensures, c .before .before .is-below .ensures, c .before .before .before .names-pointer .ensures) at
+    (c .if1 .left))))

@@ -17,6 +17,12 @@ read-if-spec =
       c .plain2 .ensures,
       c .before .plain .ensures,
       c .before .before .condition-of .ensures,
-      simp (c .before .before .before .before .is-below2 .ensures, c .before .before .before .before .before .is-below .ensures, c .before .before .before .before .before .before .condition-right .ensures) at (c .before .before .before .if1 .taken),
+      simp (
+        c .before .before .before .before .is-below2 .ensures,
+        c .before .before .before .before .before .is-below .ensures,
+        c .before .before .before
+            .before .before .before .condition-right .ensures,
+      ) at (c .before .before .before .if1 .taken),
     ))
-    (λ c. simp (simp (c .before .is-below2 .ensures, c .before .before .is-below .ensures, c .before .before .before .condition-right .ensures) at (c .if1 .left))))
+    (λ c. simp (simp (c .before .is-below2 .ensures, c .before .before .is-below .ensures, c .before .before .before .condition-right .ensures) at
+    (c .if1 .left))))

@@ -11,5 +11,10 @@ read-literal-spec =
     (λ c κs. tt)
     (λ c κs. tt)
     (λ c κs. tt)
-    (λ c. simp (c .literal-value .ensures, c .before .plain .ensures, simp (c .before .before .before .unused-from .ensures, c .before .before .before .before .names-integer .ensures) at (c .before .before .if1 .taken)))
+    (λ c. simp (
+      c .literal-value .ensures,
+      c .before .plain .ensures,
+      simp
+          (c .before .before .before .unused-from .ensures, c .before .before .before .before .names-integer .ensures) at (c .before .before .if1 .taken),
+    ))
     (λ c. simp (simp (c .before .unused-from .ensures, c .before .before .names-integer .ensures) at (c .if1 .left))))

@@ -27,4 +27,11 @@ read-load-spec =
         c .before .before .before .before .before .before .before .before .names-integer .ensures,
       ) at (c .before .before .before .if1 .taken),
     ))
-    (λ c. simp (simp (c .before .unused-from .ensures, c .before .before .is-constant .ensures, c .before .before .before .names-index .ensures, c .before .before .before .before .names-pointer .ensures, c .before .before .before .before .before .names-integer .ensures) at (c .if1 .left))))
+    (λ c. simp (simp (
+      c .before .unused-from .ensures,
+      c .before .before .is-constant .ensures,
+      c .before .before .before .names-index .ensures,
+      c .before
+          .before .before .before .names-pointer .ensures,
+      c .before .before .before .before .before .names-integer .ensures,
+    ) at (c .if1 .left))))

@@ -10,5 +10,9 @@ read-null-spec =
     (λ c κs. tt)
     (λ c κs. tt)
     (λ c κs. tt)
-    (λ c. simp (c .plain .ensures, simp (c .before .before .unused-from .ensures, c .before .before .before .names-pointer .ensures) at (c .before .if1 .taken)))
+    (λ c. simp (
+      c .plain .ensures,
+      simp (c .before .before .unused-from .ensures, c .before .before .before .names-pointer .ensures) at
+          (c .before .if1 .taken),
+    ))
     (λ c. simp (simp (c .before .unused-from .ensures, c .before .before .names-pointer .ensures) at (c .if1 .left))))

@@ -27,4 +27,11 @@ read-pointer-index-spec =
         c .before .before .before .before .before .before .before .before .names-pointer .ensures,
       ) at (c .before .before .before .if1 .taken),
     ))
-    (λ c. simp (simp (c .before .unused-from .ensures, c .before .before .takes-pointer .ensures, c .before .before .before .names-integer .ensures, c .before .before .before .before .names-pointer2 .ensures, c .before .before .before .before .before .names-pointer .ensures) at (c .if1 .left))))
+    (λ c. simp (simp (
+      c .before .unused-from .ensures,
+      c .before .before .takes-pointer .ensures,
+      c .before .before .before .names-integer .ensures,
+      c .before
+          .before .before .before .names-pointer2 .ensures,
+      c .before .before .before .before .before .names-pointer .ensures,
+    ) at (c .if1 .left))))

@@ -25,4 +25,11 @@ read-pointer-offset-spec =
         c .before .before .before .before .before .before .before .names-pointer .ensures,
       ) at (c .before .before .if1 .taken),
     ))
-    (λ c. simp (simp (c .before .unused-from .ensures, c .before .before .takes-pointer .ensures, c .before .before .before .is-constant .ensures, c .before .before .before .before .names-pointer2 .ensures, c .before .before .before .before .before .names-pointer .ensures) at (c .if1 .left))))
+    (λ c. simp (simp (
+      c .before .unused-from .ensures,
+      c .before .before .takes-pointer .ensures,
+      c .before .before .before .is-constant .ensures,
+      c .before
+          .before .before .before .names-pointer2 .ensures,
+      c .before .before .before .before .before .names-pointer .ensures,
+    ) at (c .if1 .left))))

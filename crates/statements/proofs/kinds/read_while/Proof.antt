@@ -12,5 +12,15 @@ read-while-spec =
     (λ c κs. tt)
     (λ c κs. tt)
     (λ c κs. tt)
-    (λ c. simp (c .plain .ensures, c .before .condition-of .ensures, simp (c .before .before .before .unused-from .ensures, c .before .before .before .before .is-below .ensures, c .before .before .before .before .before .condition-right .ensures) at (c .before .before .if1 .taken)))
-    (λ c. simp (simp (c .before .unused-from .ensures, c .before .before .is-below .ensures, c .before .before .before .condition-right .ensures) at (c .if1 .left))))
+    (λ c. simp (
+      c .plain .ensures,
+      c .before .condition-of .ensures,
+      simp (
+        c .before .before .before .unused-from .ensures,
+        c .before .before .before .before .is-below .ensures,
+        c .before .before .before .before .before
+            .condition-right .ensures,
+      ) at (c .before .before .if1 .taken),
+    ))
+    (λ c. simp (simp (c .before .unused-from .ensures, c .before .before .is-below .ensures, c .before .before .before .condition-right .ensures) at
+    (c .if1 .left))))

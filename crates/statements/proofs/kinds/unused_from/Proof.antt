@@ -12,4 +12,11 @@ unused-from-spec =
     (λ c κs. tt)
     (λ c κs. tt)
     (λ c κs. tt)
-    (λ c. simp (c .is-zero5 .ensures, c .before .is-zero4 .ensures, c .before .before .is-zero3 .ensures, c .before .before .before .is-zero2 .ensures, c .before .before .before .before .is-zero .ensures)))
+    (λ c. simp (
+      c .is-zero5 .ensures,
+      c .before .is-zero4 .ensures,
+      c .before .before .is-zero3 .ensures,
+      c .before .before .before .is-zero2 .ensures,
+      c
+          .before .before .before .before .is-zero .ensures,
+    )))

@@ -17,4 +17,5 @@ combine-spec =
     (λ c. search needs)
     (λ c. rw (c .before .before .match .keys1, c .before .wide .ensures .0, c .wide2 .ensures .0))
     (λ c. rw (c .before .before .match .keys2, c .before .wide3 .ensures .0, c .wide4 .ensures .0))
-    (λ c. rw (c .before .wide5 .ensures .0, c .wide6 .ensures .0) (combined-else _ _ _ (c .before .before .match .rest .0 .1) (c .before .before .match .rest .1))))
+    (λ c. rw (c .before .wide5 .ensures .0, c .wide6 .ensures .0)
+    (combined-else _ _ _ (c .before .before .match .rest .0 .1) (c .before .before .match .rest .1))))

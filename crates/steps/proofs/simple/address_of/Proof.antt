@@ -10,4 +10,9 @@ address-of-spec =
     (tie.spec
     (λ c κs. search needs) (λ c κs. search needs) (λ c κs. search needs) (λ c κs. search needs)
     (λ c. search needs) (λ c. search needs)
-    (λ c. (rw (size-in _ _ (c .before .before .before .before .before .before .pre .0)) (simp (c .before .before .before .value-at .ensures .0, c .scaled .ensures .0, c .before .before .size-in .ensures, c .before .value-at2 .ensures .0)), search needs)))
+    (λ c. (
+      rw (size-in _ _ (c .before .before .before .before .before .before .pre .0))
+          (simp (c .before .before .before .slot .ensures .0, c .scaled .ensures .0, c .before .before .size-in .ensures, c .before .slot2 .ensures .0)),
+      search
+          needs,
+    )))

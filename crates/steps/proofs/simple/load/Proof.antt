@@ -9,15 +9,22 @@ pub load-spec : {M : Type 1} → statement M
 load-spec =
     tie.close
     (tie.spec
-    (λ c κs. let p = c .before .before .before .before .pre in (p .pointer, p .ends, p .sizes _, p .constant))
-    (λ c κs. search needs) (λ c. search needs)
-    (λ c. let r = c .before .before .before .before .before .before .before .before .before .pre .inside (goes-on _ _ _ _ _ (rw (c .before .before .before .before .address-of .ensures .0) at (c .before .before .check-load .ensures)) (c .enum-told .given .1)) in
+    (λ c κs. let p = c .before .before .before .before .pre .0 in (p .pointer, p .ends, p .sizes _, p .constant, p .index, p .slots))
+    (λ c κs. let q = c .before .before .before .before .before .before .pre in let p = q .0 in
+    ((p .pointer, p .ends, p .small, p .sizes, p .named, p .slots), λ e. rw (c .before .address-of .ensures .0) (q .1 e))) (λ c. search needs)
+    (λ c. let r = c .before .before .before .before .before .before .before .before .before .pre .0 .inside
+    (goes-on _ _ _ _ _ (rw (c .before .before .before .before .address-of .ensures .0) at (c .before .before .check-load .ensures))
+    (c .enum-told .given .1)) in
     omega (arith, r .0, r .1, c .before .before .before .before .address-of .ensures .0))
     (λ c. search needs)
-    (λ c. let r = c .before .before .before .before .before .before .before .before .before .before .pre .inside (goes-on _ _ _ _ _ (rw (c .before .before .before .before .before .address-of .ensures .0) at (c .before .before .before .check-load .ensures)) (c .before .enum-told .given .1)) in
+    (λ c. let r = c .before .before .before .before .before .before .before .before .before .before .pre .0 .inside
+    (goes-on _ _ _ _ _ (rw (c .before .before .before .before .before .address-of .ensures .0) at (c .before .before .before .check-load .ensures))
+    (c .before .enum-told .given .1)) in
     omega (arith, r .0, r .1, c .before .before .before .before .before .address-of .ensures .0))
     (λ c. search needs) (λ c. search needs) (λ c. search needs) (λ c. search needs) (λ c. search needs)
-    (λ c. rw (c .before .before .before .before .before .address-of .ensures .0) (assigns-go (rw (c .before .before .before .before .before .address-of .ensures .0) at (c .before .before .before .check-load .ensures)) (c .before .enum-told .given .1)))
+    (λ c. rw (c .before .before .before .before .before .address-of .ensures .0)
+    (assigns-go (rw (c .before .before .before .before .before .address-of .ensures .0) at (c .before .before .before .check-load .ensures))
+    (c .before .enum-told .given .1)))
     (λ c. search needs)
     (λ c. assigns-stop (rw (c .before .before .before .before .address-of .ensures .0) at (c .before .before .check-load .ensures)) (c .enum-told2 .given .1))
     (λ c. search needs)

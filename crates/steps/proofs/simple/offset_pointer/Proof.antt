@@ -11,4 +11,5 @@ offset-pointer-spec =
     (λ c. search needs) (λ c. search needs) (λ c. search needs) (λ c. search needs) (λ c. search needs)
     (λ c. assigns-copy _ _ _ _ _ _ (c .before .if1 .taken))
     (λ c. search needs) (λ c. search needs) (λ c κs. search needs) (λ c. search needs) (λ c κs. search needs) (λ c. search needs)
-    (λ c. assigns-offset _ _ _ _ _ _ _ _ _ (c .before .before .before .before .before .before .if1 .left) (c .before .before .before .before .wide .ensures .0) (c .before .before .assign-pointer .ensures)))
+    (λ c. assigns-offset _ _ _ _ _ _ _ _ _ (c .before .before .before .before .before .before .if1 .left) (c .before .before .before .before .wide .ensures .0)
+    (c .before .before .assign-pointer .ensures)))

@@ -12,4 +12,11 @@ pointer-record-spec =
     (λ c κs. tt)
     (λ c κs. tt)
     (λ c κs. tt)
-    (λ c. simp (c .end-right2 .ensures, c .before .end-right .ensures, c .before .before .is-size .ensures, c .before .before .before .kind-is .ensures, c .before .before .before .before .kind-of .ensures)))
+    (λ c. simp (
+      c .end-right2 .ensures,
+      c .before .end-right .ensures,
+      c .before .before .is-size .ensures,
+      c .before .before .before .kind-is .ensures,
+      c
+          .before .before .before .before .kind-of .ensures,
+    )))

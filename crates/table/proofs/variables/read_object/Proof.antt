@@ -13,5 +13,10 @@ read-object-spec =
     (λ c. let l = object-limits _ _ (simp (c .before .before .before .in-limits .ensures) at (c .before .if1 .taken)) in omega arith)
     (λ c κs. tt)
     (λ c κs. tt)
-    (λ c. simp (c .object-cells .ensures, c .before .word .ensures, simp (c .before .before .before .before .before .in-limits .ensures) at (c .before .before .before .if1 .taken)))
+    (λ c. simp (
+      c .object-cells .ensures,
+      c .before .word .ensures,
+      simp (c .before .before .before .before .before .in-limits .ensures) at
+          (c .before .before .before .if1 .taken),
+    ))
     (λ c. simp (simp (c .before .before .in-limits .ensures) at (c .if1 .left))))

@@ -11,5 +11,10 @@ row-of-spec =
     (λ c κs. tt)
     (λ c κs. tt)
     (λ c κs. tt)
-    (λ c. simp (c .end-of2 .ensures, c .before .end-of .ensures, simp (c .before .before .before .end-right2 .ensures, c .before .before .before .before .end-right .ensures) at (c .before .before .if1 .taken)))
+    (λ c. simp (
+      c .end-of2 .ensures,
+      c .before .end-of .ensures,
+      simp
+          (c .before .before .before .end-right2 .ensures, c .before .before .before .before .end-right .ensures) at (c .before .before .if1 .taken),
+    ))
     (λ c. simp (simp (c .before .end-right2 .ensures, c .before .before .end-right .ensures) at (c .if1 .left))))

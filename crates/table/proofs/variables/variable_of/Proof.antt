@@ -21,4 +21,8 @@ variable-of-spec =
       sym (c .before .before .before .before .pointer-record .ensures) ∙ c .before .before .before .if2 .taken,
       sym (c .before .before .before .before .before .before .integer-record .ensures) ∙ c .before .before .before .before .before .if1 .left,
     ))
-    (λ c. simp (sym (c .before .pointer-record .ensures) ∙ c .if2 .left, sym (c .before .before .before .integer-record .ensures) ∙ c .before .before .if1 .left)))
+    (λ c. simp (
+      sym (c .before .pointer-record .ensures) ∙ c .if2 .left,
+      sym (c .before .before .before .integer-record .ensures)
+          ∙ c .before .before .if1 .left,
+    )))

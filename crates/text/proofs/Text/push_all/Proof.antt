@@ -24,5 +24,10 @@ push-all-spec =
     (λ c. search needs)
     (λ c κs. omega (arith, c .before .before .loop .inv .2, c .before .loop-test .taken))
     (λ c. search needs) (λ c. search needs)
-    (λ c. (search needs, grown-next _ _ (c .before .before .loop-test .taken) (c .before .before .before .loop .inv .1) (c .push .ensures), omega (arith, c .push .ensures .long, c .before .before .before .loop .inv .2)))
+    (λ c. (
+      search needs,
+      grown-next _ _ (c .before .before .loop-test .taken) (c .before .before .before .loop .inv .1) (c .push .ensures),
+      omega
+          (arith, c .push .ensures .long, c .before .before .before .loop .inv .2),
+    ))
     (λ c. grown-whole _ _ (c .loop-test .left) (c .before .loop .inv .1)))

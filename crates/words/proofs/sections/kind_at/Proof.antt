@@ -21,5 +21,10 @@ kind-at-spec =
     (λ c. let l = sized (c .before) in omega arith)
     (λ c κs. tt)
     (λ c κs. tt)
-    (λ c. simp (c .kind-of .ensures, c .before .word .ensures, sym (c .before .before .before .before .is-variable .ensures) ∙ c .before .before .before .if1 .taken))
+    (λ c. simp (
+      c .kind-of .ensures,
+      c .before .word .ensures,
+      sym (c .before .before .before .before .is-variable .ensures)
+          ∙ c .before .before .before .if1 .taken,
+    ))
     (λ c. simp (sym (c .before .is-variable .ensures) ∙ c .if1 .left)))
