@@ -296,7 +296,7 @@ bool mizzengrape_dispatch(const int32_t *tables, size_t tables_len, const int32_
      answer[1]  0 accepted, else the refusal's place
      answer[2]  for refusal 8 the pointer as for a check, else 0
      answer[3]  statements walked, those of blocks too, up to the last begun; 0 where the table is not taken
-     answer[4]  the words of the table
+     answer[4]  the words of the table; of one that is not taken at most 4294967295
      answer[5]  1 where the table is taken; 0 where it is not, and then nothing is written to the store
    True; or false, and nothing written, where answer_len is below MIZZENGRAPE_EDIT_ANSWER_WORDS. */
 bool mizzengrape_edit_start(const int32_t *table, size_t table_len, size_t length, uint64_t *store, size_t store_len, const uint32_t *keep,

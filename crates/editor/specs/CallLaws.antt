@@ -1,7 +1,7 @@
 -- The promises of the calls, from what their parts say.
-use Prim.Native.Nat.{ℕ, _<_, _≤_}
+use Prim.Native.Nat.{ℕ, _^_, _<_, _≤_}
 use mathlib.Core.Path.{_≡_, refl, sym, _∙_, ap}
-use mathlib.Core.Bool.{Bool, true, false}
+use mathlib.Core.Bool.{Bool, true, false, false≢true}
 use mathlib.Core.List.{List, [], _∷_, _++_}
 use native.Mathlib.Omega.{arith}
 use lib.IntN.{ℤ}
@@ -9,6 +9,7 @@ use lib.ListN.{length, take, drop}
 use Rattle.answers.specs.declared.refusals.Refusal.{Refusal}
 use Rattle.answers.specs.declared.refusals.Refusal.the-variants.{EditPosition}
 use Rattle.words.specs.Sections.{tableEnd}
+use Rattle.words.specs.SectionsLaws.{limits}
 use Rattle.words.specs.declared.sections.Sections.{Sections}
 use Rattle.statements.specs.Statements.{statementAt}
 use Rattle.table.specs.Form.{formOf}
@@ -22,6 +23,7 @@ use Rattle.blocks.specs.declared.Layout.{Layout}
 use Rattle.blocks.specs.declared.Layout.the-variants as layout-variant
 use Rattle.reports.specs.Reports.{noWords}
 use Rattle.rules.specs.ByChains.{Judged}
+use Rattle.rules.specs.Small.{RefusalSmall}
 use Rattle.rules.specs.declared.Verdict.{Verdict}
 use Rattle.rules.specs.declared.Verdict.the-variants as said
 use Rattle.checker.specs.VerdictLaws.{form-refused, form-checked, layout-refused}
@@ -29,6 +31,7 @@ use Rattle.checker.specs.Checks.{Refuses}
 use Rattle.checker.specs.declared.Checked.{Checked}
 use Rattle.edits.specs.TopLevel.{positionsOf, spanOf}
 use Rattle.edits.specs.Edited.{editedSections, edited}
+use Rattle.edits.specs.EditedLaws.{limits-stay}
 use Rattle.plans.specs.Plans.{removedBy, isPosition, planOf}
 use Rattle.plans.specs.PlanLaws.{is-placed, planned}
 use Rattle.plans.specs.declared.Edit.{Edit}
@@ -44,8 +47,9 @@ use Rattle.rewalks.specs.declared.Rewalked as rewalk
 use Rattle.editor.specs.Kept.{Kept}
 use Rattle.editor.specs.KeptLaws.{Rewalked, rechecked}
 use Rattle.editor.specs.EditPlaces.{placed-position}
-use Rattle.editor.specs.EditKept.{walk-from, from-before, edit-ready}
-use Rattle.editor.specs.Editor.{Rechecked, Passing, Started, headOf, unmadeBy, Unmade, Written, PlanSaid, EditSaid, KeptSaid, EditCall}
+use Rattle.editor.specs.EditKept.{stay-before, walk-from, from-before, edit-ready}
+use Rattle.editor.specs.SmallLaws.{within, plan-small, rewalked-small}
+use Rattle.editor.specs.Editor.{Rechecked, Passing, Started, headOf, unmadeBy, Unmade, Written, PlanSaid, EditSaid, KeptSaid, NumbersSmall, EditCall}
 use Rattle.editor.specs.EditLaws.{TableHead, kept-end, kept-head, remaining, placedFrom, Prepares, walkAnswer, MadeBy, plan-sizes}
 use Rattle.editor.specs.declared.Answer.{Answer}
 use Rattle.editor.specs.declared.Head.{Head}
@@ -117,6 +121,10 @@ module _ (T : List ℤ) (K S : List ℕ) {r : Answer} where
 
 -- ---- an edit
 
+unmade-small : {n : ℕ} {x : Refusal} {r : Answer} → r ≡ unmadeBy n x → RefusalSmall x → NumbersSmall r
+unmade-small e s =
+    rw e (record { verdict = (s .place-small, s .pointer-small); walked = omega arith; words = λ q. absurd (false≢true q) })
+
 abbrev tableIn : List ℤ → Sections → List ℤ
 tableIn B h = take (tableEnd h) B
 
@@ -139,6 +147,7 @@ module _ (B : List ℤ) (at : ℕ) (e : Edit) (X : List ℤ) (K S : List ℕ) {r
     any = let z = sym i ∙ j in rw z (record { answer = v; buffer = refl; store = refl });
     kept = λ L h l k.
         let z : Unread ≡ Read h = sym j ∙ (i ∙ kept-head B L l (k .form)) in let o : _≡_ {A = ℕ} 0 1 = cc in absurd (omega arith);
+    small = λ l. unmade-small v (record { place-small = l; pointer-small = omega arith });
   }
 
   module _ {d : Head} {h : Sections} (head : d ≡ headOf B) (i : d ≡ Read h) {u : Prepared}
@@ -146,21 +155,22 @@ module _ (B : List ℤ) (at : ℕ) (e : Edit) (X : List ℤ) (K S : List ℕ) {r
     -- From what is said of the plan by the code's test to the promise.
     call : {B′ : List ℤ} {S′ : List ℕ} → PlanSaid (planOf (placedFrom (tableIn B h) h S at e) (tableIn B h) (length B) h at e X) B h at X S r B′ S′
         → (Kept (tableIn B h) h S → KeptSaid (planOf (placedFrom (tableIn B h) h S at e) (tableIn B h) (length B) h at e X) B h at X K S r B′ S′)
-        → EditCall B at e X K S r B′ S′
-    call {B′} {S′} p q = record {
+        → (at < 2 ^ 32 → NumbersSmall r) → EditCall B at e X K S r B′ S′
+    call {B′} {S′} p q n = record {
       any = let z = sym head ∙ i in rw z (placedFrom (tableIn B h) h S at e, p);
       kept = λ L g l k.
           let s = same B S head i L g l k in
           let z = s .0 in
           let y = s .1 in
           rw (sym z, y) (rw (there (tableIn B h) h S at e (s .2)) at (q (s .2)));
+      small = n;
     }
 
     pub call-refused : {x : Refusal} → u .plan ≡ Refused x → r ≡ unmadeBy (tableEnd h) x → EditCall B at e X K S r B S
     call-refused {x} j v =
         let z : planOf (placedFrom (tableIn B h) h S at e) (tableIn B h) (length B) h at e X ≡ Refused x = sym (prepares .plan) ∙ j in
         let o : Unmade B S (tableEnd h) x r B S = record { answer = v; buffer = refl; store = refl } in
-        call (rw z o) (λ k. rw z o)
+        call (rw z o) (λ k. rw z o) (λ l. unmade-small v (plan-small (placedFrom (tableIn B h) h S at e) (tableIn B h) (length B) h at e X x l z))
 
     pub call-made : {m k : ℕ} {B′ : List ℤ} {S′ : List ℕ} → TableHead B h → u .plan ≡ Change m k → MadeBy B h at m k X K S (u .held) r B′ S′
         → EditCall B at e X K S r B′ S′
@@ -168,8 +178,21 @@ module _ (B : List ℤ) (at : ℕ) (e : Edit) (X : List ℤ) (K S : List ℕ) {r
         let z : planOf (placedFrom (tableIn B h) h S at e) (tableIn B h) (length B) h at e X ≡ Change m k = sym (prepares .plan) ∙ j in
         let v = w .answer in
         let o : Written B h at m k X r B′ = record { taken = ap (λ (a : Answer). a .taken) v; words = ap (λ (a : Answer). a .length) v; buffer = w .buffer } in
-        call (rw z o) (λ q. rw z (o, checked q z))
+        call (rw z o) (λ q. rw z (o, checked q z)) (λ l. small l z)
       where
+        stays : Restored S (remaining S at) (w .dropped)
+        stays = let y = prepares .held in rw y at (w .drops)
+
+        small : at < 2 ^ 32 → planOf (placedFrom (tableIn B h) h S at e) (tableIn B h) (length B) h at e X ≡ Change m k → NumbersSmall r
+        small l z =
+            let f = plan-sizes B h S at e X m k t z .0 in
+            let g = limits (editedSections h m k) (limits-stay h m k (f .limits) (f .few)) in
+            let y = stays .holds in
+            let p : lastPlace (places (w .dropped)) .position ≤ at = rw y (stay-before (places S) at) in
+            let n = rewalked-small (edited (tableIn B h) h at m k X) (editedSections h m k) g (lastPlace (places (w .dropped))) (omega arith) (w .walks) in
+            let v = w .answer in
+            rw v (record { verdict = n .0; walked = n .1; words = λ q. within (editedSections h m k) g })
+
         checked : Kept (tableIn B h) h S → planOf (placedFrom (tableIn B h) h S at e) (tableIn B h) (length B) h at e X ≡ Change m k
             → Rechecked (edited (tableIn B h) h at m k X) (editedSections h m k) K (capacity S) (staying at (positions S))
             (lastOf (staying at (positions S))) r S′
@@ -178,7 +201,7 @@ module _ (B : List ℤ) (at : ℕ) (e : Edit) (X : List ℤ) (K S : List ℕ) {r
             let g = is-placed (tableIn B h) h (lastPlace (remaining S at) .position) at (removedBy e (spanOf (statementAt (tableIn B h) h at)))
             (planned (placedFrom (tableIn B h) h S at e) (tableIn B h) (length B) h at e X m k z .found) in
             let o = edit-ready (tableIn B h) h S q at (placedFrom (tableIn B h) h S at e) (length B) e X f g z in
-            let d : Restored S (remaining S at) (w .dropped) = let y = prepares .held in rw y at (w .drops) in
+            let d = stays in
             let p : positions (w .dropped) ≡ staying at (positions S) =
             positions-places (w .dropped) ∙ (ap positionsIn (d .holds) ∙ (staying-places (places S) at ∙ ap (staying at) (sym (positions-places S)))) in
             let y = d .holds in

@@ -48,6 +48,11 @@ take-before [] (suc n) p f j = omega arith
 take-before (x ∷ P) (suc n) p f zero = f 0 (omega arith)
 take-before (x ∷ P) (suc n) p f (suc j) = take-before P n p (λ i l. f (suc i) (omega arith)) j
 
+-- The last of the places that stay is at or before the edit.
+pub stay-before : (P : List Place) (at : ℕ) → lastPlace (take (upTo P at) P) .position ≤ at
+unfolding lastPlace
+stay-before P at = take-before P (upTo P at) at (λ j i. up-to-before P at j i) (length (take (upTo P at) P) - 1)
+
 -- The table and the places after the edit.
 pub record Ready (U : List ℤ) (g : Sections) (P : List Place) : Type 0 where
   pub form : formOf U ≡ form.WellFormed g
@@ -66,8 +71,7 @@ module _ (T : List ℤ) (h : Sections) (S : List ℕ) (k : Kept T h S) (at : ℕ
   walk-from = last-reached T h stay (table-laid T h (k .laid)) (all-take T h (upTo (places S) at) (places S) (k .reached))
 
   pub from-before : lastPlace stay .position ≤ at
-  unfolding lastPlace
-  from-before = take-before (places S) (upTo (places S) at) at (λ j i. up-to-before (places S) at j i) (length stay - 1)
+  from-before = stay-before (places S) at
 
   -- The position is a top-level statement, or the end.
   at-cut : landing at T h (lastPlace stay .position) at ≡ at → at ≤ h .statements → Cut T h 0 0 at (h .statements)

@@ -1,5 +1,5 @@
 -- POINT 13: EDITING WITH THE VERDICT ALONGSIDE, in one page. What the first call and each edit answer and leave, and what holds after any sequence of them.
-use Prim.Native.Nat.{ℕ, _≤_}
+use Prim.Native.Nat.{ℕ, _^_, _<_, _≤_}
 use mathlib.Core.Path.{_≡_}
 use mathlib.Core.Bool.{Bool, true, false, _&&_, cond}
 use mathlib.Core.List.{List, [], _++_}
@@ -14,6 +14,8 @@ use Rattle.table.specs.Form.{sectionsOf, directoryRight, lowestObject, formOf}
 use Rattle.table.specs.declared.Form.the-variants.{WellFormed}
 use Rattle.blocks.specs.Tree.{tree}
 use Rattle.blocks.specs.Layout.{layout}
+use Rattle.rules.specs.Verdict.{verdictReads}
+use Rattle.rules.specs.Small.{ReadingSmall}
 use Rattle.rules.specs.ByChains.{Judged}
 use Rattle.rules.specs.declared.Verdict.{Verdict}
 use Rattle.rules.specs.declared.Verdict.the-variants as verdict
@@ -99,6 +101,12 @@ KeptSaid (Change m k) B h at X K S r B′ S′ = Written B h at m k X r B′
     × Rechecked (edited (take (tableEnd h) B) h at m k X) (editedSections h m k) K (capacity S)
     (staying at (positions S)) (lastOf (staying at (positions S))) r S′
 
+-- The place, the pointer and the statements walked are 32-bit numbers, as the words of an answer are; "up to 7,704 words in all" has a table that is taken.
+pub record NumbersSmall (r : Answer) : Type 0 where
+  pub verdict : ReadingSmall (verdictReads (r .verdict))
+  pub walked : r .walked < 2 ^ 32
+  pub words : r .taken ≡ true → r .length ≤ 7704
+
 -- THE PROMISE OF AN EDIT.
 pub record EditCall (B : List ℤ) (at : ℕ) (e : Edit) (X : List ℤ) (K S : List ℕ) (r : Answer) (B′ : List ℤ) (S′ : List ℕ) : Type 0 where
   -- Whatever the words are: where the edit is made, the table is the edited one. Of a store that no call left nothing more is said: where its words lead the
@@ -107,6 +115,8 @@ pub record EditCall (B : List ℤ) (at : ℕ) (e : Edit) (X : List ℤ) (K S : L
   -- "if nobody else writes the table or the store"
   pub kept : (L : ℕ) (h : Sections) → L ≤ length B → Kept (take L B) h S
       → KeptSaid (planOf (isPosition e (take L B) h at) (take L B) (length B) h at e X) B h at X K S r B′ S′
+  -- Whatever the words are.
+  pub small : at < 2 ^ 32 → NumbersSmall r
 
 -- ---- any sequence of calls
 

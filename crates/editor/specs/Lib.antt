@@ -4,5 +4,6 @@ pub mod KeptLaws
 pub mod EditPlaces
 pub mod EditKept
 pub mod EditLaws
+pub mod SmallLaws
 pub mod CallLaws
 pub mod SessionLaws

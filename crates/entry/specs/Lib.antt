@@ -3,3 +3,4 @@ pub mod EndsLaws
 pub mod Entry
 pub mod Entered
 pub mod EntryLaws
+pub mod SmallLaws

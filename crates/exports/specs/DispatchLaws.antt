@@ -1,5 +1,5 @@
 -- The words of a dispatcher's answer, as the code puts them.
-use Prim.Native.Nat.{ℕ, zero, suc, _+_, _-_, _*_, _≤_, _<_}
+use Prim.Native.Nat.{ℕ, _+_, _-_, _*_, _^_, _≤_, _<_}
 use mathlib.Core.Path.{_≡_, refl, sym, ap, _∙_}
 use mathlib.Core.Bool.{Bool, true, false, _&&_}
 use mathlib.Core.List.{List, [], _++_, append-nil}
@@ -14,13 +14,14 @@ use Rattle.answers.specs.Answers.{Answer, reads}
 use Rattle.answers.specs.declared.stops.Outcome.{Outcome}
 use Rattle.answers.specs.Refusals.{number, place, pointer}
 use Rattle.answers.specs.declared.refusals.Refusal.{Refusal}
-use Rattle.seats.specs.Lends.{Lends, countOf}
-use Rattle.dispatcher.specs.Dispatch.{Promised, roomRight, countRight}
+use Rattle.interpreter.specs.SmallLaws.{AnswerSmall, run-small}
+use Rattle.seats.specs.Lends.{Lends, tableAt, listedAt, lentTo, countOf}
+use Rattle.dispatcher.specs.Dispatch.{Promised, roomRight}
 use Rattle.dispatcher.specs.DispatchLaws.{count-facts}
 use Rattle.dispatcher.specs.declared.Said.{Said}
 use Rattle.dispatcher.specs.declared.Said.the-variants as said
-use Rattle.exports.specs.Words.{wordOf, putFour, answerWords}
-use Rattle.exports.specs.DispatchWords.{putFive, routineWords, dispatchWords, dispatchedIf, DispatchAnswer}
+use Rattle.exports.specs.Words.{answerWords}
+use Rattle.exports.specs.DispatchWords.{putFive, routineWords, dispatchWords, DispatchAnswer}
 
 -- ---- in the words of the code
 
@@ -28,13 +29,16 @@ use Rattle.exports.specs.DispatchWords.{putFive, routineWords, dispatchW
 abbrev pub putAt : ℕ → Answer → List ℕ → List ℕ
 putAt i a w = take i w ++ answerWords a (drop i w)
 
--- Where routines ran, they are few.
-abbrev pub FewRan : Said → ℕ → Type 0
-FewRan said.NoRoom n = Unit {0}
-FewRan said.WrongCount n = Unit {0}
-FewRan (said.Refused r f) n = Unit {0}
-FewRan (said.Overlaps r) n = Unit {0}
-FewRan said.Ran n = n ≤ 8
+-- The numbers that are put are small: of the routines that ran, which are few, and of what is said.
+abbrev pub AllSmall : (ℕ → Answer) → ℕ → Type 0
+AllSmall f n = (n ≤ 8) × ((r : ℕ) → r < n → AnswerSmall (f r))
+
+unfoldable pub SaidSmall : Said → (ℕ → Answer) → ℕ → Type 0
+SaidSmall said.NoRoom f n = Unit {0}
+SaidSmall said.WrongCount f n = Unit {0}
+SaidSmall (said.Refused r g) f n = (r < 2 ^ 32) × (place g < 2 ^ 32) × (pointer g < 2 ^ 32)
+SaidSmall (said.Overlaps r) f n = r < 2 ^ 32
+SaidSmall said.Ran f n = AllSmall f n
 
 abbrev pub isAnswered : Said → Bool
 isAnswered said.NoRoom = false
@@ -75,20 +79,19 @@ module _ (f : ℕ → Answer) (n : ℕ) (w : List ℕ) {w′ : List ℕ} where
   unfolding dispatchWords
   wrong-count-said e p = rw e (refl, p)
 
-  pub refused-said : {s : Said} {r k a i b j c : ℕ} {g : Refusal} → s ≡ said.Refused r g → k ≡ number g → a ≡ wordOf r → i ≡ place g → b ≡ wordOf i
-      → j ≡ pointer g → c ≡ wordOf j → w′ ≡ putFive w 3 k a b c → (true ≡ isAnswered s) × (w′ ≡ dispatchWords s f n w)
+  pub refused-said : {s : Said} {r k i j : ℕ} {g : Refusal} → s ≡ said.Refused r g → k ≡ number g → i ≡ place g → j ≡ pointer g
+      → w′ ≡ putFive w 3 k r i j → (true ≡ isAnswered s) × (w′ ≡ dispatchWords s f n w)
   unfolding dispatchWords
-  refused-said e ek ea ei eb ej ec p = rw (e, ← ek, ← ea, ← ei, ← eb, ← ej, ← ec) (refl, p)
+  refused-said e ek ei ej p = rw (e, ← ek, ← ei, ← ej) (refl, p)
 
-  pub overlaps-said : {s : Said} {r a : ℕ} → s ≡ said.Overlaps r → a ≡ wordOf r → w′ ≡ putFive w 3 14 a a 0
+  pub overlaps-said : {s : Said} {r : ℕ} → s ≡ said.Overlaps r → w′ ≡ putFive w 3 14 r r 0 → (true ≡ isAnswered s) × (w′ ≡ dispatchWords s f n w)
+  unfolding dispatchWords
+  overlaps-said e p = rw e (refl, p)
+
+  pub ran-said : {s : Said} {v : List ℕ} → s ≡ said.Ran → v ≡ putFive w 0 n 0 0 0 → w′ ≡ routineWords f n v
       → (true ≡ isAnswered s) × (w′ ≡ dispatchWords s f n w)
   unfolding dispatchWords
-  overlaps-said e x p = rw (e, ← x) (refl, p)
-
-  pub ran-said : {s : Said} {a : ℕ} {v : List ℕ} → s ≡ said.Ran → a ≡ wordOf n → v ≡ putFive w 0 a 0 0 0 → w′ ≡ routineWords f n v
-      → (true ≡ isAnswered s) × (w′ ≡ dispatchWords s f n w)
-  unfolding dispatchWords
-  ran-said e x p q = rw (e, ← x, ← p) (refl, q)
+  ran-said e p q = rw (e, ← p) (refl, q)
 
 -- ---- the whole answer
 
@@ -116,15 +119,39 @@ module _ (l : Lends) (quantum total : ℕ) (ends S w : List ℕ) where
     said-answered (said.Overlaps r) p e q = answered (said.Overlaps r) (p .0) p e q
     said-answered said.Ran p e q = answered said.Ran (p .0) p e q
 
-pub ran-few : (s : Said) {n : ℕ} → s ≡ said.Ran → FewRan s n → n ≤ 8
-ran-few s e x = rw e at x
+-- ---- the numbers fit
 
--- The routines that ran are few.
-pub few-ran : (room : Bool) (l : Lends) (quantum total : ℕ) (outcomes : ℕ → Outcome) (vs cs : List ℕ) (s : Said)
-    → Promised room l quantum total s outcomes vs cs → FewRan s (countOf l)
-unfolding Promised
-few-ran room l quantum total outcomes vs cs said.NoRoom p = tt
-few-ran room l quantum total outcomes vs cs said.WrongCount p = tt
-few-ran room l quantum total outcomes vs cs (said.Refused r f) p = tt
-few-ran room l quantum total outcomes vs cs (said.Overlaps r) p = tt
-few-ran room l quantum total outcomes vs cs said.Ran p = count-facts l quantum (p .1) .few
+module _ {s : Said} (f : ℕ → Answer) (n : ℕ) (x : SaidSmall s f n) where
+  module _ {r : ℕ} {g : Refusal} (e : s ≡ said.Refused r g) where
+    pub routine-fits : r < 2 ^ 32
+    unfolding SaidSmall
+    routine-fits = let t = rw e at x in t .0
+
+    pub place-fits : {a : ℕ} → a ≡ place g → a < 2 ^ 32
+    unfolding SaidSmall
+    place-fits q = let t = rw e at x in rw q (t .1)
+
+    pub pointer-fits : {a : ℕ} → a ≡ pointer g → a < 2 ^ 32
+    unfolding SaidSmall
+    pointer-fits q = let t = rw e at x in rw q (t .2)
+
+  pub overlap-fits : {r : ℕ} → s ≡ said.Overlaps r → r < 2 ^ 32
+  unfolding SaidSmall
+  overlap-fits e = rw e at x
+
+  pub ran-fits : s ≡ said.Ran → AllSmall f n
+  unfolding SaidSmall
+  ran-fits e = rw e at x
+
+-- What is said, and what its routines answer, is small.
+pub said-small : (room : Bool) (l : Lends) (quantum total : ℕ) (outcomes : ℕ → Outcome) (vs cs : List ℕ) (s : Said)
+    → Promised room l quantum total s outcomes vs cs → SaidSmall s (λ r. reads (outcomes r)) (countOf l)
+unfolding Promised SaidSmall
+said-small room l quantum total outcomes vs cs said.NoRoom p = tt
+said-small room l quantum total outcomes vs cs said.WrongCount p = tt
+said-small room l quantum total outcomes vs cs (said.Refused r f) p =
+    let s = run-small (tableAt l r) (listedAt l r) (lentTo l r) 0 _ (p .2 .refuses 0) in
+    (omega (arith, p .2 .within, count-facts l quantum (p .1) .few), s .0, s .1)
+said-small room l quantum total outcomes vs cs (said.Overlaps r) p = omega (arith, p .3, count-facts l quantum (p .1) .few)
+said-small room l quantum total outcomes vs cs said.Ran p =
+    (count-facts l quantum (p .1) .few, λ r i. run-small (tableAt l r) (listedAt l r) (lentTo l r) _ _ (p .2 .as-alone r i .run))

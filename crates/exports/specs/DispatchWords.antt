@@ -12,7 +12,7 @@ use Rattle.seats.specs.Lends.{Lends, countOf}
 use Rattle.dispatcher.specs.Dispatch.{Promised, roomRight}
 use Rattle.dispatcher.specs.declared.Said.{Said}
 use Rattle.dispatcher.specs.declared.Said.the-variants as said
-use Rattle.exports.specs.Words.{wordOf, putFour, answerWords}
+use Rattle.exports.specs.Words.{putFour, answerWords}
 
 abbrev pub putFive : List ℕ → ℕ → ℕ → ℕ → ℕ → ℕ → List ℕ
 putFive w a b c d e = set (putFour w a b c d) 4 e
@@ -29,9 +29,9 @@ routineWords answers (suc r) w =
 unfoldable pub dispatchWords : Said → (ℕ → Answer) → ℕ → List ℕ → List ℕ
 dispatchWords said.NoRoom answers n w = w
 dispatchWords said.WrongCount answers n w = putFive w 3 15 0 0 0
-dispatchWords (said.Refused r f) answers n w = putFive w 3 (number f) (wordOf r) (wordOf (place f)) (wordOf (pointer f))
-dispatchWords (said.Overlaps r) answers n w = putFive w 3 14 (wordOf r) (wordOf r) 0
-dispatchWords said.Ran answers n w = routineWords answers n (putFive w 0 (wordOf n) 0 0 0)
+dispatchWords (said.Refused r f) answers n w = putFive w 3 (number f) r (place f) (pointer f)
+dispatchWords (said.Overlaps r) answers n w = putFive w 3 14 r r 0
+dispatchWords said.Ran answers n w = routineWords answers n (putFive w 0 n 0 0 0)
 
 -- Where there is room, the words of what is said and of outcomes for which, with the values and cells then, the promise of `dispatch` holds; else nothing is
 -- written.

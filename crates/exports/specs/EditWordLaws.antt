@@ -1,21 +1,21 @@
 -- Laws of the editor's answer words.
 use Prim.Native.Nat.{ℕ, _<_, _≤_, min}
 use mathlib.Core.Path.{_≡_, refl, sym, _∙_, ap}
-use mathlib.Core.Bool.{Bool, true, false, cond}
-use mathlib.Core.List.{List, [], _∷_}
+use mathlib.Core.Bool.{Bool, true, false}
+use mathlib.Core.List.{List}
 use native.Mathlib.Omega.{arith}
 use borrow.Author.Tests.{le-leb, lt-leb, leb-true, leb-false, ne-eqb}
 use lib.IntN.{ℤ}
 use lib.ListN.{length, set, take, length-set}
 use lib.Seq.{take-all}
-use lib.Dec.{eqb, leb}
+use lib.Dec.{leb}
 use Rattle.rules.specs.Verdict.{Reading, accepted, refused, verdictReads}
 use Rattle.plans.specs.declared.Edit.{Edit}
 use Rattle.plans.specs.declared.Edit.the-variants.{Insert, Replace, Remove, Unknown}
 use Rattle.editor.specs.Editor.{Started, EditCall}
 use Rattle.editor.specs.declared.Answer.{Answer}
-use Rattle.exports.specs.Words.{wordOf, verdictWords}
-use Rattle.exports.specs.EditWords.{flag, editOf, editWords, StartWords, EditCallWords}
+use Rattle.exports.specs.Words.{verdictWords}
+use Rattle.exports.specs.EditWords.{flag, editOf, lengthWord, editWords, StartWords, EditCallWords}
 
 -- ---- operations
 
@@ -45,11 +45,10 @@ unfolding verdictWords
 verdict-long accepted w e = ap length e ∙ simp length-set
 verdict-long (refused n a p) w e = ap length e ∙ simp length-set
 
-pub put-words : (a : Answer) (w : List ℕ) {u : List ℕ} {n l t : ℕ} → u ≡ verdictWords (verdictReads (a .verdict)) w → n ≡ wordOf (a .walked)
-    → l ≡ wordOf (a .length)
-    → t ≡ flag (a .taken) → set (set (set u 3 n) 4 l) 5 t ≡ editWords a w
+pub put-words : (a : Answer) (w : List ℕ) {u : List ℕ} {l t : ℕ} → u ≡ verdictWords (verdictReads (a .verdict)) w → l ≡ lengthWord (a .length)
+    → t ≡ flag (a .taken) → set (set (set u 3 (a .walked)) 4 l) 5 t ≡ editWords a w
 unfolding editWords
-put-words a w e en el et = rw (e, en, el, et)
+put-words a w e el et = rw (e, el, et)
 
 pub cut-table : (B : List ℤ) (L : ℕ) {n : ℕ} → n ≡ min L (length B) → take n B ≡ take L B
 cut-table B L {n} e = go (leb L (length B)) refl

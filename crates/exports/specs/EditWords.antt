@@ -1,5 +1,5 @@
 -- The editor's answers as words in a lent slice, as include/mizzengrape.h tells them (document 02, point 13).
-use Prim.Native.Nat.{ℕ}
+use Prim.Native.Nat.{ℕ, _-_, _^_, min}
 use mathlib.Core.Path.{_≡_}
 use mathlib.Core.Bool.{Bool, true, false, cond}
 use mathlib.Core.List.{List}
@@ -11,7 +11,7 @@ use Rattle.plans.specs.declared.Edit.{Edit}
 use Rattle.plans.specs.declared.Edit.the-variants.{Insert, Replace, Remove, Unknown}
 use Rattle.editor.specs.Editor.{Started, EditCall}
 use Rattle.editor.specs.declared.Answer.{Answer}
-use Rattle.exports.specs.Words.{wordOf, verdictWords}
+use Rattle.exports.specs.Words.{verdictWords}
 
 abbrev pub flag : Bool → ℕ
 flag b = cond b 1 0
@@ -20,10 +20,14 @@ flag b = cond b 1 0
 unfoldable pub editOf : ℕ → Edit
 editOf o = cond (eqb o 0) Insert (cond (eqb o 1) Replace (cond (eqb o 2) Remove Unknown))
 
+-- The words of a table. One that is taken has at most 7,704 (`NumbersSmall`); for more words than a 32-bit number can say, its largest stands.
+abbrev pub lengthWord : ℕ → ℕ
+lengthWord n = min n (2 ^ 32 - 1)
+
 -- The words of the verdict, or of the refusal of an edit that is not made; the statements walked; the words of the table now; whether it was taken or edited.
--- (Statements and words of a table are few, so that the remainder is the number.) The words behind stay.
+-- The words behind stay.
 unfoldable pub editWords : Answer → List ℕ → List ℕ
-editWords a w = set (set (set (verdictWords (verdictReads (a .verdict)) w) 3 (wordOf (a .walked))) 4 (wordOf (a .length))) 5 (flag (a .taken))
+editWords a w = set (set (set (verdictWords (verdictReads (a .verdict)) w) 3 (a .walked)) 4 (lengthWord (a .length))) 5 (flag (a .taken))
 
 -- Where there is room for an answer, the words of one for which the promise of the call holds; else nothing is written.
 abbrev pub startedIf : Bool → List ℤ → ℕ → List ℕ → List ℕ → List ℕ → List ℕ → List ℕ → Type 0

@@ -1,5 +1,5 @@
 -- The reported statements put into a slice, one after the other, as the code does.
-use Prim.Native.Nat.{ℕ, zero, suc, _+_, _-_, _≤_, _<_, _^_}
+use Prim.Native.Nat.{ℕ, zero, suc, _+_, _-_, _≤_, _<_}
 use mathlib.Core.Path.{_≡_, refl, sym, ap, ap₂, _∙_}
 use mathlib.Core.Bool.{Bool, true, false, cond, _&&_}
 use mathlib.Core.List.{List, [], _∷_}
@@ -13,10 +13,10 @@ use Rattle.rules.specs.BoundsRules.{consIf}
 use Rattle.rules.specs.Report.{reportedAt}
 use Rattle.rules.specs.Verdict.{Reading, verdictReads, firstReads}
 use Rattle.rules.specs.Verdict as reading
-use Rattle.rules.specs.ByChains.{Decider, byChains, chainFaults, Decided, Judged, Reported}
+use Rattle.rules.specs.ByChains.{byChains, chainFaults, Judged, Reported}
 use Rattle.rules.specs.Decidable.{decided}
 use Rattle.rules.specs.declared.Verdict.{Verdict}
-use Rattle.exports.specs.Words.{wordOf, putThree, verdictWords, chosen, putNumbers, reportNumbers, reportedTo, CheckReport}
+use Rattle.exports.specs.Words.{putThree, verdictWords, chosen, putNumbers, reportNumbers, CheckReport}
 
 -- One statement.
 pub record PutReported (ws : List ℕ) (a i : ℕ) (p : List ℕ) (r : ℕ) (p′ : List ℕ) : Type 0 where
@@ -123,7 +123,7 @@ three-long w a b c = length-set (set (set w 0 a) 1 b) 2 c ∙ (length-set (set w
 pub verdict-long : (r : Reading) (w : List ℕ) → length (verdictWords r w) ≡ length w
 unfolding verdictWords
 verdict-long reading.accepted w = three-long w 0 0 0
-verdict-long (reading.refused n a p) w = three-long w n (wordOf a) (wordOf p)
+verdict-long (reading.refused n a p) w = three-long w n a p
 
 both-true : (a b : Bool) → a ≡ true → b ≡ true → (a && b) ≡ true
 both-true a b p q = rw (p, q)

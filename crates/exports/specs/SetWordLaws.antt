@@ -1,43 +1,76 @@
 -- Laws of the answer words about sets.
-use Prim.Native.Nat.{ℕ, _<_, _≤_}
+use Prim.Native.Nat.{ℕ, _^_, _<_, _≤_}
 use mathlib.Core.Path.{_≡_, refl, sym, _∙_, ap}
 use mathlib.Core.Bool.{Bool, true, false, _&&_}
 use mathlib.Core.List.{List}
+use native.Mathlib.Omega.{arith}
 use borrow.Author.Tests.{le-leb, lt-leb}
 use lib.IntN.{ℤ}
 use lib.ListN.{length, set, length-set}
 use lib.Dec.{leb}
 use Rattle.answers.specs.declared.refusals.Refusal.{Refusal}
 use Rattle.rules.specs.Verdict.{verdictReads}
+use Rattle.rules.specs.Small.{ReadingSmall}
 use Rattle.rules.specs.Sets.{SetJudged}
 use Rattle.rules.specs.declared.SetVerdict.{SetVerdict}
 use Rattle.rules.specs.declared.SetVerdict.the-variants as set-verdict
 use Rattle.rules.specs.declared.Verdict.the-variants as verdict
 use Rattle.sets.specs.Tables.{tablesIn}
-use Rattle.sets.specs.Checked.{memberWords, SetAnswered}
+use Rattle.sets.specs.Checked.{memberWords, SetAnswered, verdictIn, routineIn}
+use Rattle.sets.specs.SmallLaws.{set-small}
 use Rattle.sets.specs.declared.SetChecked.{SetChecked}
 use Rattle.sets.specs.declared.SetChecked.the-variants.{NoRoom, Judged}
 use Rattle.answers.specs.Answers.{Answer, done, spent, stopped, refused, reads}
 use Rattle.answers.specs.declared.stops.Check.{Check}
 use Rattle.answers.specs.declared.stops.Outcome.{Outcome}
 use Rattle.answers.specs.declared.stops.Outcome.the-variants.{Done, Spent, Stopped, Refused}
+use Rattle.interpreter.specs.SmallLaws.{AnswerSmall}
 use Rattle.interpreter.specs.Claim.{Lent, SetRunJudged}
 use Rattle.set_runs.specs.SetRuns.{leaves, SetRunAnswered}
+use Rattle.set_runs.specs.SmallLaws.{set-run-small}
 use Rattle.set_runs.specs.declared.SetOutcome.{SetOutcome}
 use Rattle.set_runs.specs.declared.SetRun.{SetRun}
 use Rattle.set_runs.specs.declared.SetRun.the-variants as run
-use Rattle.exports.specs.Words.{wordOf, verdictWords, answerWords}
+use Rattle.exports.specs.Words.{verdictWords, answerWords}
 use Rattle.exports.specs.SetWords.{setVerdictWords, routineNamed, setOutcomeWords, SetCheckWords, SetRunWords}
+
+-- ---- the numbers fit
+
+module _ {v : SetVerdict} {n : ℕ} {r : Refusal} (e : v ≡ set-verdict.Refused n r) where
+  pub refused-fits : ReadingSmall (verdictReads (verdictIn v)) → ReadingSmall (verdictReads (verdict.Refused r))
+  refused-fits s = rw e at s
+
+  pub routine-fits : routineIn v < 2 ^ 32 → n < 2 ^ 32
+  routine-fits s = rw e at s
+
+pub named-fits : (o : Outcome) {r n : ℕ} → n ≡ routineNamed o r → r < 2 ^ 32 → n < 2 ^ 32
+named-fits (Done m) e l = omega arith
+named-fits (Spent m a) e l = omega arith
+named-fits (Stopped m c) e l = omega arith
+named-fits (Refused f) e l = omega arith
+
+pub checked-fits : (m : ℕ) (Ts : List (List ℤ)) {s : SetChecked} {v : SetVerdict} → SetAnswered m Ts s → s ≡ Judged v
+    → ReadingSmall (verdictReads (verdictIn v)) × (routineIn v < 2 ^ 32)
+unfolding SetAnswered
+checked-fits m Ts {s} {v} a e = let o : (memberWords ≤ m) × SetJudged Ts v = rw e at a in set-small Ts v (o .1)
+
+pub ran-fits : (roomy : Bool) (Ts : List (List ℤ)) (l : Lent) (limit : ℕ) {s : SetRun} {o : SetOutcome} (vs cs : List ℕ)
+    → SetRunAnswered roomy Ts l limit s vs cs → s ≡ run.Ran o → AnswerSmall (reads (o .outcome)) × (o .routine < 2 ^ 32)
+unfolding SetRunAnswered
+ran-fits roomy Ts l limit {s} {o} vs cs a e =
+    let q : (roomy ≡ true) × SetRunJudged Ts l limit (leaves o vs cs) = rw e at a in set-run-small Ts l limit (leaves o vs cs) (q .1)
+
+-- ---- the words
 
 module _ {v : SetVerdict} (w : List ℕ) {u : List ℕ} where
   pub accepted-set : v ≡ set-verdict.Accepted → u ≡ verdictWords (verdictReads verdict.Accepted) w → set u 3 0 ≡ setVerdictWords v w
   unfolding setVerdictWords
   accepted-set e p = rw (e, p)
 
-  pub refused-set : {n k : ℕ} {r : Refusal} → v ≡ set-verdict.Refused n r → u ≡ verdictWords (verdictReads (verdict.Refused r)) w → k ≡ wordOf n
-      → set u 3 k ≡ setVerdictWords v w
+  pub refused-set : {n : ℕ} {r : Refusal} → v ≡ set-verdict.Refused n r → u ≡ verdictWords (verdictReads (verdict.Refused r)) w
+      → set u 3 n ≡ setVerdictWords v w
   unfolding setVerdictWords
-  refused-set e p q = rw (e, p, q)
+  refused-set e p = rw (e, p)
 
 and-false : (x : Bool) {y : Bool} → y ≡ false → (x && y) ≡ false
 and-false true e = e
@@ -86,10 +119,10 @@ outcome-long (spent n a) w e = ap length e ∙ simp length-set
 outcome-long (stopped n a k) w e = ap length e ∙ simp length-set
 outcome-long (refused n a p) w e = ap length e ∙ simp length-set
 
-pub outcome-words : (o : SetOutcome) (w : List ℕ) {u : List ℕ} {n k : ℕ} → u ≡ answerWords (reads (o .outcome)) w → n ≡ routineNamed (o .outcome) (o .routine)
-    → k ≡ wordOf n → set u 4 k ≡ setOutcomeWords o w
+pub outcome-words : (o : SetOutcome) (w : List ℕ) {u : List ℕ} {n : ℕ} → u ≡ answerWords (reads (o .outcome)) w → n ≡ routineNamed (o .outcome) (o .routine)
+    → set u 4 n ≡ setOutcomeWords o w
 unfolding setOutcomeWords
-outcome-words o w e p q = rw (e, q, p)
+outcome-words o w e p = rw (e, p)
 
 module _ {Ts : List (List ℤ)} {l : Lent} {limit : ℕ} {roomy : Bool} {w : List ℕ} where
   pub no-run : length w < 5 → SetRunWords Ts l limit roomy w false (l .values) (l .cells) w

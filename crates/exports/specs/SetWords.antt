@@ -17,11 +17,11 @@ use Rattle.answers.specs.declared.stops.Outcome.the-variants.{Done, Spent, Stop
 use Rattle.interpreter.specs.Claim.{Lent, SetRunJudged}
 use Rattle.set_runs.specs.SetRuns.{leaves}
 use Rattle.set_runs.specs.declared.SetOutcome.{SetOutcome}
-use Rattle.exports.specs.Words.{wordOf, verdictWords, answerWords}
+use Rattle.exports.specs.Words.{verdictWords, answerWords}
 
 -- The words of the verdict, then the routine refused; of an accepted set 0. The words behind stay.
 unfoldable pub setVerdictWords : SetVerdict → List ℕ → List ℕ
-setVerdictWords v w = set (verdictWords (verdictReads (verdictIn v)) w) 3 (wordOf (routineIn v))
+setVerdictWords v w = set (verdictWords (verdictReads (verdictIn v)) w) 3 (routineIn v)
 
 -- Where there is room, the words of the verdict on the set of these tables; else nothing is written.
 abbrev pub setCheckedIf : Bool → List ℤ → List ℕ → List ℕ → List ℕ → Type 0
@@ -45,7 +45,7 @@ routineNamed (Refused f) r = r
 
 -- The words of the outcome as of a run of one routine, then the routine. The words behind stay.
 unfoldable pub setOutcomeWords : SetOutcome → List ℕ → List ℕ
-setOutcomeWords o w = set (answerWords (reads (o .outcome)) w) 4 (wordOf (routineNamed (o .outcome) (o .routine)))
+setOutcomeWords o w = set (answerWords (reads (o .outcome)) w) 4 (routineNamed (o .outcome) (o .routine))
 
 -- Where there is room, the words of an outcome for which, with the values and cells then, the claim about a run of a set holds; else nothing is written.
 abbrev pub setRanIf : Bool → List (List ℤ) → Lent → ℕ → List ℕ → List ℕ → List ℕ → List ℕ → Type 0

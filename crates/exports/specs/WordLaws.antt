@@ -1,5 +1,5 @@
 -- The words of each answer.
-use Prim.Native.Nat.{ℕ, _≤_, _<_}
+use Prim.Native.Nat.{ℕ, _^_, _≤_, _<_}
 use mathlib.Core.Path.{_≡_, refl, sym, ap, _∙_}
 use mathlib.Core.Bool.{true, false}
 use mathlib.Core.List.{List, []}
@@ -9,45 +9,70 @@ use lib.ListN.{length}
 use Rattle.answers.specs.Refusals.{number, place, pointer}
 use Rattle.answers.specs.declared.refusals.Refusal.{Refusal}
 use Rattle.rules.specs.Verdict.{Reading, verdictReads, firstReads}
+use Rattle.rules.specs.Small.{ReadingSmall}
 use Rattle.rules.specs.ByChains.{chainFaults, Judged}
 use Rattle.rules.specs.Decidable.{decided}
 use Rattle.rules.specs.declared.Verdict.{Verdict}
 use Rattle.rules.specs.declared.Verdict.the-variants as verdict
 use Rattle.answers.specs.Answers.{checkNumber, checkStatement, reads}
+use Rattle.interpreter.specs.SmallLaws.{AnswerSmall}
 use Rattle.interpreter.specs.Claim.{Lent, RunJudged}
 use Rattle.answers.specs.declared.stops.Check.{Check}
 use Rattle.answers.specs.declared.stops.Outcome.{Outcome}
 use Rattle.answers.specs.declared.stops.Outcome.the-variants.{Done, Spent, Stopped, Refused}
-use Rattle.exports.specs.Words.{wordOf, putThree, putFour, verdictWords, answerWords, CheckAnswer, RunWords}
+use Rattle.exports.specs.Words.{putThree, putFour, verdictWords, answerWords, CheckAnswer, RunWords}
+
+-- ---- the numbers fit
+
+module _ {v : Verdict} {r : Refusal} (e : v ≡ verdict.Refused r) {a : ℕ} (s : ReadingSmall (verdictReads v)) where
+  pub place-fits : a ≡ place r → a < 2 ^ 32
+  place-fits q = let t = rw e at s in rw q (t .0)
+
+  pub pointer-fits : a ≡ pointer r → a < 2 ^ 32
+  pointer-fits q = let t = rw e at s in rw q (t .1)
+
+module _ {o : Outcome} {a : ℕ} (s : AnswerSmall (reads o)) where
+  pub spent-fits : {n : ℕ} → o ≡ Spent n a → a < 2 ^ 32
+  spent-fits e = rw e at s
+
+  pub stopped-fits : {n : ℕ} {c : Check} → o ≡ Stopped n c → a ≡ checkStatement c → a < 2 ^ 32
+  stopped-fits e q = let t = rw e at s in rw q t
+
+  pub not-begun-place : {r : Refusal} → o ≡ Refused r → a ≡ place r → a < 2 ^ 32
+  not-begun-place e q = let t = rw e at s in rw q (t .0)
+
+  pub not-begun-pointer : {r : Refusal} → o ≡ Refused r → a ≡ pointer r → a < 2 ^ 32
+  not-begun-pointer e q = let t = rw e at s in rw q (t .1)
+
+-- ---- the words
 
 module _ (w : List ℕ) {w′ : List ℕ} where
   pub accepted-words : {v : Verdict} → v ≡ verdict.Accepted → w′ ≡ putThree w 0 0 0 → w′ ≡ verdictWords (verdictReads v) w
   unfolding verdictWords
   accepted-words e p = rw e p
 
-  pub refused-words : {v : Verdict} {r : Refusal} {n a b p q : ℕ} → v ≡ verdict.Refused r → n ≡ number r → a ≡ place r → b ≡ wordOf a → p ≡ pointer r
-      → q ≡ wordOf p
-      → w′ ≡ putThree w n b q → w′ ≡ verdictWords (verdictReads v) w
+  pub refused-words : {v : Verdict} {r : Refusal} {n a p : ℕ} → v ≡ verdict.Refused r → n ≡ number r → a ≡ place r → p ≡ pointer r
+      → w′ ≡ putThree w n a p → w′ ≡ verdictWords (verdictReads v) w
   unfolding verdictWords
-  refused-words e en ea eb ep eq s = rw (e, ← en, ← ea, ← ep, ← eb, ← eq) s
+  refused-words e en ea ep s = rw (e, ← en, ← ea, ← ep) s
 
   pub done-words : {o : Outcome} {n : ℕ} → o ≡ Done n → w′ ≡ putFour w 0 n 0 0 → w′ ≡ answerWords (reads o) w
   unfolding answerWords
   done-words e p = rw e p
 
-  pub spent-words : {o : Outcome} {n a b : ℕ} → o ≡ Spent n a → b ≡ wordOf a → w′ ≡ putFour w 1 n b 0 → w′ ≡ answerWords (reads o) w
+  pub spent-words : {o : Outcome} {n a : ℕ} → o ≡ Spent n a → w′ ≡ putFour w 1 n a 0 → w′ ≡ answerWords (reads o) w
   unfolding answerWords
-  spent-words e eb p = rw (e, ← eb) p
+  spent-words e p = rw e p
 
-  pub stopped-words : {o : Outcome} {c : Check} {n a b k : ℕ} → o ≡ Stopped n c → a ≡ checkStatement c → b ≡ wordOf a → k ≡ checkNumber c
-      → w′ ≡ putFour w 2 n b k → w′ ≡ answerWords (reads o) w
+  pub stopped-words : {o : Outcome} {c : Check} {n a k : ℕ} → o ≡ Stopped n c → a ≡ checkStatement c → k ≡ checkNumber c
+      → w′ ≡ putFour w 2 n a k → w′ ≡ answerWords (reads o) w
   unfolding answerWords
-  stopped-words e ea eb ek p = rw (e, ← ea, ← eb, ← ek) p
+  stopped-words e ea ek p = rw (e, ← ea, ← ek) p
 
-  pub not-begun-words : {o : Outcome} {r : Refusal} {n a b p q : ℕ} → o ≡ Refused r → n ≡ number r → a ≡ place r → b ≡ wordOf a → p ≡ pointer r → q ≡ wordOf p
-      → w′ ≡ putFour w 3 n b q → w′ ≡ answerWords (reads o) w
+  pub not-begun-words : {o : Outcome} {r : Refusal} {n a p : ℕ} → o ≡ Refused r → n ≡ number r → a ≡ place r → p ≡ pointer r
+      → w′ ≡ putFour w 3 n a p → w′ ≡ answerWords (reads o) w
   unfolding answerWords
-  not-begun-words e en ea eb ep eq s = rw (e, ← en, ← ea, ← ep, ← eb, ← eq) s
+  not-begun-words e en ea ep s = rw (e, ← en, ← ea, ← ep) s
 
 pub no-room : {T L : List ℤ} {w : List ℕ} → length w < 3 → CheckAnswer T L w false w
 no-room {w = w} h = record { room = sym (lt-leb 3 (length w) h); words = rw (lt-leb 3 (length w) h) refl }

@@ -1,5 +1,5 @@
 -- Answers as words in a lent slice, as include/mizzengrape.h tells them.
-use Prim.Native.Nat.{ℕ, zero, suc, _+_, _%_, _^_}
+use Prim.Native.Nat.{ℕ, zero, suc, _+_}
 use mathlib.Core.Path.{_≡_}
 use mathlib.Core.Bool.{Bool, true, false, _&&_}
 use mathlib.Core.List.{List, [], _∷_}
@@ -19,10 +19,6 @@ use Rattle.answers.specs.declared.stops.Outcome.{Outcome}
 abbrev pub versionNumber : ℕ
 versionNumber = 200
 
--- A place as a word. Statements, objects, variables and pairs are few, so that the remainder is the number. (Steps are 32-bit numbers already.)
-abbrev pub wordOf : ℕ → ℕ
-wordOf n = n % 2 ^ 32
-
 abbrev pub putThree : List ℕ → ℕ → ℕ → ℕ → List ℕ
 putThree w a b c = set (set (set w 0 a) 1 b) 2 c
 
@@ -32,14 +28,14 @@ putFour w a b c d = set (putThree w a b c) 3 d
 -- What a verdict reads as: 0 for accepted, else the refusal's number; its place; its pointer. The words behind stay.
 unfoldable pub verdictWords : Reading → List ℕ → List ℕ
 verdictWords reading.accepted w = putThree w 0 0 0
-verdictWords (reading.refused n a p) w = putThree w n (wordOf a) (wordOf p)
+verdictWords (reading.refused n a p) w = putThree w n a p
 
 -- What an answer reads as. 0 done: steps. 1 spent: steps, statement. 2 stopped: steps, statement, check. 3 refused: number, place, pointer.
 unfoldable pub answerWords : Answer → List ℕ → List ℕ
 answerWords (done n) w = putFour w 0 n 0 0
-answerWords (spent n a) w = putFour w 1 n (wordOf a) 0
-answerWords (stopped n a k) w = putFour w 2 n (wordOf a) k
-answerWords (refused n a p) w = putFour w 3 n (wordOf a) (wordOf p)
+answerWords (spent n a) w = putFour w 1 n a 0
+answerWords (stopped n a k) w = putFour w 2 n a k
+answerWords (refused n a p) w = putFour w 3 n a p
 
 -- Where there is room for an answer, the words of what the first fault of the table, with the list L of loop facts, reads as, by the paper's chains; else
 -- nothing is written.

@@ -1,6 +1,5 @@
 // What C and Rust link for several routines in turn: the dispatcher on lent slices, with the answer as words in a lent slice (include/mizzengrape.h).
 use crate::put_outcome;
-use crate::word_of;
 use answers::stops::Outcome;
 use dispatcher::Said;
 use seats::Seat;
@@ -8,9 +7,10 @@ ghost use mathlib.Core.Path.{_≡_};
 ghost use Prim.Native.Nat.{_+_, _≤_};
 ghost use lib.ListN.{length};
 ghost use Rattle.answers.specs.Answers.{reads};
+ghost use Rattle.interpreter.specs.SmallLaws.{AnswerSmall};
 ghost use Rattle.seats.specs.SeatAt.{seatAt};
 ghost use Rattle.exports.specs.DispatchWords.{putFive, routineWords, dispatchWords, DispatchAnswer};
-ghost use Rattle.exports.specs.DispatchLaws.{putAt, FewRan, isAnswered};
+ghost use Rattle.exports.specs.DispatchLaws.{putAt, AllSmall, SaidSmall, isAnswered};
 
 fn put_five(answer: &mut [u32], a: u32, b: u32, c: u32, d: u32, e: u32)
     requires { ⌜ 5 ≤ length (now answer) ⌝ }
@@ -25,7 +25,7 @@ fn put_five(answer: &mut [u32], a: u32, b: u32, c: u32, d: u32, e: u32)
 
 // The four words of an outcome from index `at` on.
 fn put_outcome_at(answer: &mut [u32], at: usize, outcome: Outcome)
-    requires { ⌜ at + 4 ≤ length (now answer) ⌝ }
+    requires { ⌜ (at + 4 ≤ length (now answer)) × AnswerSmall (reads outcome) ⌝ }
     ensures { λ _. ⌜ now (answer .exit) ≡ putAt at (reads outcome) (now (answer .entry)) ⌝ }
 {
     put_outcome(&mut answer[at..], outcome);
@@ -33,7 +33,7 @@ fn put_outcome_at(answer: &mut [u32], at: usize, outcome: Outcome)
 
 // The words of `count` routines, behind those of what is said.
 fn put_routines(answer: &mut [u32], seats: [Seat; 8], count: usize)
-    requires { ⌜ (count ≤ 8) × (37 ≤ length (now answer)) ⌝ }
+    requires { ⌜ AllSmall (λ r. reads (seatAt seats r .outcome)) count × (37 ≤ length (now answer)) ⌝ }
     ensures { λ _. ⌜ now (answer .exit) ≡ routineWords (λ r. reads (seatAt seats r .outcome)) count (now (answer .entry)) ⌝ }
 {
     let mut r = 0;
@@ -47,7 +47,7 @@ fn put_routines(answer: &mut [u32], seats: [Seat; 8], count: usize)
 
 // The words of what is said; false where that is that there is too little room.
 fn put_said(answer: &mut [u32], said: Said, seats: [Seat; 8], count: usize) -> bool
-    requires { ⌜ FewRan said count × (37 ≤ length (now answer)) ⌝ }
+    requires { ⌜ SaidSmall said (λ r. reads (seatAt seats r .outcome)) count × (37 ≤ length (now answer)) ⌝ }
     ensures { λ r. ⌜ (r ≡ isAnswered said) × (now (answer .exit) ≡ dispatchWords said (λ i. reads (seatAt seats i .outcome)) count (now (answer .entry))) ⌝ }
 {
     match said {
@@ -59,16 +59,16 @@ fn put_said(answer: &mut [u32], said: Said, seats: [Seat; 8], count: usize) -> b
         }
         Said::Refused { routine, refusal } => {
             let number = answers::refusals::refusal_number(refusal);
-            let place = word_of(answers::refusals::refusal_place(refusal));
-            let pointer = word_of(answers::refusals::refusal_pointer(refusal));
-            put_five(answer, 3, number, word_of(routine), place, pointer);
+            let place = answers::refusals::refusal_place(refusal) as u32;
+            let pointer = answers::refusals::refusal_pointer(refusal) as u32;
+            put_five(answer, 3, number, routine as u32, place, pointer);
         }
         Said::Overlaps(routine) => {
-            let place = word_of(routine);
+            let place = routine as u32;
             put_five(answer, 3, 14, place, place, 0);
         }
         Said::Ran => {
-            put_five(answer, 0, word_of(count), 0, 0, 0);
+            put_five(answer, 0, count as u32, 0, 0, 0);
             put_routines(answer, seats, count);
         }
     }

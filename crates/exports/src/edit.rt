@@ -1,12 +1,12 @@
 // What C and Rust link for editing: the editor on lent slices, with the answer as words in a lent slice (include/mizzengrape.h).
 use crate::put_verdict;
-use crate::word_of;
 use editor::Answer;
 use plans::Edit;
 ghost use mathlib.Core.Path.{_≡_};
 ghost use Prim.Native.Nat.{_≤_, min};
 ghost use lib.ListN.{length};
-ghost use Rattle.exports.specs.EditWords.{flag, editOf, editWords, StartWords, EditCallWords};
+ghost use Rattle.editor.specs.Editor.{NumbersSmall};
+ghost use Rattle.exports.specs.EditWords.{flag, editOf, lengthWord, editWords, StartWords, EditCallWords};
 
 fn flag_of(b: bool) -> u32
     ensures { λ r. ⌜ r ≡ flag b ⌝ }
@@ -37,14 +37,24 @@ fn cut_at(length: usize, room: usize) -> usize
     if length < room { length } else { room }
 }
 
+// The words of a table, at most 7,704 of one that is taken; of a longer one than a word can say the largest.
+fn length_word(length: usize) -> u32
+    ensures { λ r. ⌜ r ≡ lengthWord length ⌝ }
+{
+    if length < 4294967295 {
+        return length as u32;
+    }
+    4294967295
+}
+
 fn put_edit(answer: &mut [u32], said: Answer)
-    requires { ⌜ 6 ≤ length (now answer) ⌝ }
+    requires { ⌜ (6 ≤ length (now answer)) × NumbersSmall said ⌝ }
     ensures { λ _. ⌜ now (answer .exit) ≡ editWords said (now (answer .entry)) ⌝ }
 {
     let verdict = said.verdict;
     put_verdict(answer, verdict);
-    answer[3] = word_of(said.walked);
-    answer[4] = word_of(said.length);
+    answer[3] = said.walked as u32;
+    answer[4] = length_word(said.length);
     answer[5] = flag_of(said.taken);
 }
 

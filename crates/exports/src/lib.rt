@@ -14,19 +14,14 @@ ghost use mathlib.Core.Path.{_≡_};
 ghost use Prim.Native.Nat.{_<_, _≤_};
 ghost use lib.ListN.{length};
 ghost use Rattle.rules.specs.Verdict.{verdictReads};
+ghost use Rattle.rules.specs.Small.{ReadingSmall};
 ghost use Rattle.answers.specs.Answers.{reads};
-ghost use Rattle.exports.specs.Words.{versionNumber, wordOf, putThree, putFour, verdictWords, answerWords, CheckAnswer, RunWords, CheckReport};
+ghost use Rattle.interpreter.specs.SmallLaws.{AnswerSmall};
+ghost use Rattle.exports.specs.Words.{versionNumber, putThree, putFour, verdictWords, answerWords, CheckAnswer, RunWords, CheckReport};
 ghost use Rattle.exports.specs.Numbers.{PutReported, PutAll};
 
 // The version that include/mizzengrape.h gives, as one number.
 const VERSION: u32 = 200;
-
-// A number as an answer word. Statements, objects and variables are few, so that the remainder is the number.
-fn word_of(n: usize) -> u32
-    ensures { λ r. ⌜ r ≡ wordOf n ⌝ }
-{
-    (n % 4294967296) as u32
-}
 
 fn put_three(answer: &mut [u32], a: u32, b: u32, c: u32)
     requires { ⌜ 3 ≤ length (now answer) ⌝ }
@@ -48,7 +43,7 @@ fn put_four(answer: &mut [u32], a: u32, b: u32, c: u32, d: u32)
 }
 
 fn put_verdict(answer: &mut [u32], verdict: Verdict)
-    requires { ⌜ 3 ≤ length (now answer) ⌝ }
+    requires { ⌜ (3 ≤ length (now answer)) × ReadingSmall (verdictReads verdict) ⌝ }
     ensures { λ _. ⌜ now (answer .exit) ≡ verdictWords (verdictReads verdict) (now (answer .entry)) ⌝ }
 {
     match verdict {
@@ -57,15 +52,15 @@ fn put_verdict(answer: &mut [u32], verdict: Verdict)
         }
         Verdict::Refused(r) => {
             let number = answers::refusals::refusal_number(r);
-            let place = word_of(answers::refusals::refusal_place(r));
-            let pointer = word_of(answers::refusals::refusal_pointer(r));
+            let place = answers::refusals::refusal_place(r) as u32;
+            let pointer = answers::refusals::refusal_pointer(r) as u32;
             put_three(answer, number, place, pointer);
         }
     }
 }
 
 fn put_outcome(answer: &mut [u32], outcome: Outcome)
-    requires { ⌜ 4 ≤ length (now answer) ⌝ }
+    requires { ⌜ (4 ≤ length (now answer)) × AnswerSmall (reads outcome) ⌝ }
     ensures { λ _. ⌜ now (answer .exit) ≡ answerWords (reads outcome) (now (answer .entry)) ⌝ }
 {
     match outcome {
@@ -73,18 +68,18 @@ fn put_outcome(answer: &mut [u32], outcome: Outcome)
             put_four(answer, 0, steps, 0, 0);
         }
         Outcome::Spent { steps, statement } => {
-            let place = word_of(statement);
+            let place = statement as u32;
             put_four(answer, 1, steps, place, 0);
         }
         Outcome::Stopped { steps, check } => {
-            let place = word_of(check_statement(check));
+            let place = check_statement(check) as u32;
             let number = check_number(check);
             put_four(answer, 2, steps, place, number);
         }
         Outcome::Refused(r) => {
             let number = answers::refusals::refusal_number(r);
-            let place = word_of(answers::refusals::refusal_place(r));
-            let pointer = word_of(answers::refusals::refusal_pointer(r));
+            let place = answers::refusals::refusal_place(r) as u32;
+            let pointer = answers::refusals::refusal_pointer(r) as u32;
             put_four(answer, 3, number, place, pointer);
         }
     }

@@ -2,7 +2,6 @@
 // (include/mizzengrape.h).
 use crate::put_outcome;
 use crate::put_verdict;
-use crate::word_of;
 use answers::stops::Outcome;
 use rules::SetVerdict;
 use rules::Verdict;
@@ -10,15 +9,20 @@ use set_runs::SetOutcome;
 use set_runs::SetRun;
 use sets::SetChecked;
 ghost use mathlib.Core.Path.{_≡_};
-ghost use Prim.Native.Nat.{_≤_};
+ghost use Prim.Native.Nat.{_^_, _<_, _≤_};
 ghost use lib.ListN.{length};
+ghost use Rattle.rules.specs.Small.{ReadingSmall};
+ghost use Rattle.rules.specs.Verdict.{verdictReads};
+ghost use Rattle.answers.specs.Answers.{reads};
+ghost use Rattle.interpreter.specs.SmallLaws.{AnswerSmall};
+ghost use Rattle.sets.specs.Checked.{verdictIn, routineIn};
 ghost use Rattle.sets.specs.Tables.{tablesIn};
 ghost use Rattle.set_runs.specs.SetRuns.{roomEnough};
 ghost use Rattle.exports.specs.SetWords.{setVerdictWords, routineNamed, setOutcomeWords, SetCheckWords, SetRunWords};
 
 // The words of a verdict on a set, and of the routine that it names.
 fn put_set_verdict(answer: &mut [u32], verdict: SetVerdict)
-    requires { ⌜ 4 ≤ length (now answer) ⌝ }
+    requires { ⌜ (4 ≤ length (now answer)) × ReadingSmall (verdictReads (verdictIn verdict)) × (routineIn verdict < 2 ^ 32) ⌝ }
     ensures { λ _. ⌜ now (answer .exit) ≡ setVerdictWords verdict (now (answer .entry)) ⌝ }
 {
     match verdict {
@@ -28,7 +32,7 @@ fn put_set_verdict(answer: &mut [u32], verdict: SetVerdict)
         }
         SetVerdict::Refused { routine, refusal } => {
             put_verdict(answer, Verdict::Refused(refusal));
-            answer[3] = word_of(routine);
+            answer[3] = routine as u32;
         }
     }
 }
@@ -72,12 +76,12 @@ fn routine_named(outcome: Outcome, routine: usize) -> usize
 
 // The words of how a run of a set ends, and of the routine that it names.
 fn put_set_outcome(answer: &mut [u32], ended: SetOutcome)
-    requires { ⌜ 5 ≤ length (now answer) ⌝ }
+    requires { ⌜ (5 ≤ length (now answer)) × AnswerSmall (reads (ended .outcome)) × (ended .routine < 2 ^ 32) ⌝ }
     ensures { λ _. ⌜ now (answer .exit) ≡ setOutcomeWords ended (now (answer .entry)) ⌝ }
 {
     let outcome = ended.outcome;
     put_outcome(answer, outcome);
-    answer[4] = word_of(routine_named(outcome, ended.routine));
+    answer[4] = routine_named(outcome, ended.routine) as u32;
 }
 
 // Runs a set of routines from its last one, `limit` steps at most. False, and nothing written, where the answer has fewer than five words or too little room is

@@ -25,3 +25,4 @@ pub mod ClaimLaws
 pub mod SetBegunLaws
 pub mod TwoRuns
 pub mod TwoRunsLaws
+pub mod SmallLaws

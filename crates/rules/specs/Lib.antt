@@ -28,3 +28,5 @@ pub mod Routines
 pub mod FactsTrue
 pub mod BoundsTrue
 pub mod EnvironmentLaws
+pub mod Small
+pub mod SmallLaws

@@ -82,11 +82,11 @@ pub before-formed : (n : ℕ) (rs : List Routine) → AllFormed rs → AllFormed
 before-formed n rs g k l = let e = before-at n rs k l in rw e (g k (omega (arith, l, before-within n rs)))
 
 -- A table without faults, by any facts, is well formed.
-pub faults-formed : (S : FactSets) (callees : List Routine) (T : List ℤ) → faults S callees T [] ≡ [] → formOf T ≡ form.WellFormed (sectionsOf T)
+pub faults-formed : (S : FactSets) (callees : List Routine) (T L : List ℤ) → faults S callees T L ≡ [] → formOf T ≡ form.WellFormed (sectionsOf T)
 unfolding faults
-faults-formed S callees T e = go (formOf T) refl e
+faults-formed S callees T L e = go (formOf T) refl e
   where
-    go : (f : Form) → formOf T ≡ f → formFaults S callees T [] f ≡ [] → formOf T ≡ form.WellFormed (sectionsOf T)
+    go : (f : Form) → formOf T ≡ f → formFaults S callees T L f ≡ [] → formOf T ≡ form.WellFormed (sectionsOf T)
     go (form.Refused r) q z = let o : _≡_ {A = ℕ} 0 1 = cc in absurd (omega arith)
     go (form.WellFormed h) q z = let i = formed-sections T h q in rw i at q
 
@@ -122,12 +122,12 @@ module _ (Ts : List (List ℤ)) (n : ℕ) (j : RoutineJudged Ts n Accepted) wher
           → cond b (faults (byChains (decider M)) (before n (routinesOf Ts)) M []) (faults (byChains (decider M)) [] lent []) ≡ [] → Passed
       go true q o e = record { own = o; head = q; walked = e }
       go false q o e =
-          let f = faults-formed (byChains (decider M)) [] lent e in
+          let f = faults-formed (byChains (decider M)) [] lent [] e in
           absurd (false≢true (sym q ∙ formed-head lent (sectionsOf lent) f))
 
   -- Its table is well formed.
   pub member-formed : formOf M ≡ form.WellFormed (sectionsOf M)
-  member-formed = faults-formed (byChains (decider M)) (before n (routinesOf Ts)) M (passed .walked)
+  member-formed = faults-formed (byChains (decider M)) (before n (routinesOf Ts)) M [] (passed .walked)
 
   -- It lists no objects, unless it is routine 0.
   pub lists-none : (n ≡ 0 → ⊥) → sectionsOf lent .objects ≡ 0

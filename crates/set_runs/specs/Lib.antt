@@ -13,3 +13,4 @@ pub mod PrepareLaws
 pub mod SetRuns
 pub mod RunLaws
 pub mod JudgedLaws
+pub mod SmallLaws

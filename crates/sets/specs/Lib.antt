@@ -6,3 +6,4 @@ pub mod SignatureLaws
 pub mod JudgedLaws
 pub mod Checked
 pub mod CheckedLaws
+pub mod SmallLaws

@@ -6,6 +6,7 @@ use denote.Ref.{now}
 use mathlib.Core.Path.{_≡_, refl, ap, _∙_}
 use native.Mathlib.Omega.{arith}
 use borrow.Author.Needs.{needs}
+use Rattle.rules.specs.SmallLaws.{judged-small}
 use Rattle.exports.specs.Numbers.{verdict-long, report-words, no-room-answer, no-room-report}
 use Rattle.exports.proofs.mizzengrape_check_with_facts.Statement.{statement}
 use Rattle.exports.proofs.mizzengrape_check_with_facts.Tie as tie
@@ -17,8 +18,10 @@ mizzengrape-check-with-facts-spec =
     (λ c. no-room-answer (c .if1 .taken))
     (λ c. no-room-report (c .before .if1 .left) (c .if2 .taken))
     (λ c κs. search needs)
-    (λ c κs. let q : 3 ≤ length (now (c .before .before .before .before .before .before .args .answer)) = omega
-    (arith, c .before .before .before .if1 .left) in q)
+    (λ c κs. (
+      let q : 3 ≤ length (now (c .before .before .before .before .before .before .args .answer)) = omega (arith, c .before .before .before .if1 .left) in q,
+      judged-small _ _ _ _ (c .before .check .ensures .0),
+    ))
     (λ c κs. let q : 1024 ≤ length (now (c .before .before .before .before .before .before .before .before .before .before .args .report)) = c .before .before
     .before .before .before .before .if2 .left in q)
     (λ c.

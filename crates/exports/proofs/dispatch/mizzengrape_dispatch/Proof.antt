@@ -1,7 +1,6 @@
 -- `exports::dispatch::mizzengrape_dispatch` meets its contract.
-use native.Mathlib.Omega.{arith}
 use borrow.Author.Needs.{needs}
-use Rattle.exports.specs.DispatchLaws.{no-words, said-answered, few-ran}
+use Rattle.exports.specs.DispatchLaws.{no-words, said-answered, said-small}
 use Rattle.exports.proofs.dispatch.mizzengrape_dispatch.Statement.{statement}
 use Rattle.exports.proofs.dispatch.mizzengrape_dispatch.Tie as tie
 
@@ -12,9 +11,9 @@ mizzengrape-dispatch-spec =
     (λ c. no-words _ _ _ _ _ _ (c .if1 .taken))
     (λ c κs. search needs)
     (λ c κs. (
-      few-ran _ _ _ _ _ _ _ _ (c .before .before .before .before .before .before .before .before .before .before .dispatch .ensures),
-      c .before .before
-          .before .before .before .before .before .before .before .before .before .before .before .before .before .if1 .left,
+      said-small _ _ _ _ _ _ _ _ (c .before .before .before .before .before .before .before .before .before .before .dispatch .ensures),
+      c .before
+          .before .before .before .before .before .before .before .before .before .before .before .before .before .before .if1 .left,
     ))
     (λ c. search needs) (λ c. search needs) (λ c. search needs) (λ c. search needs) (λ c. search needs)
     (λ c. said-answered _ _ _ _ _ _ _ _ _ _ _

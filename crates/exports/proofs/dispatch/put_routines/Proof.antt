@@ -24,19 +24,27 @@ put-routines-spec =
     (tie.spec
     Inv-loop μ-loop
     (λ c. (routine-none _ _, omega arith, search needs))
-    (λ c. omega (arith, c .loop-test .taken, c .before .before .before .pre .0))
-    (λ c. omega (arith, c .loop-test .taken, c .before .before .before .pre .0))
-    (λ c. omega (arith, c .before .before .loop-test .taken, c .before .before .before .before .before .pre .0))
-    (λ c. omega (arith, c .before .before .loop-test .taken, c .before .before .before .before .before .pre .0))
-    (λ c κs. omega (
-      arith,
-      c .before .before .loop-test .taken,
-      c .before .before .before .before .before .pre .0,
-      c .before .before .before .before .before
-          .pre .1,
-      c .before .before .before .loop .inv .2,
+    (λ c. omega (arith, c .loop-test .taken, c .before .before .before .pre .0 .0))
+    (λ c. omega (arith, c .loop-test .taken, c .before .before .before .pre .0 .0))
+    (λ c. omega (arith, c .before .before .loop-test .taken, c .before .before .before .before .before .pre .0 .0))
+    (λ c. omega (arith, c .before .before .loop-test .taken, c .before .before .before .before .before .pre .0 .0))
+    (λ c κs. (
+      omega (
+        arith,
+        c .before .before .loop-test .taken,
+        c .before .before .before .before .before .pre .0 .0,
+        c .before .before .before .before .before .pre
+            .1,
+        c .before .before .before .loop .inv .2,
+      ),
+      c .before .before .before .before .before .pre .0 .1 (c .before .before .before .loop .r) (c .before .before .loop-test .taken),
     ))
-    (λ c. omega (arith, c .before .before .before .before .before .loop-test .taken, c .before .before .before .before .before .before .before .before .pre .0))
+    (λ c. omega (
+      arith,
+      c .before .before .before .before .before .loop-test .taken,
+      c .before .before .before .before .before .before .before .before .pre .0
+          .0,
+    ))
     (λ c. omega (arith, c .before .before .before .before .before .loop-test .taken))
     (λ c. (
       routine-more _ _ _ _ _ (c .before .before .before .before .before .before .loop .inv .0) (c .before .before .put-outcome-at .ensures),

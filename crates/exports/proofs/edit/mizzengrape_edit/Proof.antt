@@ -1,7 +1,5 @@
-use mathlib.Core.Path.{_≡_, refl, sym, ap, _∙_}
 use native.Mathlib.Omega.{arith}
 use borrow.Author.Needs.{needs}
-use lib.ListN.{length, length-set, length-take}
 use Rattle.exports.specs.EditWordLaws.{no-edit, edit-words}
 use Rattle.exports.proofs.edit.mizzengrape_edit.Statement.{statement}
 use Rattle.exports.proofs.edit.mizzengrape_edit.Tie as tie
@@ -11,7 +9,9 @@ mizzengrape-edit-spec =
     tie.close
     (tie.spec
     (λ c. no-edit (c .if1 .taken))
-    (λ c κs. search needs) (λ c κs. search needs) (λ c κs. search needs) (λ c. search needs) (λ c. search needs) (λ c. search needs)
+    (λ c κs. search needs) (λ c κs. search needs)
+    (λ c κs. (search needs, c .before .before .before .before .edit-table .ensures .small (omega arith)))
+    (λ c. search needs) (λ c. search needs) (λ c. search needs)
     (λ c. edit-words _ _ (c .before .before .before .before .before .before .before .before .before .before .before .if1 .left)
     (c .before .before .before .before .before .before .before .before .before .before .edit-of .ensures)
     (c .before .before .before .before .before .before .before .edit-table .ensures) (c .before .before .put-edit .ensures)))

@@ -1,6 +1,5 @@
-use mathlib.Core.Path.{_≡_, refl, sym, ap, _∙_}
 use borrow.Author.Needs.{needs}
-use Rattle.exports.specs.SetWordLaws.{no-run, no-run-room, ran-set}
+use Rattle.exports.specs.SetWordLaws.{ran-fits, no-run, no-run-room, ran-set}
 use Rattle.exports.proofs.set.mizzengrape_run_set.Statement.{statement}
 use Rattle.exports.proofs.set.mizzengrape_run_set.Tie as tie
 
@@ -12,8 +11,10 @@ mizzengrape-run-set-spec =
     (λ c κs. search needs) (λ c. search needs) (λ c. search needs) (λ c. search needs) (λ c. search needs) (λ c. search needs)
     (λ c. search needs) (λ c. search needs)
     (λ c. no-run-room (c .before .before .before .before .before .before .before .before .before .before .before .run-set .ensures) (c .enum-told .given .1))
-    (λ c κs. search needs) (λ c. search needs) (λ c. search needs) (λ c. search needs) (λ c. search needs) (λ c. search needs)
-    (λ c. search needs)
+    (λ c κs. let s = ran-fits _ _ _ _ _ _
+    (c .before .before .before .before .before .before .before .before .before .before .before .before .before .run-set .ensures)
+    (c .before .before .ran .given .1) in (search needs, s .0, s .1))
+    (λ c. search needs) (λ c. search needs) (λ c. search needs) (λ c. search needs) (λ c. search needs) (λ c. search needs)
     (λ c. ran-set (c .before .before .before .before .before .before .before .before .before .before .before .before .before .before .before .before .before
     .before .before .before .before .before .if1 .left)
     (c .before .before .before .before .before .before .before .before .before .before .before .before .before .before .before .before .run-set .ensures)

@@ -1,6 +1,7 @@
-use mathlib.Core.Path.{_≡_, refl, sym, ap, _∙_}
+-- `exports::set::put_set_outcome` meets its contract.
+use native.Mathlib.Omega.{arith}
 use borrow.Author.Needs.{needs}
-use Rattle.exports.specs.SetWordLaws.{outcome-words}
+use Rattle.exports.specs.SetWordLaws.{named-fits, outcome-words}
 use Rattle.exports.proofs.set.put_set_outcome.Statement.{statement}
 use Rattle.exports.proofs.set.put_set_outcome.Tie as tie
 
@@ -8,5 +9,11 @@ pub put-set-outcome-spec : {M : Type 1} → statement M
 put-set-outcome-spec =
     tie.close
     (tie.spec
-    (λ c κs. search needs) (λ c κs. search needs) (λ c κs. search needs) (λ c. search needs) (λ c. search needs)
-    (λ c. outcome-words _ _ (c .before .before .before .before .put-outcome .ensures) (c .before .routine-named .ensures) (c .word-of .ensures)))
+    (λ c κs. search needs) (λ c κs. search needs)
+    (λ c. omega (
+      arith,
+      named-fits (c .before .before .before .before .before .before .args .ended .outcome) (c .routine-named .ensures)
+          (c .before .before .before .before .before .before .pre .2),
+    ))
+    (λ c. search needs) (λ c. search needs)
+    (λ c. outcome-words _ _ (c .before .before .before .put-outcome .ensures) (c .routine-named .ensures)))
