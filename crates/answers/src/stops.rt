@@ -4,7 +4,7 @@ ghost use Rattle.answers.specs.Answers.{check_number, check_statement};
 
 use crate::refusals::Refusal;
 
-#[derive(Drop)]
+#[derive(Clone, Copy)]
 pub enum Check {
     ConditionFalse(usize),
     NullAccess(usize),
@@ -15,7 +15,7 @@ pub enum Check {
 }
 
 // A run's answer: refused, done, spent, or stopped, with the check that failed.
-#[derive(Drop)]
+#[derive(Clone, Copy)]
 pub enum Outcome {
     Refused(Refusal),
     Done { steps: u32 },

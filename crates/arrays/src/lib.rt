@@ -1,1 +1,2 @@
 // What loops that fill an array make: definitions and laws alone.
+#![tactic(auto)]

@@ -1,4 +1,6 @@
 // The blocks of a routine table: the tree that they are, and their layout (cause 6).
+#![tactic(auto)]
+
 pub mod flow; // flow.rt: the flow of a routine table: what is due after each statement, written once for a whole table
 
 ghost use Rattle.std.specs.Prelude.{◌≡◌, ◌<◌};
@@ -16,14 +18,14 @@ const MAX_DEPTH: usize = 6;
 const MAX_BUNDLE: usize = 16;
 
 // The answer of cause 6.
-#[derive(Drop)]
+#[derive(Clone, Copy)]
 pub enum Layout {
     LaidOut,
     Refused(Refusal),
 }
 
 // What a statement of a block leads to: a refusal, the next statement, or two blocks and the statement behind them.
-#[derive(Drop)]
+#[derive(Clone, Copy)]
 enum Parts {
     Refused(Refusal),
     Next(usize),

@@ -1,4 +1,6 @@
 // What an effect makes of the known bounds of all pointers.
+#![tactic(auto)]
+
 mod stays; // stays.rt: which bounds an effect leaves as they are: they need not be made anew, nor shown again
 pub mod transfer; // transfer.rt: what an effect makes of the bounds of one pointer
 pub mod touched; // touched.rt: whether an effect touches declared bounds: only those have to be shown again
@@ -13,7 +15,7 @@ use stays::{changed_by, made_same, replaced_by};
 use transfer::{effect_on, source_of};
 
 // The known bounds of each pointer, inside a bundle.
-#[derive(Drop)]
+#[derive(Clone, Copy)]
 pub struct KnownBounds {
     pub each: [Bounds; 16],
 }

@@ -8,14 +8,14 @@ use rules::lookups::is_pointer;
 use rules::{Bounds, Effect};
 
 // What is asked for each statement: which variables are pointers, and the declared bounds in force. An environment, with its 64 rows, is large to pass.
-#[derive(Drop)]
+#[derive(Clone, Copy)]
 pub struct Seen {
     pub pointers: [bool; 17],
     pub declared: [Bounds; 16],
 }
 
 // For each variable, whether some pointer's declared bounds name it; for 17, whether some are not known.
-#[derive(Drop)]
+#[derive(Clone, Copy)]
 pub struct Named {
     pub each: [bool; 18],
 }

@@ -1,4 +1,6 @@
 // The walk over a bundle.
+#![tactic(auto)]
+
 ghost use Rattle.std.specs.Prelude.{◌+◌, ◌^◌, ◌<◌};
 ghost use Rattle.blocks.specs.Tree.{simples};
 ghost use Rattle.rules.specs.Stored.{unshown};
@@ -29,7 +31,7 @@ use statements::{Statement, StatementRead};
 use words::sections::Sections;
 
 // The verdict on a block or a bundle; where nothing is refused, the facts and rows in force after it and the report so far.
-#[derive(Drop)]
+#[derive(Clone, Copy)]
 pub struct Walked {
     pub verdict: Verdict,
     pub facts: FactSet,

@@ -1,12 +1,14 @@
 // What a statement or a condition does to the facts, as a value: made from the statement alone, and carried out by the fact store.
 // A fact is x <= y + k over two of 16 variables and zero, which has number 16; each sum is kept with its bias.
+#![tactic(auto)]
+
 ghost use Rattle.std.specs.Prelude.{◌≡◌};
 ghost use Rattle.changes.specs.Changes.{no_fact, adding, ranging, shifting, equating};
 
 use sums::{BIAS, MAX_SUM, ZERO, negate};
 
 // A fact x <= y + k; where x or y is neither a variable nor zero it says nothing.
-#[derive(Drop)]
+#[derive(Clone, Copy)]
 pub struct Fact {
     pub x: usize,
     pub y: usize,
@@ -14,7 +16,7 @@ pub struct Fact {
 }
 
 // The variable `target` anew, `base` - `down` <= `target` <= `base` + `up`, where it is one; then three facts besides.
-#[derive(Drop)]
+#[derive(Clone, Copy)]
 pub struct Change {
     pub target: usize,
     pub base: usize,
@@ -25,7 +27,7 @@ pub struct Change {
 
 // What a change may have to know, where it is asked: whether x <= y + `there` is shown, and whether y <= x + `back` is. Where they are chained, the second
 // matters only if the first is shown.
-#[derive(Drop)]
+#[derive(Clone, Copy)]
 pub struct Questions {
     pub asked: bool,
     pub chained: bool,
@@ -35,7 +37,7 @@ pub struct Questions {
     pub back: u64,
 }
 
-#[derive(Drop)]
+#[derive(Clone, Copy)]
 pub struct Answers {
     pub there: bool,
     pub back: bool,

@@ -1,4 +1,6 @@
 // The checker: the walk over the statements, the verdict, and the report.
+#![tactic(auto)]
+
 pub mod sections; // sections.rt: the check of a table that has passed causes 1 to 5
 pub mod walk; // walk.rt: the walk over the statements
 
@@ -11,7 +13,7 @@ use sections::{check_sections, refuse};
 use table::{Form, read_form};
 
 // What a check answers: the verdict, and which accesses of an accepted routine are reported. By value: nothing is lent for it, and 1,024 bits are small.
-#[derive(Drop)]
+#[derive(Clone, Copy)]
 pub struct Checked {
     pub verdict: Verdict,
     pub report: Report,

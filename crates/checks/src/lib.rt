@@ -1,4 +1,6 @@
 // The six checks. Each gives the step to the statement `next`, or stops at the statement `at` with the first check that fails.
+#![tactic(auto)]
+
 ghost use Rattle.std.specs.Prelude.{◌≡◌, true, not, cond, ℕ, ◌+◌, ◌^◌, ◌<◌, ◌≤◌, length, get_or};
 ghost use Rattle.conditions.specs.Conditions.{relates};
 ghost use Rattle.machine.specs.Machine.{end_value, condition_holds, none, first_of, beyond, load_failing, store_failing, arithmetic_failing};
@@ -12,7 +14,7 @@ use machine::{scaled, wide};
 use sums::BIAS;
 
 // What a step says: the statement due after it, the check that fails, or that the statement is a call, which makes another routine run.
-#[derive(Drop)]
+#[derive(Clone, Copy)]
 pub enum Step {
     Go(usize),
     Stop(Check),

@@ -1,4 +1,6 @@
 // A condition, which stands in the first four fields of a record: left variable, relation, form, right; and its negation.
+#![tactic(auto)]
+
 ghost use Rattle.std.specs.Prelude.{◌≡◌};
 ghost use Rattle.conditions.specs.Conditions.{same_kind, beside_literal, condition_right, right_of, offset_of, condition_of};
 ghost use Rattle.conditions.specs.Conditions.{negation, negated_of};
@@ -9,7 +11,7 @@ use words::field::{is_below, is_zero, literal_value, plain};
 use words::sections::{Sections, names_array, names_integer, names_pointer, names_string};
 
 // left RELATION right + offset. Form 0: right is a variable, offset 0. Form 1: right is 16 (zero), offset the literal.
-#[derive(Drop)]
+#[derive(Clone, Copy)]
 pub struct Condition {
     pub left: usize,
     pub relation: usize,

@@ -23,14 +23,14 @@ use table::variables::End;
 use words::sections::Sections;
 
 // Which variables of the caller are pointers, and which of them are of kind 2.
-#[derive(Drop)]
+#[derive(Clone, Copy)]
 pub struct Kinds {
     pub pointers: [bool; 17],
     pub strings: [bool; 17],
 }
 
 // What a call asks of its callee: the number of its variables, their kinds, their own bounds.
-#[derive(Drop)]
+#[derive(Clone, Copy)]
 pub struct Signature {
     pub variables: usize,
     pub pointers: [bool; 17],

@@ -16,7 +16,7 @@ use words::sections::Sections;
 
 // What a statement's walk needs of what the table declares, whatever the rows: which variables are pointers, their element sizes, and the upper
 // limits in the objects.
-#[derive(Drop)]
+#[derive(Clone, Copy)]
 pub struct Frame {
     pub pointers: [bool; 17],
     pub sizes: [u64; 16],
@@ -24,7 +24,7 @@ pub struct Frame {
 }
 
 // The rows in force, what is seen of the environment in force, and the variables that its declared bounds name.
-#[derive(Drop)]
+#[derive(Clone, Copy)]
 pub struct Force {
     pub rows: Rows,
     pub seen: Seen,
@@ -104,7 +104,7 @@ pub fn with_row(rows: Rows, pointer: usize, row: usize) -> Rows
 }
 
 // The verdict on a kind 14 outside a bundle, and what is in force after it.
-#[derive(Drop)]
+#[derive(Clone, Copy)]
 pub struct Declared {
     pub verdict: Verdict,
     pub force: Force,

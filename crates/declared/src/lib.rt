@@ -1,4 +1,6 @@
 // Whether declared bounds are shown: after a statement, after a bundle, at an access in one.
+#![tactic(auto)]
+
 pub mod calls; // calls.rt: whether the arguments of a call fit the callee
 mod ends; // ends.rt: when known bounds show declared ones
 pub mod force; // force.rt: the rows in force and what they put in force: the bounds that each pointer declares, and the variables that these name
@@ -72,7 +74,7 @@ pub fn check_known(environment: Seen, facts: FactSet, known: KnownBounds, at: us
 }
 
 // The pointer, the index and the constant by which a statement reads or writes, if it does.
-#[derive(Drop)]
+#[derive(Clone, Copy)]
 enum Access {
     Through {
         pointer: usize,
@@ -170,7 +172,7 @@ pub fn access_safe(environment: Seen, facts: FactSet, simple: Simple) -> bool
 }
 
 // The pointer and the row that a kind 14 names.
-#[derive(Drop)]
+#[derive(Clone, Copy)]
 pub enum Declares {
     Row { pointer: usize, row: usize },
     NoRow,

@@ -1,4 +1,6 @@
 // The dispatcher: several routines in turn in one lent memory.
+#![tactic(auto)]
+
 ghost use Rattle.std.specs.Prelude.{◌≡◌, true, ◌&&◌, ◌/◌, ◌%◌, eqb, leb, length};
 ghost use Rattle.dispatcher.specs.Dispatch.{Promised, count_right, room_right};
 ghost use Rattle.seats.specs.Lends.{count_of};
@@ -11,7 +13,7 @@ use rounds::take_turns;
 use seats::{AllSeated, Seat, no_seat, seat_all};
 
 // What a call says.
-#[derive(Drop)]
+#[derive(Clone, Copy)]
 pub enum Said {
     // too little room is lent for the set-up
     NoRoom,
@@ -25,7 +27,7 @@ pub enum Said {
 }
 
 // What a call answers: what it says, and, where they ran, each routine's answer.
-#[derive(Drop)]
+#[derive(Clone, Copy)]
 pub struct Dispatched {
     pub said: Said,
     pub seats: [Seat; 8],

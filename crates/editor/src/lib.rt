@@ -1,4 +1,6 @@
 // The editor: a routine table edited with the verdict alongside (point 13).
+#![tactic(auto)]
+
 ghost use Rattle.std.specs.Prelude.{◌≡◌, true, ◌≤◌, length, take};
 ghost use Rattle.words.specs.Sections.{in_limits, Limits, table_end};
 ghost use Rattle.table.specs.Form.{form_of};
@@ -22,7 +24,7 @@ use words::sections::{Sections, in_limits};
 
 // What a call answers: whether the table was taken or edited; its words now; the verdict on it, or why it was not taken or the edit not made; and how many
 // statements were walked.
-#[derive(Drop)]
+#[derive(Clone, Copy)]
 pub struct Answer {
     pub taken: bool,
     pub length: usize,
@@ -31,14 +33,14 @@ pub struct Answer {
 }
 
 // The directory and the objects of a table, read.
-#[derive(Drop)]
+#[derive(Clone, Copy)]
 enum Head {
     Read(Sections),
     Unread,
 }
 
 // How many places stay, and the plan.
-#[derive(Drop)]
+#[derive(Clone, Copy)]
 struct Prepared {
     held: usize,
     plan: Plan,

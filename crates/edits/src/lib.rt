@@ -1,4 +1,6 @@
 // Edits of a routine table: one top-level statement with its blocks inserted, replaced or removed (point 13).
+#![tactic(auto)]
+
 ghost use Rattle.std.specs.Prelude.{◌≡◌, true, ◌+◌, ◌-◌, ◌*◌, ◌/◌, ◌^◌, ◌<◌, ◌≤◌, pos, length, get_or, drop, ◌++◌};
 ghost use Rattle.words.specs.Sections.{in_limits, table_end};
 ghost use Rattle.statements.specs.Statements.{statement_at};
@@ -15,7 +17,7 @@ use words::sections::Sections;
 use words::signed::{number_word, signed_word};
 
 // What causes 5 and 6 say of a text.
-#[derive(Drop)]
+#[derive(Clone, Copy)]
 pub enum Text {
     Right,
     Record,

@@ -1,5 +1,7 @@
 // What a condition and a statement of kinds 1 to 10 and 14 do to the facts, planned as a change of the fact set, and what the statement does to known bounds.
 // No function here takes a fact set: the caller asks the questions of a plan (module asked), hands over the answers, and makes the change.
+#![tactic(auto)]
+
 pub mod loops; // loops.rt: the variables that a loop's body assigns are dropped before the loop
 pub mod entries; // entries.rt: the entries of a loop: asked of the facts, and assumed at its head
 pub mod asked; // asked.rt: what the plan for a condition or a statement has to know of the facts: two questions
@@ -21,7 +23,7 @@ use statements::Simple;
 use sums::{BIAS, MAX_VALUE, ZERO};
 
 // What a statement does to the facts and to known bounds.
-#[derive(Drop)]
+#[derive(Clone, Copy)]
 pub struct Plan {
     pub change: Change,
     pub effect: Effect,

@@ -77,7 +77,7 @@ fn assigned_by(statement: Statement) -> usize
 }
 
 // Which variables are assigned.
-#[derive(Drop)]
+#[derive(Clone, Copy)]
 struct Marks {
     pub each: [bool; 16],
 }

@@ -1,4 +1,6 @@
 // What is looked at before a run begins: causes 10 to 12 and 16.
+#![tactic(auto)]
+
 pub mod ends; // ends.rt: the ends of declared bounds, laid out for the run's loop
 mod entry_bounds; // entry_bounds.rt: whether declared bounds are true at entry
 mod entry; // entry.rt: causes 10 to 12 and 16
@@ -7,7 +9,7 @@ use answers::refusals::Refusal;
 pub use entry::enter;
 
 // What causes 10 to 12 and 16 say of what is lent.
-#[derive(Drop)]
+#[derive(Clone, Copy)]
 pub enum EntryVerdict {
     Begun,
     Refused(Refusal),

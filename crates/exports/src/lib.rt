@@ -1,4 +1,6 @@
 // What C and Rust link: the check and the run on lent slices, with the answer as words in a lent slice (include/mizzengrape.h).
+#![tactic(auto)]
+
 pub mod dispatch; // dispatch.rt: several routines in turn
 pub mod edit; // edit.rt: a table edited with the verdict alongside
 pub mod set; // set.rt: routines that call each other

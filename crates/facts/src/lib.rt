@@ -1,6 +1,8 @@
 // The fact store. A fact is x <= y + k over two of 16 variables and zero, which has number 16. A fact set keeps the least sum of the chains from
 // each of the 17 to each other one (a difference-bound matrix, closed under shortest paths) and a mark for facts that contradict.
 // A sum s is kept as the natural number s + 2^33. Nobody outside this crate reads the rows.
+#![tactic(auto)]
+
 mod rows; // rows.rt: the sums from one variable, or from zero, to each
 
 ghost use Rattle.std.specs.Prelude.{◌≡◌, false, ◌+◌, ◌≤◌, get_or, length};
@@ -11,7 +13,7 @@ use changes::{Change, Fact, adding, no_fact, ranging, shifting};
 use rows::Row;
 use sums::MAX_VALUE;
 
-#[derive(Drop)]
+#[derive(Clone, Copy)]
 pub struct FactSet {
     rows: [Row; 17],
     contradiction: bool,

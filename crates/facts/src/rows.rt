@@ -7,7 +7,7 @@ ghost use Rattle.facts.specs.Rows.{is_plain, AllPlain, shortened_row, greatest_r
 
 use sums::{BIAS, LIMIT, MAX_SUM, concat};
 
-#[derive(Drop)]
+#[derive(Clone, Copy)]
 pub struct Row {
     pub sums: [u64; 17],
 }

@@ -1,4 +1,6 @@
 // Routine tables in files: the verdict on one.
+#![tactic(auto)]
+
 pub mod encoding; // encoding.rt: words of a file: 32 bits, two's complement, little-endian
 
 ghost use Rattle.files.specs.Files.{FileJudged};

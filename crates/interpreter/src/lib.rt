@@ -1,4 +1,6 @@
 // The interpreter: the run of an accepted routine.
+#![tactic(auto)]
+
 pub mod runs; // runs.rt: the run: steps from a statement on, up to a limit
 pub mod starts; // starts.rt: what a run begins with
 

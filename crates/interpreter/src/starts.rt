@@ -19,7 +19,7 @@ use table::{Form, read_form};
 use words::sections::Sections;
 
 // What a run begins with: a refusal, or the sections of its table.
-#[derive(Drop)]
+#[derive(Clone, Copy)]
 pub enum Start {
     Refused(Refusal),
     Begun(Sections),

@@ -1,4 +1,6 @@
 // A verdict as a line of text.
+#![tactic(auto)]
+
 pub mod report; // report.rt: what a rehearsal tells a scorer, as lines of text
 
 ghost use Rattle.answers.specs.Refusals.{number, place, pointer};

@@ -1,4 +1,6 @@
 // The list of loop facts that is lent beside a routine (document 02, point 9), four words an entry: its entries, and cause 17 by form.
+#![tactic(auto)]
+
 ghost use Rattle.std.specs.Prelude.{◌≡◌, ◌^◌, ◌<◌, ◌≤◌, length};
 ghost use Rattle.conditions.specs.Conditions.{same_kind};
 ghost use Rattle.listed.specs.Entries.{entry_count, entry_at, belongs};
@@ -13,7 +15,7 @@ use words::sections::{Sections, names_integer, names_pointer};
 use words::{Fields, word};
 
 // An entry: its number in the list, and left <= right + offset, with the bias in the offset; 16 stands for zero.
-#[derive(Drop)]
+#[derive(Clone, Copy)]
 pub struct Entry {
     pub number: usize,
     pub left: usize,
@@ -22,7 +24,7 @@ pub struct Entry {
 }
 
 // What cause 17 says of the list's form.
-#[derive(Drop)]
+#[derive(Clone, Copy)]
 pub enum ListForm {
     Right,
     Refused(Refusal),

@@ -1,4 +1,6 @@
 // The plain machine, and that its runs are sound (specs/); in code, the values of a run as whole numbers.
+#![tactic(auto)]
+
 ghost use Rattle.std.specs.Prelude.{◌≡◌, ◌*◌, ◌^◌, ◌<◌, ◌≤◌, get_or};
 
 pub fn wide(x: u32) -> u64

@@ -1,4 +1,6 @@
 // Cause 14: the first routine whose objects overlap an earlier one's.
+#![tactic(auto)]
+
 ghost use Rattle.std.specs.Prelude.{◌≡◌, min, max, ◌≤◌, ◌<◌, ltb};
 ghost use Rattle.machine.specs.Machine.{low, high};
 ghost use Rattle.overlaps.specs.Overlaps.{lowest, some, share_cell};

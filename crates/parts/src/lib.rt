@@ -1,9 +1,11 @@
 // Where each routine's part lies in a lent slice: the parts one after the other, with a slice of lengths, `kinds` of them a routine.
+#![tactic(auto)]
+
 ghost use Rattle.std.specs.Prelude.{◌≡◌, min, ◌^◌, ◌<◌, ◌≤◌, get_or};
 ghost use Rattle.parts.specs.Parts.{length_at, start_at, span_of};
 
 // A part of a lent slice: the elements start to end - 1.
-#[derive(Drop)]
+#[derive(Clone, Copy)]
 pub struct Span {
     pub start: usize,
     pub end: usize,

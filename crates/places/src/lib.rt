@@ -1,5 +1,7 @@
 // Places: the walk's state before a top-level statement, kept as words in a lent store (point 13).
 // The first word of a store is the number of places kept; a place is 307 words: its position, its fact set, the rows in force.
+#![tactic(auto)]
+
 ghost use Rattle.std.specs.Prelude.{◌≡◌, ◌+◌, ◌*◌, ◌<◌, ◌≤◌, [], ◌∷◌, ◌++◌, length, take};
 ghost use Rattle.declared.specs.Force.{state_of};
 ghost use Rattle.places.specs.Places.{rows_at, state_at, places, place_of, is_next, kept_at, up_to};

@@ -1,4 +1,6 @@
 // Which edits of a routine table are made, and why the others are refused (point 13).
+#![tactic(auto)]
+
 ghost use Rattle.std.specs.Prelude.{◌≡◌, true, ◌≤◌, ◌/◌, ◌<◌, ◌^◌, length};
 ghost use Rattle.words.specs.Sections.{in_limits, Limits, table_end};
 ghost use Rattle.statements.specs.Statements.{statement_at};
@@ -13,7 +15,7 @@ use edits::{Text, check_text, land, span};
 use words::sections::Sections;
 
 // An edit of one top-level statement with its blocks. Of an operation that there is not none is made.
-#[derive(Drop)]
+#[derive(Clone, Copy)]
 pub enum Edit {
     Insert,
     Replace,
@@ -22,7 +24,7 @@ pub enum Edit {
 }
 
 // So many statements make room for so many others; or the edit is refused.
-#[derive(Drop)]
+#[derive(Clone, Copy)]
 pub enum Plan {
     Change { removed: usize, added: usize },
     Refused(Refusal),

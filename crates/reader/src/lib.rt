@@ -1,13 +1,15 @@
 // The reader of statements: it holds the table it was lent and the number of the statement due.
 // The borrow checker covers no function over such a struct, so each is short and proved by hand; the work is `statements::read_statement`'s.
 // `effects` and `checker` call `read_due`, whose parameters are plain.
+#![tactic(auto)]
+
 ghost use Rattle.std.specs.Prelude.{◌≡◌};
 ghost use Rattle.statements.specs.Statements.{statement_at};
 
 use statements::{StatementRead, read_statement};
 use words::sections::Sections;
 
-#[derive(Drop)]
+#[derive(Clone, Copy)]
 pub struct Reader<'a> {
     table: &'a [i32],
     at: usize,

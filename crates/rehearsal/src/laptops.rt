@@ -54,7 +54,7 @@ fn register_both(tables: &[i32], lengths: &[u32], cells: &mut [u32], values: &mu
 }
 
 // The words of both laptops' tables, one behind the other.
-#[derive(Drop)]
+#[derive(Clone, Copy)]
 struct Words {
     pub one: usize,
     pub other: usize,

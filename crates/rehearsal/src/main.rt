@@ -1,6 +1,8 @@
 // The incident replayed with the blocks touching: rows 1 to 4 of the memory are this laptop's block, rows 5 to 8 the other laptop's, rows 9 to 12 the
 // block that the scorer opens next. The routines for late entries of both clubs stand in data/ as files. Then the first club's routine on both laptops,
 // in turn; and a day that is scored by routines that call each other.
+#![tactic(auto)]
+
 mod laptops; // laptops.rt: both laptops in turn
 mod scores; // scores.rt: the handicap formula, called from two scoring routines
 

@@ -1,9 +1,11 @@
 // The report of a check (document 02, point 9): which of a routine's statements are reported, a bit each. 128 bytes, so that a walk hands it on by value.
+#![tactic(auto)]
+
 ghost use Rattle.std.specs.Prelude.{◌^◌, ◌<◌, ◌≡◌};
 ghost use Rattle.std.specs.Int.Bits.{bit_or};
 ghost use Rattle.reports.specs.Reports.{no_words, bit_at, marked, marked_if, reported};
 
-#[derive(Drop)]
+#[derive(Clone, Copy)]
 pub struct Report {
     pub words: [u32; 32],
 }

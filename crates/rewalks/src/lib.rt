@@ -1,4 +1,6 @@
 // The walk from the last place of a store to the end of the table: the verdict, how many statements were walked, the places kept (point 13).
+#![tactic(auto)]
+
 mod walking; // walking.rt: the walk from a place to the end, and the places that it keeps
 
 ghost use Rattle.std.specs.Prelude.{◌≡◌, ◌≤◌, ◌-◌};
@@ -18,7 +20,7 @@ use rules::lookups::Rows;
 use words::sections::Sections;
 
 // Where a walk begins: a position, the facts and the rows in force there.
-#[derive(Drop)]
+#[derive(Clone, Copy)]
 struct Begin {
     position: usize,
     facts: FactSet,
@@ -26,7 +28,7 @@ struct Begin {
 }
 
 // The verdict on the table, and how many statements were walked for it.
-#[derive(Drop)]
+#[derive(Clone, Copy)]
 pub struct Rewalked {
     pub verdict: Verdict,
     pub walked: usize,

@@ -1,4 +1,6 @@
 // The turns, round by number.
+#![tactic(auto)]
+
 mod turn; // turn.rt: one turn
 
 ghost use Rattle.std.specs.Prelude.{◌≡◌, ◌<◌};

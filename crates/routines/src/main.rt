@@ -1,4 +1,6 @@
 // Prints the lines on the paper's routines (a) to (l), which stand in data/ as files.
+#![tactic(auto)]
+
 use libc::STDOUT_FILENO;
 
 // The letter, and the verdict on the file that it names.

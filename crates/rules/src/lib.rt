@@ -1,4 +1,6 @@
 // The rules: the bounds in force, what a statement does to them and to the facts, and the verdict (specs); and what a table declares.
+#![tactic(auto)]
+
 mod bound; // bound.rt: one bound that is in force
 mod declarations; // declarations.rt: what a table declares
 pub mod lookups; // lookups.rt: what is declared of a variable or an object by its number; of a number that has none, what the definitions say
@@ -11,14 +13,14 @@ pub use declarations::{
 use table::variables::End;
 
 // An end of the bounds that are known of a pointer.
-#[derive(Drop)]
+#[derive(Clone, Copy)]
 pub enum KnownEnd {
     Known(End),
     Unknown,
 }
 
 // The bounds that are known of a pointer, with the element size they came with: an end's value is pointer + size times integer + constant.
-#[derive(Drop)]
+#[derive(Clone, Copy)]
 pub struct Bounds {
     pub size: u64,
     pub lower: KnownEnd,
@@ -28,7 +30,7 @@ pub struct Bounds {
 // What a table declares, read once: which variables are pointers, which of them are of kind 2, their element sizes (1 for an integer), the declared bounds
 // (unknown for an integer), the lengths of the objects, which of them are terminated, the upper limits of bounds in them, the bounds rows (unknown where
 // there is none; the size of a row's bounds is that of the pointer it is in force for).
-#[derive(Drop)]
+#[derive(Clone, Copy)]
 pub struct Environment {
     pub pointers: [bool; 17],
     pub strings: [bool; 17],
@@ -41,7 +43,7 @@ pub struct Environment {
 }
 
 // What a statement does to known bounds.
-#[derive(Drop)]
+#[derive(Clone, Copy)]
 pub enum Effect {
     Keep,
     Forget {
@@ -62,14 +64,14 @@ pub enum Effect {
     },
 }
 
-#[derive(Drop)]
+#[derive(Clone, Copy)]
 pub enum Verdict {
     Accepted,
     Refused(answers::refusals::Refusal),
 }
 
 // The verdict on a set: which routine is refused, and why.
-#[derive(Drop)]
+#[derive(Clone, Copy)]
 pub enum SetVerdict {
     Accepted,
     Refused {

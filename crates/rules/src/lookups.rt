@@ -69,7 +69,7 @@ pub fn size_at(sizes: [u64; 16], v: usize) -> u64
 }
 
 // The rows in force: for each pointer 0, its own bound, or the row's number and 1.
-#[derive(Drop)]
+#[derive(Clone, Copy)]
 pub struct Rows {
     pub each: [usize; 16],
 }

@@ -1,4 +1,6 @@
 // Before the turns: each routine is checked as its run alone checks it, and what its run needs is laid out.
+#![tactic(auto)]
+
 ghost use Rattle.std.specs.Prelude.{◌≡◌, ◌<◌, length};
 ghost use Rattle.machine.specs.Machine.{going};
 ghost use Rattle.interpreter.specs.Outcomes.{outcome_shown};
@@ -12,7 +14,7 @@ use parts::{Span, span_of};
 use words::sections::Sections;
 
 // Where a routine's parts lie.
-#[derive(Drop)]
+#[derive(Clone, Copy)]
 pub struct Places {
     pub table: Span,
     pub directory: Span,
@@ -20,7 +22,7 @@ pub struct Places {
 }
 
 // A routine that is served: the sections of its table, its parts, and where it stands: what a run by itself with the steps that it has received answers.
-#[derive(Drop)]
+#[derive(Clone, Copy)]
 pub struct Seat {
     pub sections: Sections,
     pub places: Places,
@@ -28,21 +30,21 @@ pub struct Seat {
 }
 
 // What becomes of one routine.
-#[derive(Drop)]
+#[derive(Clone, Copy)]
 pub enum Seated {
     Refused(Refusal),
     Begun(Seat),
 }
 
 // What becomes of all: the first that is refused, or all are ready.
-#[derive(Drop)]
+#[derive(Clone, Copy)]
 pub enum AllSeated {
     Refused { routine: usize, refusal: Refusal },
     Ready,
 }
 
 // What becomes of all, with the seats.
-#[derive(Drop)]
+#[derive(Clone, Copy)]
 pub struct Prepared {
     pub seated: AllSeated,
     pub seats: [Seat; 8],

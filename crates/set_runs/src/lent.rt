@@ -18,7 +18,7 @@ use table::sections_of;
 use words::sections::Sections;
 
 // Where the words of a routine stand, and its sections there.
-#[derive(Drop)]
+#[derive(Clone, Copy)]
 pub(crate) struct Part {
     pub start: usize,
     pub end: usize,

@@ -10,7 +10,7 @@ use answers::stops::Outcome;
 use interpreter::runs::resume;
 
 // Why a stretch of a routine's own steps ends: the level ends, or a call is due.
-#[derive(Drop)]
+#[derive(Clone, Copy)]
 pub(crate) enum Pause {
     Leaves(Level),
     Calls { steps: u32, statement: usize },

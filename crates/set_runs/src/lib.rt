@@ -1,4 +1,6 @@
 // The run of a set of routines: the interpreter of one routine, which calls itself on a callee.
+#![tactic(auto)]
+
 mod calls; // calls.rt: what a call hands over, and what the caller gets
 mod lent; // lent.rt: where a run reads each routine
 mod levels; // levels.rt: a level of the interpreter, for one routine
@@ -18,21 +20,21 @@ use rules::SetVerdict;
 use sets::{SetChecked, check_set};
 
 // How a run of a set ends, and in which routine.
-#[derive(Drop)]
+#[derive(Clone, Copy)]
 pub struct SetOutcome {
     pub outcome: Outcome,
     pub routine: usize,
 }
 
 // How a level of the interpreter ends: its routine's table has ended with so many steps made, and the caller goes on; or the run has ended.
-#[derive(Drop)]
+#[derive(Clone, Copy)]
 pub enum Level {
     Returns(u32),
     Halts(SetOutcome),
 }
 
 // What `run_set` answers: the run, or that too little room is lent for it.
-#[derive(Drop)]
+#[derive(Clone, Copy)]
 pub enum SetRun {
     NoRoom,
     Ran(SetOutcome),

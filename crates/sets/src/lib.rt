@@ -1,4 +1,6 @@
 // The check of a set of routines: the verdict on each by number, and the first one refused is named.
+#![tactic(auto)]
+
 pub mod member; // member.rt: a table with the objects of routine 0 put in
 
 ghost use Rattle.std.specs.Prelude.{ℕ, ◌≤◌, ◌<◌, true, ◌≡◌, [], length};
@@ -20,7 +22,7 @@ use rules::{SetVerdict, Verdict};
 use table::{Form, head_right, read_form, sections_of};
 
 // What the check of a set answers.
-#[derive(Drop)]
+#[derive(Clone, Copy)]
 pub enum SetChecked {
     // too little room is lent for a table with the objects put in
     NoRoom,

@@ -1,4 +1,6 @@
 // The statements of a table: seven words each, read with every test that cause 5 asks for.
+#![tactic(auto)]
+
 mod kinds; // kinds.rt: the fifteen kinds of statements, a reader each
 pub mod decode; // decode.rt: the statements of a table that has been checked: decoded by their kind, with no test of a field
 
@@ -35,7 +37,7 @@ use words::sections::{Sections, in_limits};
 //    |                | arguments          |        |                                              | unknown                         | callee
 
 // Kinds 1 to 10 and 14, in this order. Literals are plain numbers, constants are biased. A missing index is 16.
-#[derive(Drop)]
+#[derive(Clone, Copy)]
 pub enum Simple {
     Literal {
         target: usize,
@@ -91,7 +93,7 @@ pub enum Simple {
 }
 
 // Kind 15, a call: the callee's number (one below 0 is taken plus 4,294,967,296, which no routine has), the result and the arguments. A missing one is 16.
-#[derive(Drop)]
+#[derive(Clone, Copy)]
 pub struct CallSite {
     pub callee: u64,
     pub result: usize,
@@ -102,7 +104,7 @@ pub struct CallSite {
 }
 
 // The fifteen kinds. A bundle holds kinds 1 to 10 and 14 only, so these have a type of their own.
-#[derive(Drop)]
+#[derive(Clone, Copy)]
 pub enum Statement {
     Plain(Simple),
     If {
@@ -120,7 +122,7 @@ pub enum Statement {
     Call(CallSite),
 }
 
-#[derive(Drop)]
+#[derive(Clone, Copy)]
 pub enum StatementRead {
     Read(Statement),
     Unread,

@@ -1,4 +1,6 @@
 // One step of a run: what it leaves, and the statement due after it.
+#![tactic(auto)]
+
 mod numbers; // numbers.rt: sums and products
 mod simple; // simple.rt: the step of kinds 1 to 10 and 14
 

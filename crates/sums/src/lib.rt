@@ -1,4 +1,6 @@
 // Sums of chains, and the numbers that all crates share. Sums, constants and addresses may be negative: each is kept as the natural number that is 2^33 more.
+#![tactic(auto)]
+
 ghost use Rattle.std.specs.Prelude.{◌≡◌};
 ghost use Rattle.sums.specs.Sums.{concatenated, negated, room_above};
 

@@ -1,4 +1,6 @@
 // The form of a whole table: causes of refusal 1 to 5.
+#![tactic(auto)]
+
 pub mod variables; // variables.rt: the variables of a table, eight words each, read with every test that cause 4 asks for; and the lengths of the objects
 
 ghost use Rattle.std.specs.Prelude.{◌≡◌, true};
@@ -15,7 +17,7 @@ use words::sections::{Sections, in_limits};
 use words::word;
 
 // What causes 1 to 5 say of a table.
-#[derive(Drop)]
+#[derive(Clone, Copy)]
 pub enum Form {
     WellFormed(Sections),
     Refused(Refusal),

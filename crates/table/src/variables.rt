@@ -9,34 +9,34 @@ use words::sections::{Sections, in_limits, kind_is, kind_of, names_index, names_
 use words::word;
 
 // An end of declared bounds: pointer + size times integer + constant. A missing integer is 16, the number that stands for zero. The constant is biased.
-#[derive(Drop)]
+#[derive(Clone, Copy)]
 pub struct End {
     pub pointer: usize,
     pub integer: usize,
     pub constant: u64,
 }
 
-#[derive(Drop)]
+#[derive(Clone, Copy)]
 pub enum Variable {
     Integer,
     Pointer { size: u64, lower: End, upper: End },
 }
 
-#[derive(Drop)]
+#[derive(Clone, Copy)]
 pub enum VariableRead {
     Read(Variable),
     Unread,
 }
 
 // A bounds row: the two ends that a kind 14 declares.
-#[derive(Drop)]
+#[derive(Clone, Copy)]
 pub enum RowRead {
     Read { lower: End, upper: End },
     Unread,
 }
 
 // The three words of an end.
-#[derive(Drop)]
+#[derive(Clone, Copy)]
 struct EndWords {
     pointer: u64,
     integer: u64,
@@ -44,7 +44,7 @@ struct EndWords {
 }
 
 // The eight words of a variable record.
-#[derive(Drop)]
+#[derive(Clone, Copy)]
 struct VariableWords {
     kind: u64,
     size: u64,
@@ -53,7 +53,7 @@ struct VariableWords {
 }
 
 // The six words of a bounds row.
-#[derive(Drop)]
+#[derive(Clone, Copy)]
 struct RowWords {
     lower: EndWords,
     upper: EndWords,

@@ -1,10 +1,12 @@
 // A line of text that grows at its end.
+#![tactic(auto)]
+
 pub mod console; // console.rt: text on standard output
 
 ghost use Rattle.std.specs.Prelude.{◌∷◌, [], ◌+◌, ◌<◌, ◌≤◌, length};
 ghost use Rattle.text.specs.Text.{text_of, decimal, Grown};
 
-#[derive(Drop)]
+#[derive(Clone, Copy)]
 pub struct Text {
     pub bytes: [u8; 120],
     pub len: usize,

@@ -1,4 +1,6 @@
 // Who is served when several routines run in turn, and for how many steps (specs/); in code, the allowance of a turn and whose turn is next.
+#![tactic(auto)]
+
 ghost use Rattle.std.specs.Prelude.{◌≡◌, min, ◌<◌};
 ghost use Rattle.turns.specs.Turns.{following};
 

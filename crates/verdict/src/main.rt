@@ -1,4 +1,6 @@
 // Reads a routine table from standard input and prints the verdict on it, one line.
+#![tactic(auto)]
+
 use libc::STDIN_FILENO;
 
 // Reads some more of the input and says whether there was any.

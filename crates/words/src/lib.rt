@@ -1,5 +1,7 @@
 // The words of a table as natural numbers, 2^33 more than the signed words. Of what reads a table only `biased` sees a signed word; everything else works on
 // natural numbers.
+#![tactic(auto)]
+
 pub mod field; // field.rt: one field of a record: the number, index or literal that its word is, and what it may be
 pub mod sections; // sections.rt: the sections of a table, and what a field of a record names: a variable of some kind, an index
 pub mod signed; // signed.rt: words as they stand in a table, for those that make tables
@@ -10,7 +12,7 @@ ghost use Rattle.words.specs.Words.{biased, word, fields_at};
 use sums::BIAS;
 
 // The seven words of a statement record.
-#[derive(Drop)]
+#[derive(Clone, Copy)]
 pub struct Fields {
     pub kind: u64,
     pub first: u64,

@@ -9,7 +9,7 @@ use sums::BIAS;
 
 // Where the first section starts (6, or 8 where there is a section of rows), and how many items each section has. The offsets follow: objects at word
 // start, variables at start + objects, statements at start + objects + 8 * variables, rows after 7 * statements more.
-#[derive(Drop)]
+#[derive(Clone, Copy)]
 pub struct Sections {
     pub start: usize,
     pub objects: usize,
@@ -19,14 +19,14 @@ pub struct Sections {
 }
 
 // The kinds of variables: 0 integer, 1 array_ptr, 2 nt_array_ptr.
-#[derive(Drop)]
+#[derive(Clone, Copy)]
 pub enum Kind {
     Integer,
     Array,
     String,
 }
 
-#[derive(Drop)]
+#[derive(Clone, Copy)]
 pub enum KindRead {
     Read(Kind),
     Unread,
