@@ -1,0 +1,12 @@
+-- `bounds::touched::touches` meets its contract.
+use Rattle.bounds.specs.Touched.{touches}
+use Rattle.bounds.proofs.touched.touches.Goals as goal
+
+pub returns : goal.returns
+unfolding touches
+returns c = simp (
+  c.is_pointer.ensures,
+  c.replaced_by.ensures,
+  c.may_be_named.ensures,
+  c.changed_by.ensures,
+)

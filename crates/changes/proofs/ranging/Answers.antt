@@ -1,0 +1,5 @@
+-- `changes::ranging` meets its contract.
+use Rattle.changes.proofs.ranging.Goals as goal
+
+pub returns : goal.returns
+returns c = rw c.no_fact-none.ensures

@@ -1,0 +1,11 @@
+-- `checks::step_unless` meets its contract.
+use Rattle.checks.proofs.step_unless.Goals as goal
+
+pub returns-then-first : goal.returns-then-first
+returns-then-first c = rw c.if-first.true
+
+pub returns-then-second : goal.returns-then-second
+returns-then-second c = rw (c.if-first.false, c.if-second.true)
+
+pub returns : goal.returns
+returns c = rw (c.if-first.false, c.if-second.false)

@@ -1,0 +1,11 @@
+-- `declared::access_shown` meets its contract.
+use Rattle.declared.specs.ShownLaws.{nothing-needed, pointer-needed}
+use Rattle.declared.proofs.access_shown.Goals as goal
+
+pub returns-in_default : goal.returns-in_default
+returns-in_default c = nothing-needed _ _ _ _ c.access_of-access.ensures c.in_default.is
+
+pub returns : goal.returns
+returns c = pointer-needed _ _ _ _ c.access_of-access.ensures
+    c.in-Through.is c.bounds_at.ensures c.bounds_at-2.ensures
+    c.bounds_shown.ensures

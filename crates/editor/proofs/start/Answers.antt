@@ -1,0 +1,9 @@
+use mathlib.Core.Path.{sym, ◌∙◌}
+use Rattle.editor.specs.CallLaws.{start-form}
+use Rattle.editor.proofs.start.Goals as goal
+
+pub start_walk-requires : goal.start_walk-requires
+start_walk-requires c = sym c.read_form-form.ensures ∙ c.in-WellFormed.is
+
+pub returns-in-Refused : goal.returns-in-Refused
+returns-in-Refused c = start-form _ _ _ c.read_form-form.ensures c.in-Refused.is c.refuse.ensures

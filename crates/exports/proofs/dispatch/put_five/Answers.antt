@@ -1,0 +1,13 @@
+-- `exports::dispatch::put_five` meets its contract.
+use native.Mathlib.Omega.{arith}
+use lib.ListN.{length-set}
+use Rattle.exports.proofs.dispatch.put_five.Goals as goal
+
+pub bounds-answer-1 : goal.bounds-answer-1
+bounds-answer-1 c = simp length-set (omega arith)
+
+pub bounds-answer-2 : goal.bounds-answer-2
+bounds-answer-2 c = simp length-set (omega arith)
+
+pub bounds-answer-3 : goal.bounds-answer-3
+bounds-answer-3 c = simp length-set (omega arith)

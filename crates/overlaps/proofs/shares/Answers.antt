@@ -1,0 +1,5 @@
+-- `overlaps::shares` meets its contract.
+use Rattle.overlaps.proofs.shares.Goals as goal
+
+pub returns : goal.returns
+returns c = rw (c.most-from.ensures, c.least-to.ensures, c.value_at-other.ensures.value, c.value_at.ensures.value)

@@ -1,0 +1,10 @@
+use Prim.Native.Nat.{◌-◌}
+use Rattle.arrays.specs.TabulateLaws.{Filled}
+use Rattle.words.specs.Sections.{string_at}
+use Rattle.rules.proofs.declarations.read_strings.Given as goal
+
+abbrev pub invariant-loop-v : goal.invariant-loop-v
+invariant-loop-v l = Filled l.strings l.initial.strings 17 (string_at l.table l.sections) l.v
+
+abbrev pub decreases-loop-v : goal.decreases-loop-v
+decreases-loop-v l = 17 - l.v

@@ -1,0 +1,10 @@
+use Prim.Native.Nat.{◌-◌, ◌≤◌}
+use Rattle.seats.specs.Seats.{ReadyTo}
+use Rattle.seats.proofs.seat_all.Given as goal
+
+abbrev pub invariant-loop-r : goal.invariant-loop-r
+invariant-loop-r l = ReadyTo (record { l.tables = l.tables; l.listed = l.listed; l.directories = l.directories; l.cells = l.cells; l.values = l.values; l.origins = l.origins; l.lengths = l.lengths }) l.r
+    l.seats l.ends l.successors × (l.r ≤ l.count)
+
+abbrev pub decreases-loop-r : goal.decreases-loop-r
+decreases-loop-r l = l.count - l.r

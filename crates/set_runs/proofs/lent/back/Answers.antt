@@ -1,0 +1,13 @@
+-- `set_runs::lent::back` meets its contract.
+use native.Mathlib.Omega.{arith}
+use borrow.Author.Tests.{eq-eqb, ne_eqb}
+use Rattle.set_runs.proofs.lent.back.Goals as goal
+
+pub returns-then-n-eq0 : goal.returns-then-n-eq0
+returns-then-n-eq0 c = rw (eq-eqb _ 0 c.if-n-eq0.true) (omega arith)
+
+pub returns-then-objects-start : goal.returns-then-objects-start
+returns-then-objects-start c = rw (ne_eqb _ 0 c.if-n-eq0.false) (omega (arith, c.if-objects-start.true))
+
+pub returns : goal.returns
+returns c = rw (ne_eqb _ 0 c.if-n-eq0.false) (omega arith)

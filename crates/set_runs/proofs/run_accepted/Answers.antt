@@ -1,0 +1,46 @@
+-- `set_runs::run_accepted` meets its contract: the entry refuses, or the level of the last routine is the run.
+use mathlib.Core.Path.{refl, sym, ◌∙◌}
+use native.Mathlib.Omega.{arith}
+use Rattle.interpreter.specs.ClaimLaws.{entered-none}
+use Rattle.set_runs.specs.PrepareLaws.{some-lengths}
+use Rattle.set_runs.specs.RunLaws.{level-asks, run-claim, entry-refuses, last-number}
+use Rattle.set_runs.proofs.run_accepted.Goals as goal
+
+pub overflow_sub-last : goal.overflow_sub-last
+overflow_sub-last c = omega (arith, some-lengths _ _ c.requires.0)
+
+pub run_routine-level-requires : goal.run_routine-level-requires
+run_routine-level-requires c = level-asks _ _ _ _ _ _ c.requires.0
+    (entered-none _ (sym c.enter_last-entry.ensures
+    ∙ c.in-Begun.is))
+    (λ x. omega (
+      arith,
+      c.slice_known-2-1.given x,
+    ))
+    (λ i. omega (
+      arith,
+      c.slice_known-1.given i,
+    )) refl c.requires.2
+    c.lay_flows.ensures
+
+pub returns-in-Refused : goal.returns-in-Refused
+returns-in-Refused c = entry-refuses _ _ _ _ (last-number _ _) c.enter_last-entry.ensures c.in-Refused.is
+
+pub returns-in-Begun : goal.returns-in-Begun
+returns-in-Begun c = rw
+    c.outcome_of.ensures
+    (run-claim _ _ _ _ _ _ c.requires.0
+    (entered-none _ (sym
+    c.enter_last-entry.ensures
+    ∙ c.in-Begun.is))
+    (λ x. omega (
+      arith,
+      c.slice_known-2-1.given x,
+    ))
+    (λ i. omega (
+      arith,
+      c.slice_known-1.given i,
+    )) _
+    c.lay_flows.new.1.1.1.0
+    c.run_routine-level.result refl
+    c.run_routine-level.ensures)

@@ -1,0 +1,42 @@
+-- `steps::simple::store` meets its contract.
+use native.Mathlib.Omega.{arith}
+use Rattle.steps.specs.AdvanceLaws.{goes_on, assigns-stop, assigns-call, assigns-go}
+use Rattle.steps.proofs.simple.store.Goals as goal
+
+pub address_of-address-requires : goal.address_of-address-requires
+address_of-address-requires c = (c.requires.accessible.pointer, c.requires.accessible.ends, c.requires.accessible.sizes _, c.requires.accessible.constant, c.requires.accessible.index, c.requires.accessible.slots)
+
+pub check_store-said-requires-clause-pointer_bound : goal.check_store-said-requires-clause-pointer_bound
+check_store-said-requires-clause-pointer_bound c = (c.requires.accessible.pointer, c.requires.accessible.ends, c.requires.accessible.small, c.requires.accessible.sizes, c.requires.accessible.named, c.requires.accessible.slots)
+
+pub check_store-said-requires-clause-stored_value : goal.check_store-said-requires-clause-stored_value
+check_store-said-requires-clause-stored_value c = λ e. rw (c.address_of-address.ensures.value, c.slot-number.ensures.value) (c.requires.source_value e)
+
+pub overflow_sub-place : goal.overflow_sub-place
+overflow_sub-place c = let r = c.requires.accessible.inside
+    (goes_on _ _ _ _ _ (rw (c.slot-number.ensures.value, c.address_of-address.ensures.value) at
+    c.check_store-said.ensures) c.in-Go.is) in omega
+    (arith, r.0, r.1, c.address_of-address.ensures.value)
+
+pub bounds-values-source : goal.bounds-values-source
+bounds-values-source c = c.requires.accessible.value
+
+pub bounds-cells-place : goal.bounds-cells-place
+bounds-cells-place c = let r = c.requires.accessible.inside (goes_on _ _ _ _ _ (rw (
+  c.slot-number.ensures.value,
+  c.address_of-address.ensures.value,
+) at c.check_store-said.ensures) c.in-Go.is) in omega
+    (arith, r.0, r.1, c.address_of-address.ensures.value)
+
+pub returns-in-Go : goal.returns-in-Go
+returns-in-Go c = rw c.address_of-address.ensures.value
+    (assigns-go (rw (c.slot-number.ensures.value, c.address_of-address.ensures.value) at
+    c.check_store-said.ensures) c.in-Go.is)
+
+pub returns-in-Stop : goal.returns-in-Stop
+returns-in-Stop c = assigns-stop (rw (c.slot-number.ensures.value, c.address_of-address.ensures.value) at
+    c.check_store-said.ensures) c.in-Stop.is
+
+pub returns-in-Call : goal.returns-in-Call
+returns-in-Call c = assigns-call (rw (c.slot-number.ensures.value, c.address_of-address.ensures.value) at
+    c.check_store-said.ensures) c.in-Call.is

@@ -1,0 +1,21 @@
+use native.Mathlib.Omega.{arith}
+use Rattle.words.specs.SectionsLaws.{object-limits}
+use Rattle.table.specs.Variables.{object_at}
+use Rattle.table.proofs.variables.read_object.Goals as goal
+
+pub overflow_add-sections : goal.overflow_add-sections
+unfolding object_at
+overflow_add-sections c = let l = object-limits _ _ (simp c.in_limits.ensures at c.if-in_limits-o.true) in omega arith
+
+pub returns-then-in_limits-o : goal.returns-then-in_limits-o
+unfolding object_at
+returns-then-in_limits-o c = simp (
+  c.object_cells.ensures,
+  c.word.ensures,
+  simp c.in_limits.ensures at
+      c.if-in_limits-o.true,
+)
+
+pub returns : goal.returns
+unfolding object_at
+returns c = simp (simp c.in_limits.ensures at c.if-in_limits-o.false)
