@@ -5,21 +5,23 @@ use Rattle.words.specs.Sections.{kind_at, Limits}
 use Rattle.words.specs.SectionsLaws.{variable-limits}
 use Rattle.words.proofs.sections.kind_at.Goals as goal
 
--- Past the test the sections are in their limits, and there is such a variable.
-sized : (c : tie.Then1) → Limits c.before.before.args.sections × (c.before.before.args.v < c.before.before.args.sections.variables)
-sized c = variable-limits _ _ (sym c.before.is-variable.ensures ∙ c.if1.true)
-
 pub overflow_add-sections : goal.overflow_add-sections
 unfolding kind_at
-overflow_add-sections c = let l = sized (goal.at.overflow_add-sections c).Then-is_variable in omega arith
+overflow_add-sections c =
+    -- past the test the sections are in their limits, and there is such a variable
+    let l = variable-limits _ _ (sym c.is_variable.ensures ∙ c.if-is_variable.true) in omega arith
 
 pub overflow_mul-v : goal.overflow_mul-v
 unfolding kind_at
-overflow_mul-v c = let l = sized (goal.at.overflow_mul-v c).Then-is_variable in omega arith
+overflow_mul-v c =
+    -- past the test the sections are in their limits, and there is such a variable
+    let l = variable-limits _ _ (sym c.is_variable.ensures ∙ c.if-is_variable.true) in omega arith
 
 pub overflow_add-sections-then-is_variable : goal.overflow_add-sections-then-is_variable
 unfolding kind_at
-overflow_add-sections-then-is_variable c = let l = sized (goal.at.overflow_add-sections-then-is_variable c).Then-is_variable in omega arith
+overflow_add-sections-then-is_variable c =
+    -- past the test the sections are in their limits, and there is such a variable
+    let l = variable-limits _ _ (sym c.is_variable.ensures ∙ c.if-is_variable.true) in omega arith
 
 pub returns-then-is_variable : goal.returns-then-is_variable
 unfolding kind_at
