@@ -4,7 +4,6 @@
 use Prim.Native.Nat.{ℕ, ◌+◌, ◌-◌, ◌*◌, ◌<◌}
 use mathlib.Core.Path.{◌≡◌, refl, ap, ap₂, ◌∙◌}
 use mathlib.Core.List.{List}
-use mathlib.Core.Logic.{⊎_elim}
 use borrow.Author.Count.{falls}
 use borrow.Author.Rules.{rules, scaled_Fits}
 use mir.Syntax.{w64}
@@ -20,20 +19,21 @@ use Rattle.facts.specs.StoreLoops.{long-anew, anew-none, anew-nowhere, lowering-
 use Rattle.facts.specs.Grid.{set_with, loading-none, loading-more, loading-set, loading-long, rerouting-none, rerouting-more, rerouting-done}
 use Rattle.facts.specs.Grid.{grid-falls, grid-stays, grid-known, grid-closed, grid-lowered, stored}
 use Rattle.facts.proofs.FactSet.after.Goals as goal
+use Rattle.facts.proofs.FactSet.after.Goals.{After-facts-1, else-start-sums, else-target-lt16, else-x-lt17, then-start-sums, then-target-lt16+else-base-lt17, then-target-lt16+then-base-lt17+else-loop-i-then-base-lt17-test, then-x-lt17+else-y-lt17, then-x-lt17+then-y-lt17+else-not-mark, then-x-lt17+then-y-lt17+then-not-mark+else-k-sums, then-x-lt17+then-y-lt17+then-not-mark+then-k-sums+else-concat-lt-BIAS+else-loop-i-else-concat-lt-BIAS-test, then-x-lt17+then-y-lt17+then-not-mark+then-k-sums+then-concat-lt-BIAS}
 
 -- The set before the facts are added.
-remade : (c : tie.Joined1 invariant-loop decreases-loop invariant-loop2 decreases-loop2 invariant-loop4 decreases-loop4 invariant-loop3 decreases-loop3 invariant-loop5 decreases-loop5)
-    → let from = c.before.before.before.args in
-    set_with c.if1.sums from.t1.contradiction ≡ anew from.t1 from.change.target from.change.base from.change.up from.change.down
+remade : (c : After-facts-1) → let was = c.args.self in let to = c.args.change in
+    set_with c.if-target-lt16.sums was.contradiction ≡ anew was to.target to.base to.up to.down
 remade c =
-    let from = c.before.before.before.args in
-    let at = c.before.before.loop in
-    let mark = from.t1.contradiction in
-    let same : set_with at.sums mark ≡ from.t1 = loading-set _ _ at.sums at.invariant c.before.loop-test.false (search (length-under, rules)) in
-    ⊎_elim (λ w. rerouting-done _ _ _ _ _ _ w.4.inv from.change.up w.5.left w.0.taken w.1.taken w.3.ensures w.6)
-    (⊎_elim (λ w. anew-nowhere _ _ _ _ _ w.0.taken w.1.left (ap (λ (t : List (List ℕ)). set_with t mark) w.2))
-    (λ w. anew-none _ _ _ _ _ w.0.left (ap (λ (t : List (List ℕ)). set_with t mark) w.1))) c.if1.branch
-    ∙ ap (λ (f : FactSet). anew f from.change.target from.change.base from.change.up from.change.down) same
+    let was = c.args.self in
+    let to = c.args.change in
+    let same : set_with c.loop-i.sums was.contradiction ≡ was = loading-set _ _ c.loop-i.sums c.loop-i.invariant c.loop-i-test.false (search (length-under, rules)) in
+    (elim c.if-target-lt16.branch [
+      | then-target-lt16+then-base-lt17+else-loop-i-then-base-lt17-test w ↦ rerouting-done _ _ _ _ _ _ w.loop-i-then-base-lt17.invariant to.up w.loop-i-then-base-lt17-test.false w.if-target-lt16.true w.if-base-lt17.true w.own_sums-own.ensures w.sums-is
+      | then-target-lt16+else-base-lt17 w ↦ anew-nowhere _ _ _ _ _ w.if-target-lt16.true w.if-base-lt17.false (ap (λ (t : List (List ℕ)). set_with t was.contradiction) w.sums-is)
+      | else-target-lt16 w ↦ anew-none _ _ _ _ _ w.if-target-lt16.false (ap (λ (t : List (List ℕ)). set_with t was.contradiction) w.sums-is)
+    ])
+    ∙ ap (λ (f : FactSet). anew f to.target to.base to.up to.down) same
 
 -- An index of a row, of a sum and of a fact, times an element's size, and one more than an index.
 row_fits : {i : ℕ} → i < 17 → Fits w64 (i * 136)
@@ -126,7 +126,7 @@ pub bounds-sums-target-then-base-lt17 : goal.bounds-sums-target-then-base-lt17
 bounds-sums-target-then-base-lt17 c = a-row c.if-target-lt16.true
 
 pub loop-n-init : goal.loop-n-init
-loop-n-init c = told_none (ap (λ (f : FactSet). length f.rows) (remade (goal.at.loop-n-init c).Joined-target-lt16) ∙ long-anew _ _ _ _ _ (search (length-under, rules)))
+loop-n-init c = told_none (ap (λ (f : FactSet). length f.rows) (remade c) ∙ long-anew _ _ _ _ _ (search (length-under, rules)))
 
 pub offset_bounds-facts-n : goal.offset_bounds-facts-n
 offset_bounds-facts-n c = fact-fits c.loop-n-test.true
@@ -213,9 +213,10 @@ pub loop-i-else-concat-lt-BIAS-smaller : goal.loop-i-else-concat-lt-BIAS-smaller
 loop-i-else-concat-lt-BIAS-smaller c = falls 17 _ c.loop-i-else-concat-lt-BIAS-test.true
 
 pub loop-i-else-concat-lt-BIAS-preserved : goal.loop-i-else-concat-lt-BIAS-preserved
-loop-i-else-concat-lt-BIAS-preserved c = ⊎_elim (λ w. grid-falls _ _ _ _ _ c.loop-i-else-concat-lt-BIAS.sums _ c.loop-i-else-concat-lt-BIAS.invariant c.loop-i-else-concat-lt-BIAS-test.true c.concat-start.ensures w.0.true w.2.ensures w.3)
-    (λ w. grid-stays _ _ _ _ _ c.loop-i-else-concat-lt-BIAS.sums _ c.loop-i-else-concat-lt-BIAS.invariant c.loop-i-else-concat-lt-BIAS-test.true c.concat-start.ensures w.0.false w.1)
-    c.if-start-sums.branch
+loop-i-else-concat-lt-BIAS-preserved c = elim c.if-start-sums.branch [
+  | then-start-sums w ↦ grid-falls _ _ _ _ _ c.loop-i-else-concat-lt-BIAS.sums _ c.loop-i-else-concat-lt-BIAS.invariant c.loop-i-else-concat-lt-BIAS-test.true c.concat-start.ensures w.if-start-sums.true w.lowered_sums.ensures w.sums-is
+  | else-start-sums w ↦ grid-stays _ _ _ _ _ c.loop-i-else-concat-lt-BIAS.sums _ c.loop-i-else-concat-lt-BIAS.invariant c.loop-i-else-concat-lt-BIAS-test.true c.concat-start.ensures w.if-start-sums.false w.sums-is
+]
 
 pub overflow_step-n : goal.overflow_step-n
 overflow_step-n c = next_fits c.loop-n-test.true (lit< tt)
@@ -225,14 +226,16 @@ loop-n-smaller c = falls 3 _ c.loop-n-test.true
 
 pub loop-n-preserved : goal.loop-n-preserved
 loop-n-preserved c = told_more c.loop-n.invariant c.loop-n-test.true
-    (⊎_elim (λ w. grid-closed c.loop-n.sums c.loop-n.mark _ _ _ w.0.true w.1.true w.2.true w.4.true w.6.ensures w.7.true
-    (ap₂ set_with w.9 w.8))
-    (⊎_elim (λ w. grid-lowered c.loop-n.sums c.loop-n.mark _ _ _ w.0.true w.1.true w.2.true w.4.true w.6.ensures w.7.false w.10.inv
-    w.11.false (ap₂ set_with w.13 w.12))
-    (⊎_elim (λ w. grid-known c.loop-n.sums c.loop-n.mark _ _ _ w.0.true w.1.true w.4.false (ap₂ set_with w.6 w.5))
-    (⊎_elim (λ w. way-marked _ _ _ _ w.0.true w.1.true w.2.false (ap₂ set_with w.4 w.3))
-    (⊎_elim (λ w. way-right _ _ _ _ w.0.true w.1.false (ap₂ set_with w.3 w.2))
-    (λ w. way-left _ _ _ _ w.0.false (ap₂ set_with w.2 w.1)))))) c.if-x-lt17.branch)
+    (elim c.if-x-lt17.branch [
+      | then-x-lt17+then-y-lt17+then-not-mark+then-k-sums+then-concat-lt-BIAS w ↦ grid-closed c.loop-n.sums c.loop-n.mark _ _ _ w.if-x-lt17.true w.if-y-lt17.true w.if-not-mark.true-raw w.if-k-sums.true w.concat-then-k-sums.ensures w.if-concat-lt-BIAS.true
+          (ap₂ set_with w.sums-is w.mark-is)
+      | then-x-lt17+then-y-lt17+then-not-mark+then-k-sums+else-concat-lt-BIAS+else-loop-i-else-concat-lt-BIAS-test w ↦ grid-lowered c.loop-n.sums c.loop-n.mark _ _ _ w.if-x-lt17.true w.if-y-lt17.true w.if-not-mark.true-raw w.if-k-sums.true w.concat-then-k-sums.ensures w.if-concat-lt-BIAS.false w.loop-i-else-concat-lt-BIAS.invariant
+          w.loop-i-else-concat-lt-BIAS-test.false (ap₂ set_with w.sums-is w.mark-is)
+      | then-x-lt17+then-y-lt17+then-not-mark+else-k-sums w ↦ grid-known c.loop-n.sums c.loop-n.mark _ _ _ w.if-x-lt17.true w.if-y-lt17.true w.if-k-sums.false (ap₂ set_with w.sums-is w.mark-is)
+      | then-x-lt17+then-y-lt17+else-not-mark w ↦ way-marked _ _ _ _ w.if-x-lt17.true w.if-y-lt17.true w.if-not-mark.false-raw (ap₂ set_with w.sums-is w.mark-is)
+      | then-x-lt17+else-y-lt17 w ↦ way-right _ _ _ _ w.if-x-lt17.true w.if-y-lt17.false (ap₂ set_with w.sums-is w.mark-is)
+      | else-x-lt17 w ↦ way-left _ _ _ _ w.if-x-lt17.false (ap₂ set_with w.sums-is w.mark-is)
+    ])
 
 pub loop-i-2-init : goal.loop-i-2-init
 loop-i-2-init c = (filled_none _ _ _ (search rules), refl)
@@ -259,6 +262,7 @@ pub loop-i-2-preserved : goal.loop-i-2-preserved
 loop-i-2-preserved c = (filled_more c.loop-i-2.invariant.0 c.loop-i-2-test.true c.row_of.ensures, c.loop-i-2.invariant.1)
 
 pub returns : goal.returns
-returns c = changed-steps _ _ (remade (goal.at.returns c).Joined-target-lt16)
+returns c =
+    changed-steps _ _ (remade c.before.before.before.before)
     (stored c.loop-n.sums c.loop-i-2.invariant.0 c.loop-i-2-test.false c.loop-i-2.invariant.1 c.loop-n.invariant.long
     ∙ told-all c.loop-n.invariant c.loop-n-test.false)
