@@ -8,6 +8,7 @@ use Rattle.rules.specs.BoundsRules.{known}
 use Rattle.bounds.specs.StaysLaws.{stored, stored-known}
 use Rattle.declared.specs.ShownLaws.{passed_none, passed-more, passed-missed, passed-all, unasked, asked-shown, asked-missed}
 use Rattle.declared.proofs.check_known.Goals as goal
+use Rattle.declared.proofs.check_known.Goals.{After-own-1}
 
 -- What is read are the pointer's known bounds.
 own-known : (d : tie.After-own invariant-loop decreases-loop) → stored d.before.before.before.args.t3.each d.before.before.loop.p

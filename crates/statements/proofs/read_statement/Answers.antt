@@ -5,14 +5,16 @@ use Rattle.words.specs.Sections.{statement_start, Limits}
 use Rattle.words.specs.SectionsLaws.{statement-limits}
 use Rattle.statements.specs.Statements.{statement_at}
 use Rattle.statements.proofs.read_statement.Goals as goal
+use Rattle.statements.proofs.read_statement.Goals.{Then-in_limits-at}
 
 -- Past the test the sections are in their limits, and there is such a statement.
-sized : (c : tie.Then1)
-    → Limits c.before.before.before.args.sections × (c.before.before.before.args.at < c.before.before.before.args.sections.statements)
-sized c = statement-limits _ _ (simp c.before.before.in-limits.ensures at c.if1.true)
+sized : (c : Then-in_limits-at)
+    → Limits c.args.sections × (c.args.at < c.args.sections.statements)
+sized c = statement-limits _ _ (simp c.in_limits.ensures at c.if-in_limits-at.true)
 
 -- So its record starts below 65,536.
-start : (c : tie.Then1) → let a = c.before.before.before.args in statement_start a.sections a.at % 65536 ≡ statement_start a.sections a.at
+
+start : (c : Then-in_limits-at) → statement_start c.args.sections c.args.at % 65536 ≡ statement_start c.args.sections c.args.at
 start c = let l = sized c in omega arith
 
 pub overflow_add-start : goal.overflow_add-start

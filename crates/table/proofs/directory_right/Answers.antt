@@ -5,10 +5,11 @@ use Rattle.words.specs.SectionsLaws.{limits}
 use Rattle.words.specs.Sections.{Limits}
 use Rattle.table.specs.Form.{directory_right}
 use Rattle.table.proofs.directory_right.Goals as goal
+use Rattle.table.proofs.directory_right.Goals.{Else-not-in_limits}
 
 -- Past the test the sections are in their limits.
-sized : (c : tie.Else1) → Limits c.before.before.args.sections
-sized c = limits _ (sym c.before.in-limits.ensures ∙ not-false _ c.if1.false)
+sized : (c : Else-not-in_limits) → Limits c.args.sections
+sized c = limits _ (sym c.in_limits.ensures ∙ c.if-not-in_limits.false)
 
 pub returns-then-not-in_limits : goal.returns-then-not-in_limits
 unfolding directory_right

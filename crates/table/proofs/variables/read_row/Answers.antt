@@ -4,11 +4,12 @@ use Rattle.words.specs.Sections.{Limits}
 use Rattle.words.specs.SectionsLaws.{row-limits}
 use Rattle.table.specs.Variables.{row_at}
 use Rattle.table.proofs.variables.read_row.Goals as goal
+use Rattle.table.proofs.variables.read_row.Goals.{Then-in_limits-r}
 
 -- Past the test the sections are in their limits, and there is such a row.
-sized : (c : tie.Then1)
-    → Limits c.before.before.before.args.sections × (c.before.before.before.args.r < c.before.before.before.args.sections.rows)
-sized c = row-limits _ _ (simp c.before.before.in-limits.ensures at c.if1.true)
+sized : (c : Then-in_limits-r)
+    → Limits c.args.sections × (c.args.r < c.args.sections.rows)
+sized c = row-limits _ _ (simp c.in_limits.ensures at c.if-in_limits-r.true)
 
 pub overflow_add-start : goal.overflow_add-start
 unfolding row_at

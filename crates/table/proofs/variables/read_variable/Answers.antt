@@ -4,12 +4,13 @@ use Rattle.words.specs.Sections.{is_variable, Limits}
 use Rattle.words.specs.SectionsLaws.{variable-limits}
 use Rattle.table.specs.Variables.{variable_at}
 use Rattle.table.proofs.variables.read_variable.Goals as goal
+use Rattle.table.proofs.variables.read_variable.Goals.{Then-in_limits-v}
 
 -- Past the test the sections are in their limits, and there is such a variable.
-sized : (c : tie.Then1)
-    → Limits c.before.before.before.args.sections × (c.before.before.before.args.v < c.before.before.before.args.sections.variables)
+sized : (c : Then-in_limits-v)
+    → Limits c.args.sections × (c.args.v < c.args.sections.variables)
 unfolding is_variable
-sized c = variable-limits _ _ (simp c.before.before.in-limits.ensures at c.if1.true)
+sized c = variable-limits _ _ (simp c.in_limits.ensures at c.if-in_limits-v.true)
 
 pub overflow_add-sections : goal.overflow_add-sections
 unfolding variable_at is_variable
