@@ -1,5 +1,5 @@
 // The reader of statements: it holds the table it was lent and the number of the statement due.
-// The borrow checker covers no function over such a struct, so each is short and proved by hand; the work is `statements::read_statement`'s.
+
 // `effects` and `checker` call `read_due`, whose parameters are plain.
 #![tactic(auto)]
 

@@ -13,7 +13,7 @@ returns-in_default c = contents-unread _ _ _ _ _ c.loop-left-test.true (sym c.re
     ∙ ap verdict (sym c.loop-left.invariant)
 
 pub returns-in_default-s : goal.returns-in_default-s
-returns-in_default-s c = contents-other _ _ _ _ _ c.loop-left-test.true _ _ (not_plain _ c.in_default-s.keys2)
+returns-in_default-s c = contents-other _ _ _ _ _ c.loop-left-test.true _ _ c.in_default-s.not-Plain
     (sym c.read_statement-got.ensures ∙ c.in-Read.is) refl
     ∙ ap verdict (sym c.loop-left.invariant)
 

@@ -16,7 +16,7 @@ returns-in_default c = let e = simples-unread _ _ _ _ c.loop-left-test.true
     (sym c.read_statement-got.ensures ∙ c.in_default.is) in omega (arith, c.loop-left.invariant.0, e)
 
 pub returns-in_default-s : goal.returns-in_default-s
-returns-in_default-s c = let e = simples-other _ _ _ _ c.loop-left-test.true _ (not_plain _ c.in_default-s.keys2)
+returns-in_default-s c = let e = simples-other _ _ _ _ c.loop-left-test.true _ c.in_default-s.not-Plain
     (sym c.read_statement-got.ensures ∙ c.in-Read.is) in
     omega (arith, c.loop-left.invariant.0, e)
 
