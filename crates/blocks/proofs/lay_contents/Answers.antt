@@ -5,7 +5,6 @@ use Rattle.statements.specs.declared.StatementRead.TheVariants.{Read}
 use Rattle.statements.specs.StatementLaws.{read-within}
 use Rattle.blocks.specs.Parts.{verdict}
 use Rattle.blocks.specs.LayoutLaws.{laid_out, contents-none, contents-unread, contents-plain, contents-other}
-use Rattle.blocks.proofs.Variants.{not_plain}
 use Rattle.blocks.proofs.lay_contents.Goals as goal
 
 pub returns-in_default : goal.returns-in_default

@@ -9,4 +9,4 @@ pub returns-in-Store : goal.returns-in-Store
 returns-in-Store c = simp c.in-Store.is
 
 pub returns-in_default : goal.returns-in_default
-returns-in_default c = no_access c.args.simple c.in_default.keys3
+returns-in_default c = no_access c.args.simple c.in_default.not-Load c.in_default.not-Store

@@ -6,4 +6,4 @@ pub returns-in-Declare : goal.returns-in-Declare
 returns-in-Declare c = simp c.in-Declare.is
 
 pub returns-in_default : goal.returns-in_default
-returns-in_default c = no_row c.args.simple c.in_default.keys2
+returns-in_default c = no_row c.args.simple c.in_default.not-Declare

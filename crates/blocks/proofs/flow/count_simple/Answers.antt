@@ -5,7 +5,6 @@ use native.Mathlib.Omega.{arith}
 use Rattle.statements.specs.declared.StatementRead.TheVariants.{Read}
 use Rattle.statements.specs.StatementLaws.{read-within}
 use Rattle.blocks.specs.FlowLaws.{simples-none, simples-unread, simples-plain, simples-other}
-use Rattle.blocks.proofs.Variants.{not_plain}
 use Rattle.blocks.proofs.flow.count_simple.Goals as goal
 
 pub loop-left-init : goal.loop-left-init

@@ -13,4 +13,4 @@ pub returns-in-Check : goal.returns-in-Check
 returns-in-Check c = simp (c.in-Check.is, c.ask_condition.ensures)
 
 pub returns-in_default : goal.returns-in_default
-returns-in_default c = c.ask_nothing.ensures ∙ nothing-asked c.args.simple c.in_default.keys3
+returns-in_default c = c.ask_nothing.ensures ∙ nothing-asked c.args.simple c.in_default.not-AddConstant c.in_default.not-Check

@@ -2,19 +2,20 @@
 use borrow.Author.Rules.{rules}
 use Prim.Native.Nat.{◌-◌}
 use mathlib.Core.Bool.{false}
-use mathlib.Core.Logic.{⊎_elim}
 use native.Mathlib.Omega.{arith}
 use Rattle.facts.specs.StoreLaws.{drop-made}
 use Rattle.effects.specs.MarkLaws.{dropped-none, drop-marked, drop-unmarked, drop-done}
 use Rattle.effects.proofs.loops.drop_marked.Goals as goal
+use Rattle.effects.proofs.loops.drop_marked.Goals.{else-marks-v, then-marks-v}
 
 pub loop-v-init : goal.loop-v-init
 loop-v-init c = (dropped-none _ _, search rules)
 
 pub loop-v-preserved : goal.loop-v-preserved
 loop-v-preserved c = (
-  ⊎_elim (λ w. drop-marked _ _ _ c.loop-v.invariant.0 w.0.true (drop-made _ w.2.ensures w.1.ensures) w.3)
-      (λ w. drop-unmarked _ _ _ c.loop-v.invariant.0 w.0.false w.1) c.if-marks-v.branch,
+  elim c.if-marks-v.branch [
+      then-marks-v w ↦ drop-marked _ _ _ c.loop-v.invariant.0 w.if-marks-v.true (drop-made _ w.after-facts.ensures w.ranging.ensures) w.facts-is
+      | else-marks-v w ↦ drop-unmarked _ _ _ c.loop-v.invariant.0 w.if-marks-v.false w.facts-is ],
   search rules,
 )
 

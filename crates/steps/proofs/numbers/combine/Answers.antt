@@ -19,4 +19,4 @@ returns-in-1 c = rw (c.in-1.is, c.wide-in-1.ensures.value, c.wide-in-1-2.ensures
 pub returns-in_default : goal.returns-in_default
 unfolding combined
 returns-in_default c = rw (c.wide-in_default.ensures.value, c.wide-in_default-2.ensures.value)
-    (combined-else _ _ _ c.in_default.rest.0.1 c.in_default.rest.1)
+    (combined-else _ _ _ c.in_default.in_default-own.rest.0.1 c.in_default.in_default-own.rest.1)
