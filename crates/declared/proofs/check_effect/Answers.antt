@@ -3,12 +3,12 @@ use borrow.Author.Rules.{rules}
 use Prim.Native.Nat.{◌-◌}
 use native.Mathlib.Omega.{arith}
 use mathlib.Core.Path.{◌∙◌}
-use mathlib.Core.Logic.{⊎_elim}
 use Rattle.arrays.specs.TabulateLaws.{length-under}
 use Rattle.bounds.specs.TransferLaws.{source-below, effect-known}
 use Rattle.declared.specs.ShownLaws.{passed_none, passed-more, passed-missed, passed-all, asked-shown, asked-missed}
 use Rattle.declared.specs.UntouchedLaws.{unasked-alone}
 use Rattle.declared.proofs.check_effect.Goals as goal
+use Rattle.declared.proofs.check_effect.Goals.{else-environment-p, then-environment-p+else-not-bounds_shown}
 
 pub offset_bounds-environment-from : goal.offset_bounds-environment-from
 offset_bounds-environment-from c = omega (arith, c.source_of-from.ensures, source-below c.args.effect c.requires)
@@ -32,13 +32,15 @@ returns-then-not-bounds_shown c = c.not_shown.ensures ∙ passed-missed c.loop-p
 
 pub loop-p-preserved : goal.loop-p-preserved
 loop-p-preserved c = passed-more c.loop-p.invariant c.loop-p-test.true
-    (⊎_elim (λ w. asked-shown _ _ _ _ (search (length-under, rules))
-    (effect-known _ _ _ c.loop-p-test.true (search (length-under, rules))
-    c.requires c.source_of-from.ensures
-    w.1.ensures)
-    w.2.ensures w.3.false)
-    (λ w. unasked-alone _ _ _ _ c.loop-p-test.true (search (length-under, rules)) c.leaves_alone.ensures
-    w.left) c.if-environment-p.branch)
+    (elim c.if-environment-p.branch [
+      | then-environment-p+else-not-bounds_shown w ↦ asked-shown _ _ _ _ (search (length-under, rules))
+          (effect-known _ _ _ c.loop-p-test.true (search (length-under, rules))
+          c.requires c.source_of-from.ensures
+          w.effect_on-known.ensures)
+          w.bounds_shown.ensures w.if-not-bounds_shown.false-raw
+      | else-environment-p w ↦ unasked-alone _ _ _ _ c.loop-p-test.true (search (length-under, rules)) c.leaves_alone.ensures
+          w.if-environment-p.false
+    ])
 
 pub returns : goal.returns
 returns c = passed-all c.loop-p.invariant _ c.loop-p-test.false

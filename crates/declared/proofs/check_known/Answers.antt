@@ -2,18 +2,18 @@
 use borrow.Author.Rules.{rules}
 use Prim.Native.Nat.{◌-◌}
 use mathlib.Core.Path.{◌≡◌, ◌∙◌}
-use mathlib.Core.Logic.{⊎_elim}
 use Rattle.arrays.specs.TabulateLaws.{length-under}
 use Rattle.rules.specs.BoundsRules.{known}
 use Rattle.bounds.specs.StaysLaws.{stored, stored-known}
 use Rattle.declared.specs.ShownLaws.{passed_none, passed-more, passed-missed, passed-all, unasked, asked-shown, asked-missed}
 use Rattle.declared.proofs.check_known.Goals as goal
+use Rattle.declared.proofs.check_known.Goals.{else-environment-p, then-environment-p+else-not-bounds_shown}
 use Rattle.declared.proofs.check_known.Goals.{After-own-1}
 
 -- What is read are the pointer's known bounds.
-own-known : (d : tie.After-own invariant-loop decreases-loop) → stored d.before.before.before.args.t3.each d.before.before.loop.p
-    ≡ known d.before.before.before.args.t3.each d.before.before.loop.p
-own-known d = stored-known d.before.before.before.args.t3.each d.before.before.loop.p (search (length-under, rules))
+own-known : (d : After-own-1) → stored d.args.known.each d.loop-p.p
+    ≡ known d.args.known.each d.loop-p.p
+own-known d = stored-known d.args.known.each d.loop-p.p (search (length-under, rules))
 
 pub loop-p-init : goal.loop-p-init
 loop-p-init c = passed_none _ _ _
@@ -27,10 +27,11 @@ returns-then-not-bounds_shown c = c.not_shown.ensures ∙ passed-missed c.loop-p
 
 pub loop-p-preserved : goal.loop-p-preserved
 loop-p-preserved c = passed-more c.loop-p.invariant c.loop-p-test.true
-    (⊎_elim (λ w. asked-shown _ _ _ _ (search (length-under, rules)) (own-known (goal.at.loop-p-preserved c).After-own-1)
-    w.1.ensures w.2.false)
-    (λ w. unasked _ _ _ _ (search (length-under, rules)) (own-known (goal.at.loop-p-preserved c).After-own-1) c.same_bounds.ensures w.left)
-    c.if-environment-p.branch)
+    (elim c.if-environment-p.branch [
+      | then-environment-p+else-not-bounds_shown w ↦ asked-shown _ _ _ _ (search (length-under, rules)) (own-known (goal.at.loop-p-preserved c).After-own-1)
+          w.bounds_shown.ensures w.if-not-bounds_shown.false-raw
+      | else-environment-p w ↦ unasked _ _ _ _ (search (length-under, rules)) (own-known (goal.at.loop-p-preserved c).After-own-1) c.same_bounds.ensures w.if-environment-p.false
+    ])
 
 pub returns : goal.returns
 returns c = passed-all c.loop-p.invariant _ c.loop-p-test.false

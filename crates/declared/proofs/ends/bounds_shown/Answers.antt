@@ -3,6 +3,7 @@ use mathlib.Core.Path.{sym, ◌∙◌}
 use mathlib.Core.Logic.{inl, inr, ⊎_elim}
 use Rattle.declared.specs.ShownLaws.{ends-shown, null-shown}
 use Rattle.declared.proofs.ends.bounds_shown.Goals as goal
+use Rattle.declared.proofs.ends.bounds_shown.Goals.{else-known_at_most, then-known_at_most+else-known_at_most-2}
 
 pub returns-then-known_at_most-2 : goal.returns-then-known_at_most-2
 returns-then-known_at_most-2 c = sym (ends-shown _ _ _ _ (sym c.known_at_most.ensures ∙ c.if-known_at_most.true)
@@ -10,5 +11,8 @@ returns-then-known_at_most-2 c = sym (ends-shown _ _ _ _ (sym c.known_at_most.en
 
 pub returns : goal.returns
 returns c = null-shown _ _ _ _
-    (⊎_elim (λ w. inr (sym w.1.ensures ∙ w.2.false)) (λ w. inl (sym c.known_at_most.ensures ∙ w.left)) c.if-known_at_most.branch)
+    (elim c.if-known_at_most.branch [
+      | then-known_at_most+else-known_at_most-2 w ↦ inr (sym w.known_at_most-then-known_at_most.ensures ∙ w.if-known_at_most-2.false)
+      | else-known_at_most w ↦ inl (sym c.known_at_most.ensures ∙ w.if-known_at_most.false)
+    ])
     c.shows.ensures
