@@ -1,16 +1,15 @@
 -- The invariant: what is left of the bundle, from the facts, rows and bounds now, is the whole.
 use mathlib.Core.Path.{refl, ap, sym, ◌∙◌}
-use mathlib.Core.Logic.{⊎_elim}
 use borrow.Author.Tests.{not-false}
 use native.Mathlib.Omega.{arith}
 use Rattle.statements.specs.declared.StatementRead.TheVariants.{Read}
 use Rattle.statements.specs.StatementLaws.{read-within, read-limits}
 use Rattle.effects.specs.FactRulesLaws.{carried-out, read-ranged}
 use Rattle.bundles.specs.BundleLaws.{held_none, held-done, held-unread, held-other, held-access, held_more, access-asked, nothing-asked-of, applied-facts, applied-effect, applied-short, held-missed, held-row, measured-by, row-limits}
-use Rattle.blocks.proofs.Variants.{not_plain}
 use Rattle.reports.specs.declared.Report.{Report}
 use Rattle.rules.specs.Verdict.{environment_of}
 use Rattle.bundles.proofs.walk_bundle.Goals as goal
+use Rattle.bundles.proofs.walk_bundle.Goals.{else-is_access, else-loop-left-test, then-is_access+else-not-access_shown, then-loop-left-test+in-Read+in_default-statement, then-loop-left-test+in_default}
 
 pub loop-left-init : goal.loop-left-init
 loop-left-init c = held_none _ _ _ _ _ _ _ _ c.requires.3.seen refl
@@ -128,11 +127,11 @@ loop-left-preserved c = held_more c.loop-left.invariant
     c.in-Plain.is
     (sym c.declares_of-declares.ensures
     ∙ c.in-NoRow.is)
-    (⊎_elim (λ w. access-asked _ _ _ _ _ _ w.1.ensures (not-false _ w.2.false) w.3.ensures
-    (ap (λ (r : Report). r.words) w.5 ∙ w.4.ensures))
-    (λ w. nothing-asked-of _ _ _ _ _ _ c.is_access.ensures w.0.false
-    (ap (λ (r : Report). r.words) w.1))
-    c.if-is_access.branch)
+    (elim c.if-is_access.branch [
+      then-is_access+else-not-access_shown w ↦ access-asked _ _ _ _ _ _ w.access_shown.ensures (not-false _ w.if-not-access_shown.false-raw) w.access_safe-safe.ensures
+    (ap (λ (r : Report). r.words) w.report-is ∙ w.mark_if-report.ensures)
+      | else-is_access w ↦ nothing-asked-of _ _ _ _ _ _ c.is_access.ensures w.if-is_access.false
+    (ap (λ (r : Report). r.words) w.report-is) ])
     (applied-facts (environment_of
     c.args.table.now
     c.args.sections) _ _
@@ -147,7 +146,7 @@ loop-left-preserved c = held_more c.loop-left.invariant
     c.plan_statement-plan.ensures c.after-facts.ensures))) c.bounds_after-known-in-NoRow.ensures
 
 pub returns : goal.returns
-returns c = ⊎_elim (λ w. held-done c.loop-left.invariant w.left c.end_bundle.ensures)
-    (⊎_elim (λ w. held-unread c.loop-left.invariant w.0.true (sym w.1.ensures ∙ w.3.given.1) c.end_bundle.ensures)
-    (λ w. held-other c.loop-left.invariant w.0.true (sym w.1.ensures ∙ w.3.given.1) (not_plain _ w.5.keys2) c.end_bundle.ensures))
-    c.loop-left-test.branch
+returns c = elim c.loop-left-test.branch [
+      else-loop-left-test w ↦ held-done c.loop-left.invariant w.loop-left-test.false c.end_bundle.ensures
+      | then-loop-left-test+in_default w ↦ held-unread c.loop-left.invariant w.loop-left-test.true (sym w.read_due-got.ensures ∙ w.in_default.is) c.end_bundle.ensures
+      | then-loop-left-test+in-Read+in_default-statement w ↦ held-other c.loop-left.invariant w.loop-left-test.true (sym w.read_due-got.ensures ∙ w.in-Read.is) w.in_default-statement.not-Plain c.end_bundle.ensures ]
