@@ -13,7 +13,7 @@ loop-i-init c = (over-start _ _ _, search rules, search rules)
 pub loop-i-preserved : goal.loop-i-preserved
 loop-i-preserved c = let z : c.loop-i.i ≡ c.args.first + (c.loop-i.i - c.args.first) = search rules in (
   over-at c.loop-i.invariant.0 c.loop-i.invariant.1 (search rules)
-      (to_z-of_z {w = w32} {z = c.edited_word.result} (record { sfits = c.edited_word.type-inv })
+      (to_z-of_z {w = w32} {z = c.edited_word.result} (record { sfits = c.edited_word.type_inv })
       ∙ (c.edited_word.ensures ∙ ap (edited_word c.args.table.now c.args.sections c.args.at c.args.removed c.args.added c.args.text.now) z)),
   search rules,
   search

@@ -16,7 +16,7 @@ bounds-words-first c = omega (arith, c.loop-i.invariant.0.long, c.requires)
 pub loop-i-preserved : goal.loop-i-preserved
 loop-i-preserved c = (
   over-more c.loop-i.invariant.0 (omega (arith, c.requires))
-      (to_z-of_z {w = w32} {z = c.signed_word.result} (record { sfits = c.signed_word.type-inv }) ∙ c.signed_word.ensures),
+      (to_z-of_z {w = w32} {z = c.signed_word.result} (record { sfits = c.signed_word.type_inv }) ∙ c.signed_word.ensures),
   search rules,
 )
 

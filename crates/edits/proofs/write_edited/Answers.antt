@@ -28,9 +28,9 @@ pub returns : goal.returns
 returns c = rewritten _ _ _ _ _ c.requires.0 c.requires.2
     (moved-and-put _ _ _ _ _ c.requires.0 refl refl refl refl c.move_behind.ensures c.put_text.ensures)
     (to_z-of_z {w = w32} {z = c.edited_word-five.result} (record {
-      sfits = c.edited_word-five.type-inv;
+      sfits = c.edited_word-five.type_inv;
     })
     ∙ c.edited_word-five.ensures)
     (to_z-of_z {w = w32} {z = c.edited_word-six.result}
-    (record { sfits = c.edited_word-six.type-inv })
+    (record { sfits = c.edited_word-six.type_inv })
     ∙ c.edited_word-six.ensures)

@@ -22,7 +22,7 @@ bounds-table-i c = omega (arith, c.loop-i.invariant.0.long, c.loop-i.invariant.2
 pub loop-i-preserved : goal.loop-i-preserved
 loop-i-preserved c = (
   filled_more c.loop-i.invariant.0 (omega (arith, c.loop-i.invariant.2, c.loop-i-test.true))
-      (to_z-of_z {w = w32} {z = c.word_at.result} (record { sfits = c.word_at.type-inv }) ∙ c.word_at.ensures),
+      (to_z-of_z {w = w32} {z = c.word_at.result} (record { sfits = c.word_at.type_inv }) ∙ c.word_at.ensures),
   search rules,
   c.loop-i.invariant.2,
 )

@@ -50,7 +50,7 @@ loop-i-preserved c = let p = puts-made _ _ c.requires.0 c.requires.1
     c.requires.2 in
     copied_more c.loop-i.invariant
     (omega (arith, c.loop-i-test.true, full-long p, full-within p, c.requires.3))
-    (to_z-of_z {w = w32} {z = c.member_word.result} (record { sfits = c.member_word.type-inv }) ∙ c.member_word.ensures)
+    (to_z-of_z {w = w32} {z = c.member_word.result} (record { sfits = c.member_word.type_inv }) ∙ c.member_word.ensures)
 
 pub shape_of-member : goal.shape_of-member
 shape_of-member c = c.loop-i.invariant.long
