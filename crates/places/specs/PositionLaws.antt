@@ -1,6 +1,6 @@
 -- The positions of the places that a store holds, that an edit leaves, and that a walk keeps.
 use Rattle.std.specs.Prelude.{ℕ, zero, suc, ◌+◌, ◌-◌, ◌<◌, ◌≤◌, ◌≡◌, Bool, ◌&&◌, ◌||◌, get_or, take, eqb, leb}
-use Rattle.std.proofs.Math.Path.{refl, sym, ap}
+use Rattle.std.proofs.Math.Path.{refl, sym, ap, subst}
 use Rattle.std.proofs.Common.{◌∙◌, ap₂, arith, add-one, eq-eqb, ne_eqb, ltb-true, ltb-false, le-ltb, le-leb}
 use Rattle.std.proofs.Math.Bool.{true, false, cond}
 use mathlib.Core.List.{List, [], ◌∷◌, ◌++◌, map, map-append}
@@ -124,7 +124,8 @@ module _ (K : List ℕ) (n : ℕ) where
   step {v} [] G a b c A P Q w f g p i e q =
       q e ∙ ap (stored K n v A) (at-positions (comes_to v a) P a w (comes G a b c g p e))
   step {v} (r ∷ F) G a b c A P Q w f g p i e q =
-      rw e (at-positions (leb a (place r)) P a w (le-leb a (place r) f.0.0)
+      let Left : Verdict → Type 0 = λ u. positions_in (kept_at K n P a w) ≡ stored K n u (a ∷ A) (positions_in P) in
+      subst Left (sym e) (at-positions (leb a (place r)) P a w (le-leb a (place r) f.0.0)
       ∙ sym (stored_past r A _ (λ x y. omega (arith, f.0.1, i x y))))
 
   module _ (E : Environment) where

@@ -4,40 +4,10 @@ use Rattle.interpreter.specs.ClaimLaws.{first-refused, run-judged, started-refus
 use Rattle.interpreter.proofs.run.Goals as goal
 
 pub resume-requires-clause-laid : goal.resume-requires-clause-laid
-resume-requires-clause-laid c = ((
-  (launched-ready (started-launched _ _ _ _ _ c.in-Begun.is
-      c.prepare-start.ensures) 0).0,
-  (
-    omega arith,
-    (launched-ready (started-launched _ _ _ _ _
-        c.in-Begun.is
-        c.prepare-start.ensures) _).1,
-  ),
-)).0
-
-pub resume-requires-clause-made_le_limit : goal.resume-requires-clause-made_le_limit
-resume-requires-clause-made_le_limit c = ((
-  (launched-ready (started-launched _ _ _ _ _ c.in-Begun.is
-      c.prepare-start.ensures) 0).0,
-  (
-    omega arith,
-    (launched-ready (started-launched _ _ _ _ _
-        c.in-Begun.is
-        c.prepare-start.ensures) _).1,
-  ),
-)).1
+resume-requires-clause-laid c = (launched-ready (started-launched _ _ _ _ _ c.in-Begun.is c.prepare-start.ensures) 0).0
 
 pub resume-requires-clause-safe_run : goal.resume-requires-clause-safe_run
-resume-requires-clause-safe_run c = ((
-  (launched-ready (started-launched _ _ _ _ _ c.in-Begun.is
-      c.prepare-start.ensures) 0).0,
-  (
-    omega arith,
-    (launched-ready (started-launched _ _ _ _ _
-        c.in-Begun.is
-        c.prepare-start.ensures) _).1,
-  ),
-)).2
+resume-requires-clause-safe_run c = (launched-ready (started-launched _ _ _ _ _ c.in-Begun.is c.prepare-start.ensures) _).1
 
 pub returns-in-Refused : goal.returns-in-Refused
 returns-in-Refused c = run-judged _ _ _ _ _ _ _ _ _ _

@@ -24,12 +24,12 @@ seat_routine-seated-requires c = (
 )
 
 pub shape_of-ends-in-Refused : goal.shape_of-ends-in-Refused
-shape_of-ends-in-Refused c = c.seat_routine-seated.auto.1.1.1.1.1.1.1.0
+shape_of-ends-in-Refused c = c.seat_routine-seated.auto.ends
     ∙ c.loop-r.invariant.0.ends-long
     ∙ sym c.requires.1
 
 pub shape_of-successors-in-Refused : goal.shape_of-successors-in-Refused
-shape_of-successors-in-Refused c = c.seat_routine-seated.auto.1.1.1.1.1.1.1.1.0
+shape_of-successors-in-Refused c = c.seat_routine-seated.auto.successors
     ∙ c.loop-r.invariant.0.flow-long
     ∙ sym c.requires.2
 
@@ -73,8 +73,8 @@ loop-r-preserved c = (
     c.requires.0.few,
   ))
       c.in-Begun.is c.seat_routine-seated.ensures
-      c.seat_routine-seated.auto.1.1.1.1.1.1.1.0
-      c.seat_routine-seated.auto.1.1.1.1.1.1.1.1.0,
+      c.seat_routine-seated.auto.ends
+      c.seat_routine-seated.auto.successors,
   omega (arith, c.loop-r-test.true),
 )
 

@@ -117,8 +117,8 @@ returns-in-Refused c = seat-refused _ _
     c.span_of-origin.ensures.value _ _ _ _
     c.requires.1
     c.requires.2
-    c.prepare-start.auto.1.1.1.1.1.1.0
-    c.prepare-start.auto.1.1.1.1.1.1.1.0 c.in-Refused.is
+    c.prepare-start.auto.ends
+    c.prepare-start.auto.successors c.in-Refused.is
     c.prepare-start.ensures
 
 pub returns-in-Begun : goal.returns-in-Begun
@@ -131,6 +131,6 @@ returns-in-Begun c = seat-begun _ _ c.requires.0
     _ _ _
     c.requires.1
     c.requires.2
-    c.prepare-start.auto.1.1.1.1.1.1.0
-    c.prepare-start.auto.1.1.1.1.1.1.1.0 c.in-Begun.is
+    c.prepare-start.auto.ends
+    c.prepare-start.auto.successors c.in-Begun.is
     c.prepare-start.ensures c.first_outcome-outcome.ensures

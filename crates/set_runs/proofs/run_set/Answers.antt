@@ -91,7 +91,7 @@ run_accepted-requires c = (
         c.if-successors-lt16384.false
         c.check_set-checked.ensures
         c.in-Judged.is,
-    c.check_set-checked.auto.1.1.0,
+    c.check_set-checked.auto.member,
   ),
   sym (taken-all 4096 c.args.ends.now
       c.if-ends-lt4096.false),

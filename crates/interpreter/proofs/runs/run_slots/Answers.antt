@@ -9,8 +9,8 @@ use Rattle.interpreter.proofs.runs.run_slots.Goals as goal
 pub loop-at-init : goal.loop-at-init
 loop-at-init c = (
   refl,
-  c.requires.made_le_limit.0,
-  c.requires.made_le_limit.1,
+  c.requires.made_le_limit,
+  c.requires.safe_run,
   c.requires.prepared,
   refl,
   refl,
@@ -62,7 +62,7 @@ loop-at-preserved c = (
         c.loop-at.invariant.1,
       )) _ _ _ _
       c.advance-said.ensures _ c.in-Go.is c.loop-at.invariant.2,
-  still-prepared _ _ c.advance-said.auto.1.1.0
+  still-prepared _ _ c.advance-said.auto.ends
       ((move-kept _ _ _ _ _ _ _ _ c.advance-said.ensures).small c.loop-at.invariant.3.small)
       (move-sizes _ _ _ _ _ _ _ _
       (safe-ready _ _ _ _ _ _ 0 _ _ _
@@ -75,10 +75,10 @@ loop-at-preserved c = (
         c.loop-at.invariant.1,
       )) c.loop-at.invariant.2) c.advance-said.ensures c.loop-at.invariant.3.sizes)
       ((move-kept _ _ _ _ _ _ _ _ c.advance-said.ensures).named
-      c.loop-at.invariant.3.named) c.advance-said.auto.1.1.1.1.1.1.0 c.loop-at.invariant.3,
-  c.advance-said.auto.1.1.0 ∙ c.loop-at.invariant.4,
-  c.advance-said.auto.1.1.1.1.1.1.0 ∙ c.loop-at.invariant.5,
-  c.advance-said.auto.1.1.1.1.1.1.1.0 ∙ c.loop-at.invariant.6,
+      c.loop-at.invariant.3.named) c.advance-said.auto.values c.loop-at.invariant.3,
+  c.advance-said.auto.ends ∙ c.loop-at.invariant.4,
+  c.advance-said.auto.values ∙ c.loop-at.invariant.5,
+  c.advance-said.auto.cells ∙ c.loop-at.invariant.6,
 )
 
 pub returns-in-Stop : goal.returns-in-Stop

@@ -11,7 +11,7 @@ enter-entry-requires c = λ p. rw c.read_environment-environment.ensures (sizes-
 
 pub mark_reported-requires : goal.mark_reported-requires
 mark_reported-requires c = let l = (well-formed _ _ c.requires.table_value.0).limits.statements in
-    (l, omega (arith, l, c.write_successors.auto.1.1.0, c.requires.ends_len.1))
+    (l, omega (arith, l, c.write_successors.auto.entries, c.requires.ends_len.1))
 
 pub returns-in-Refused : goal.returns-in-Refused
 returns-in-Refused c = entry-refused _ _ _ _ _ _ _ _ c.requires.table_value.0

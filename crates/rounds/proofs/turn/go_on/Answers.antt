@@ -6,12 +6,12 @@ pub resume-requires-clause-laid : goal.resume-requires-clause-laid
 resume-requires-clause-laid c = (may-raw c.requires.may_go_on).0
 
 pub resume-requires-clause-made_le_limit : goal.resume-requires-clause-made_le_limit
-resume-requires-clause-made_le_limit c = (may-raw c.requires.may_go_on).1
+resume-requires-clause-made_le_limit c = (may-raw c.requires.may_go_on).1.0
 
 pub resume-requires-clause-safe_run : goal.resume-requires-clause-safe_run
-resume-requires-clause-safe_run c = (may-raw c.requires.may_go_on).2
+resume-requires-clause-safe_run c = (may-raw c.requires.may_go_on).1.1
 
 pub returns : goal.returns
-returns c = gone-raw c.requires.in_place c.resume.auto.1.1.0
-    c.resume.auto.1.1.1.1.1.1.1.0
+returns c = gone-raw c.requires.in_place c.resume.auto.ends
+    c.resume.auto.values
     c.resume.ensures

@@ -8,13 +8,13 @@ resume-requires-clause-laid c = (may-raw _ _ _ c.part_of-part.ensures.value
 
 pub resume-requires-clause-made_le_limit : goal.resume-requires-clause-made_le_limit
 resume-requires-clause-made_le_limit c = (may-raw _ _ _ c.part_of-part.ensures.value
-    c.requires).1
+    c.requires).1.0
 
 pub resume-requires-clause-safe_run : goal.resume-requires-clause-safe_run
 resume-requires-clause-safe_run c = (may-raw _ _ _ c.part_of-part.ensures.value
-    c.requires).2
+    c.requires).1.1
 
 pub returns : goal.returns
 returns c = ran-raw _ _ _ c.part_of-part.ensures.value
-    c.requires c.resume.auto.1.1.0
+    c.requires c.resume.auto.ends
     c.resume.ensures

@@ -26,7 +26,7 @@ pub loop-n-preserved : goal.loop-n-preserved
 loop-n-preserved c = (
   laid_more _ _ c.requires.0 _ c.loop-n-test.true c.loop-n.invariant.0 c.lay_flow.ensures,
   omega (arith, c.loop-n-test.true),
-  c.lay_flow.auto.1.1.1.0 ∙ c.loop-n.invariant.2,
+  c.lay_flow.auto.member ∙ c.loop-n.invariant.2,
 )
 
 pub shape_of-member : goal.shape_of-member
