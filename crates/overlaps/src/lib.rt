@@ -104,7 +104,7 @@ fn seats_overlap(directories: &[u32], seat: Seat, other: Seat) -> bool
 // The lowest routine before r whose objects overlap those of r, or r.
 fn lowest_earlier(directories: &[u32], seats: [Seat; 8], r: usize) -> usize
     requires { (r < 8) × SeatRight directories.now (seat_at seats r) × SeatsRight directories.now seats r }
-    ensures* { λ e. ⌜ e ≡ lowest (λ e. seats_overlap directories.now (seat_at seats r) (seat_at seats e)) r ⌝ }
+    ensures { result ≡ lowest (λ e. seats_overlap directories.now (seat_at seats r) (seat_at seats e)) r }
 {
     let mut e = 0;
     while e < r {
