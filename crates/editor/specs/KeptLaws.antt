@@ -101,35 +101,35 @@ module _ (T : List ℤ) (h : Sections) where
         let l' = rw y at l in
         let q = all-kept P r' p in
         all-onward (block_faults E [] [] (plain x s nil) w) _ _
-        (λ e. kept-reached o (kept_at K n P x w) (rest-laid (plain x s o) l') (behind-first (plain x s o) l' r' e) q) q
+        (λ e. kept-reached {a = x + size (plain x s nil)} o (kept_at K n P x w) (rest-laid (plain x s o) l') (behind-first (plain x s o) l' r' e) q) q
     kept-reached {a} {w} (call x s o) P l r p =
         let y = sym l.numbered.0 in
         let r' = rw y at r in
         let l' = rw y at l in
         let q = all-kept P r' p in
         all-onward (block_faults E [] [] (call x s nil) w) _ _
-        (λ e. kept-reached o (kept_at K n P x w) (rest-laid (call x s o) l') (behind-first (call x s o) l' r' e) q) q
+        (λ e. kept-reached {a = x + size (call x s nil)} o (kept_at K n P x w) (rest-laid (call x s o) l') (behind-first (call x s o) l' r' e) q) q
     kept-reached {a} {w} (branch x c t u o) P l r p =
         let y = sym l.numbered.0 in
         let r' = rw y at r in
         let l' = rw y at l in
         let q = all-kept P r' p in
         all-onward (block_faults E [] [] (branch x c t u nil) w) _ _
-        (λ e. kept-reached o (kept_at K n P x w) (rest-laid (branch x c t u o) l') (behind-first (branch x c t u o) l' r' e) q) q
+        (λ e. kept-reached {a = x + size (branch x c t u nil)} o (kept_at K n P x w) (rest-laid (branch x c t u o) l') (behind-first (branch x c t u o) l' r' e) q) q
     kept-reached {a} {w} (loop x c t o) P l r p =
         let y = sym l.numbered.0 in
         let r' = rw y at r in
         let l' = rw y at l in
         let q = all-kept P r' p in
         all-onward (block_faults E [] [] (loop x c t nil) w) _ _
-        (λ e. kept-reached o (kept_at K n P x w) (rest-laid (loop x c t o) l') (behind-first (loop x c t o) l' r' e) q) q
+        (λ e. kept-reached {a = x + size (loop x c t nil)} o (kept_at K n P x w) (rest-laid (loop x c t o) l') (behind-first (loop x c t o) l' r' e) q) q
     kept-reached {a} {w} (bundle x ss o) P l r p =
         let y = sym l.numbered.0 in
         let r' = rw y at r in
         let l' = rw y at l in
         let q = all-kept P r' p in
         all-onward (block_faults E [] [] (bundle x ss nil) w) _ _
-        (λ e. kept-reached o (kept_at K n P x w) (rest-laid (bundle x ss o) l') (behind-first (bundle x ss o) l' r' e) q) q
+        (λ e. kept-reached {a = x + size (bundle x ss nil)} o (kept_at K n P x w) (rest-laid (bundle x ss o) l') (behind-first (bundle x ss o) l' r' e) q) q
     kept-reached (unread x) P l r p = absurd l.numbered
 
 -- ---- the walk from the last place

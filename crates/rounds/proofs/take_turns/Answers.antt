@@ -56,9 +56,9 @@ take_turn-outcome-requires-clause-may_turn c = (code-asks c.requires c.loop-take
 pub overflow_sub-made : goal.overflow_sub-made
 overflow_sub-made c = code-grows c.requires
     c.loop-taken.invariant c.take_turn-outcome.result
-    c.take_turn-outcome.new.1.1.1.1.0
-    c.take_turn-outcome.new.1.1.1.0
-    c.take_turn-outcome.new.1.1.0
+    c.take_turn-outcome.new.ends
+    c.take_turn-outcome.new.values
+    c.take_turn-outcome.new.cells
     c.allowance-granted.ensures c.steps_of.ensures
     c.steps_of-in-loop-taken.ensures
     c.take_turn-outcome.ensures
@@ -66,9 +66,9 @@ overflow_sub-made c = code-grows c.requires
 pub overflow_sub-left : goal.overflow_sub-left
 overflow_sub-left c = code-made c.requires
     c.loop-taken.invariant c.take_turn-outcome.result
-    c.take_turn-outcome.new.1.1.1.1.0
-    c.take_turn-outcome.new.1.1.1.0
-    c.take_turn-outcome.new.1.1.0
+    c.take_turn-outcome.new.ends
+    c.take_turn-outcome.new.values
+    c.take_turn-outcome.new.cells
     c.allowance-granted.ensures c.steps_of.ensures
     c.steps_of-in-loop-taken.ensures
     c.take_turn-outcome.ensures
@@ -124,9 +124,9 @@ loop-taken-smaller c = omega (
 pub loop-taken-preserved : goal.loop-taken-preserved
 loop-taken-preserved c = code-turns c.requires
     c.loop-taken.invariant c.take_turn-outcome.result
-    c.take_turn-outcome.new.1.1.1.1.0
-    c.take_turn-outcome.new.1.1.1.0
-    c.take_turn-outcome.new.1.1.0
+    c.take_turn-outcome.new.ends
+    c.take_turn-outcome.new.values
+    c.take_turn-outcome.new.cells
     c.allowance-granted.ensures
     c.steps_of.ensures c.steps_of-in-loop-taken.ensures
     c.take_turn-outcome.ensures c.idle_after-idle.ensures

@@ -41,6 +41,6 @@ returns-in-Begun c = rw
       arith,
       c.slice_known-1.given i,
     )) _
-    c.lay_flows.new.1.1.1.0
+    c.lay_flows.new.successors
     c.run_routine-level.result refl
     c.run_routine-level.ensures)
