@@ -89,7 +89,7 @@ overflow_add-before t c = omega (
 )
 
 pub slice_bounds-run_routine-end : goal.slice_bounds-run_routine-end
-slice_bounds-run_routine-end t c = let p = calling t (goal.at.slice_bounds-run_routine-end t c).In-Calls-2 in omega (arith, p.asks.room, p.ends-long)
+slice_bounds-run_routine-end t c = let p = calling t (goal.at.slice_bounds-run_routine-end t c).In-Calls in omega (arith, p.asks.room, p.ends-long)
 
 pub slice_bounds-run_routine-end-in-Calls : goal.slice_bounds-run_routine-end-in-Calls
 slice_bounds-run_routine-end-in-Calls t c = sym (taken-room _ _ _ _ _ _ _ _ _ _ (calling t (goal.at.slice_bounds-run_routine-end-in-Calls t c).In-Calls))
@@ -161,7 +161,7 @@ give_result-requires t c = code-some _ _ _ _ _ _ _ _ _ _
 
 pub due_after-at-requires : goal.due_after-at-requires
 due_after-at-requires t c = let p = calling t
-    (goal.at.due_after-at-requires t c).In-Calls-2 in (number-few _ _ _ _ _ _ _ _ _ _ p, statement-within _ _ _ _ _ _ _ _ _ _ p, p.asks.callable.flow-long)
+    (goal.at.due_after-at-requires t c).In-Calls in (number-few _ _ _ _ _ _ _ _ _ _ p, statement-within _ _ _ _ _ _ _ _ _ _ p, p.asks.callable.flow-long)
 
 pub loop-level-smaller : goal.loop-level-smaller
 loop-level-smaller t c = let l = code-more _ _ _ _ _ _ _ _ _ _
@@ -174,7 +174,7 @@ loop-level-smaller t c = let l = code-more _ _ _ _ _ _ _ _ _ _
     c.called_values-called.ensures _ _ _
     c.run_routine-level.ensures
     c.in-Returns.is in let p = calling t
-    (goal.at.loop-level-smaller t c).In-Calls-2 in omega (arith, l, p.later, steps-left _ _ _ _ _ _ _ _ _ _ p)
+    (goal.at.loop-level-smaller t c).In-Calls in omega (arith, l, p.later, steps-left _ _ _ _ _ _ _ _ _ _ p)
 
 pub loop-level-preserved : goal.loop-level-preserved
 loop-level-preserved t c = (
