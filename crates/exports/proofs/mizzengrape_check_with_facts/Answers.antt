@@ -24,11 +24,11 @@ pub put_report-count-requires : goal.put_report-count-requires
 put_report-count-requires c = let q : 1024 ≤ length c.args.report.now = c.if-report-lt1024.false in q
 
 pub bounds-answer-3 : goal.bounds-answer-3
-bounds-answer-3 c = let e : length c.put_verdict.new.0
+bounds-answer-3 c = let e : length c.put_verdict.new.answer
     ≡ length c.args.answer.now = ap
     (λ (w : List ℕ). length w)
     c.put_verdict.ensures ∙ verdict-long _ _ in
-    let q : 3 < length c.put_verdict.new.0 = omega
+    let q : 3 < length c.put_verdict.new.answer = omega
     (arith, c.if-answer-lt4.false) in q
 
 pub returns : goal.returns
