@@ -2,6 +2,7 @@
 #
 #   make try                 builds, then shows a verdict with its reason and a run
 #   make                     builds
+#   make library             the proved library alone
 #   make test                every Rust and C test over the built library; `bash .ci/run` proves everything first
 #   make release             target/mizzengrape-VERSION.tar.gz
 #   make install PREFIX=DIR  the same files below DIR (default /usr/local)
@@ -9,21 +10,25 @@
 
 VERSION := $(shell cat VERSION)
 PREFIX ?= /usr/local
-SOURCES := $(shell find crates -name '*.rt' -o -name '*.antt') crates.txt
+SOURCES := $(shell find crates -name out -prune -o \( -name '*.rt' -o -name '*.antt' \) -print) crates.txt
 LIBRARY := target/staticlib/libexports.a
 COMMAND := tool/target/release/mizzengrape
 NAME := mizzengrape-$(VERSION)
 CARGO := cargo
 SEED ?= 1
 
-.PHONY: build try test test-tool install uninstall release clean command
+.PHONY: build library try test test-tool install uninstall release clean command
 .DELETE_ON_ERROR:
 
 build: $(LIBRARY) command
 
 # Proves the library first: minutes the first time.
+library: $(LIBRARY)
+
 $(LIBRARY): $(SOURCES)
-	rt staticlib exports
+	cd crates/exports && rt lib
+	mkdir -p $(@D)
+	cp crates/exports/out/libexports.a $@
 
 command: $(LIBRARY)
 	cd tool && $(CARGO) build --release --offline --quiet

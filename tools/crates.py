@@ -8,11 +8,15 @@ from pathlib import Path
 
 path = Path("crates.txt")
 lines = path.read_text().splitlines()
-uses, kit = {}, {}
-for line in lines:
-    name, colon, rest = line.split("#")[0].partition(":")
-    if colon:
-        uses[name.strip()] = rest.split()
+
+
+def parts(line):
+    """The name on a line, with the word `staticlib` where it has it, and what it lists; None where it names no crate."""
+    head, colon, rest = line.split("#")[0].partition(":")
+    return (head.strip(), rest.split()) if colon else None
+
+
+uses = {head.split()[0]: rest for head, rest in filter(None, map(parts, lines))}
 place = {name: k for k, name in enumerate(uses)}
 
 
@@ -25,13 +29,12 @@ def reached(name, seen):
 
 
 def written(line):
-    name, colon, _ = line.split("#")[0].partition(":")
-    if not colon:
+    if not parts(line):
         return line
-    name = name.strip()
-    below = reached(name, set())
+    head, _ = parts(line)
+    below = reached(head.split()[0], set())
     own = sorted((d for d in below if d in place), key=lambda d: -place[d])
-    return f"{name}: {' '.join(own + sorted(d for d in below if d not in place))}".rstrip()
+    return f"{head}: {' '.join(own + sorted(d for d in below if d not in place))}".rstrip()
 
 
 new = [written(line) for line in lines]
@@ -40,7 +43,7 @@ late = [f"{n} stands before {d}, which it uses" for n in uses for d in uses[n] i
 print("\n".join(late), end="\n" if late else "")
 if "--check" in sys.argv[1:]:
     for line in wrong:
-        print(f"not closed: {line.split(':')[0]}")
+        print(f"not closed: {parts(line)[0]}")
 elif wrong:
     path.write_text("\n".join(new) + "\n")
 sys.exit(1 if late or ("--check" in sys.argv[1:] and wrong) else 0)

@@ -2,8 +2,9 @@
 """What docs/MAP.md names is there. usage: tools/map.py  (run in the repository)
 
 Holds that each `name` behind a CRATE/FILE of a line "definition" is defined in that file; that each law of a line "contract or theorem" is (one that has a
-hyphen in its name, or a CRATE/FILE in brackets behind it: in that file; else in one of the specs), and that each `crate::..::name` there stands in that
-crate's code; that each edit and attack has its file, and that each vector is a case of vectors/. A mention is not enough: a law that is taken away is missing.
+CRATE/FILE in brackets behind it: in that file; one with a hyphen or an underscore in its name: in one of the specs, or it is a function), and that each
+`crate::..::name` there stands in that crate's code; that each edit and attack has its file, and that each vector is a case of vectors/. A mention is not
+enough: a law that is taken away is missing.
 Prints what is missing; the exit status is then 1."""
 import re
 import sys
@@ -25,6 +26,12 @@ def defines(path, name):
     return path.exists() and re.search(line, path.read_text(), re.M)
 
 
+def in_code(name, crates="*"):
+    """Whether the code of these crates has a function, a type or a module of this name."""
+    code = rf"\b(?:fn|struct|enum|mod) {re.escape(name)}\b"
+    return any(re.search(code, path.read_text()) for path in Path("crates").glob(f"{crates}/src/**/*.rt"))
+
+
 def missing_names(item):
     """The names of an item that the file named before them does not define."""
     where = None
@@ -42,13 +49,12 @@ def missing_laws(item):
     for name, crate, file in LAW.findall(item):
         if "::" in name:
             first, *_, last = name.split("::")
-            code = rf"\b(?:fn|struct|enum|mod) {re.escape(last)}\b"
-            if not any(re.search(code, path.read_text()) for path in Path("crates").glob(f"{first if first.islower() else '*'}/src/**/*.rt")):
+            if not in_code(last, first if first.islower() else "*"):
                 yield f"no code has {name}"
         elif crate:
             if not defines(specs(crate, file), name):
                 yield f"{specs(crate, file)} does not prove {name}"
-        elif "-" in name and not any(defines(path, name) for path in Path("crates").glob("*/specs/*.antt")):
+        elif re.search("[-_]", name) and not any(defines(path, name) for path in Path("crates").glob("*/specs/*.antt")) and not in_code(name):
             yield f"no specs prove {name}"
 
 

@@ -1,5 +1,5 @@
-//! Links the proved implementation: the one that the variable MIZZENGRAPE_LIB_DIR names, in the repository the archive that `rt staticlib
-//! exports` writes, else the installed one that pkg-config finds.
+//! Links the proved implementation: the one that the variable MIZZENGRAPE_LIB_DIR names, in the repository the archive that `make library`
+//! writes, else the installed one that pkg-config finds.
 
 use std::path::{Path, PathBuf};
 use std::process::Command;
@@ -10,7 +10,7 @@ fn main() {
     if let Some(folder) = std::env::var_os("MIZZENGRAPE_LIB_DIR") {
         link(Path::new(&folder), "mizzengrape", "no library is where MIZZENGRAPE_LIB_DIR leads");
     } else if repository.join("crates.txt").exists() {
-        let hint = "run `rt staticlib exports` in the repository first";
+        let hint = "run `make library` in the repository first";
         link(&repository.join("target/staticlib"), "exports", hint);
     } else {
         link(&installed(), "mizzengrape", "install the library, or set MIZZENGRAPE_LIB_DIR");
