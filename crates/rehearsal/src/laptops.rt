@@ -4,10 +4,16 @@ ghost use Rattle.std.specs.Prelude.{◌≤◌, length};
 
 use crate::{FIRST_ROW, LIMIT, ROWS, read_routine, show_rows, word_of};
 use dispatcher::Said;
-use libc::STDOUT_FILENO;
+use std::rt::Files;
 
 // Runs both routines for a late boat each; the values are row pointer, count of rows and boat, of the one laptop and of the other.
-fn register_both(tables: &[i32], lengths: &[u32], cells: &mut [u32], values: &mut [u32])
+fn register_both(
+    rt: &(impl Print + Eprint),
+    tables: &[i32],
+    lengths: &[u32],
+    cells: &mut [u32],
+    values: &mut [u32],
+)
     requires { 6 ≤ length values.old }
 {
     let directories = [1, 4, 9, 4, 13, 4, 5, 4, 17, 4, 21, 4];
@@ -40,15 +46,14 @@ fn register_both(tables: &[i32], lengths: &[u32], cells: &mut [u32], values: &mu
             let other_seat = seats[1];
             let outcome = seat.outcome;
             let other_outcome = other_seat.outcome;
-            text::console::show_text(lines::report::entry_line(boat, row, outcome));
-            text::console::show_text(lines::report::entry_line(
-                other_boat,
-                other_row,
-                other_outcome,
-            ));
+            text::console::show_text(rt, lines::report::entry_line(boat, row, outcome));
+            text::console::show_text(
+                rt,
+                lines::report::entry_line(other_boat, other_row, other_outcome),
+            );
         }
         _ => {
-            io::write_all(STDOUT_FILENO, b"the turns are refused\n");
+            let _ = rt.write_all(b"the turns are refused\n");
         }
     }
 }
@@ -60,15 +65,15 @@ struct Words {
     pub other: usize,
 }
 
-fn read_both(tables: &mut [i32]) -> Words {
-    let one = read_routine(b"first_club", tables);
-    let other = read_routine(b"first_club", &mut tables[one..]);
+fn read_both(rt: &(impl Files + Print + Eprint), tables: &mut [i32]) -> Words {
+    let one = read_routine(rt, "first_club", tables);
+    let other = read_routine(rt, "first_club", &mut tables[one..]);
     Words { one, other }
 }
 
-pub(crate) fn both_laptops() {
+pub(crate) fn both_laptops(rt: &(impl Files + Print + Eprint)) {
     let mut tables = [0i32; 15408];
-    let words = read_both(&mut tables);
+    let words = read_both(rt, &mut tables);
     let lengths = [
         word_of(words.one),
         0,
@@ -86,7 +91,7 @@ pub(crate) fn both_laptops() {
     for i in 0..5 {
         values[2] = 101 + i;
         values[5] = 201 + i;
-        register_both(&tables, &lengths, &mut cells, &mut values);
+        register_both(rt, &tables, &lengths, &mut cells, &mut values);
     }
-    show_rows(&cells);
+    show_rows(rt, &cells);
 }

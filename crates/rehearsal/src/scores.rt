@@ -4,32 +4,35 @@ ghost use Rattle.std.specs.Prelude.{◌≤◌, length};
 
 use crate::{LIMIT, read_table, word_of};
 use answers::stops::Outcome;
-use libc::STDOUT_FILENO;
 use set_runs::SetRun;
+use std::rt::Files;
 
 // The words of the three tables, one behind the other.
-fn read_set(tables: &mut [i32]) -> [u32; 3] {
-    let formula = read_table(b"handicap.0.tbl", tables);
-    let class = read_table(b"handicap.1.tbl", &mut tables[formula..]);
+fn read_set(rt: &(impl Files + Eprint), tables: &mut [i32]) -> [u32; 3] {
+    let formula = read_table(rt, "handicap.0.tbl", tables);
+    let class = read_table(rt, "handicap.1.tbl", &mut tables[formula..]);
     let before = formula + class;
-    let day = read_table(b"handicap.2.tbl", &mut tables[before..]);
+    let day = read_table(rt, "handicap.2.tbl", &mut tables[before..]);
     [word_of(formula), word_of(class), word_of(day)]
 }
 
 // The corrected time of each boat: boats 1 to 5 have a row, boat 6 is the guest.
-fn show_times(cells: &[u32], guest: u32)
+fn show_times(rt: &(impl Print + Eprint), cells: &[u32], guest: u32)
     requires { 16 ≤ length cells.now }
 {
     for row in 1usize..6 {
-        text::console::show_text(lines::report::corrected_line(row as u32, cells[3 * row]));
+        text::console::show_text(
+            rt,
+            lines::report::corrected_line(row as u32, cells[3 * row]),
+        );
     }
-    text::console::show_text(lines::report::corrected_line(6, guest));
+    text::console::show_text(rt, lines::report::corrected_line(6, guest));
 }
 
 // The values are miles, the guest's elapsed time and allowance, the best of either class, the guest's corrected time, row pointer and count of rows.
-pub(crate) fn score_day() {
+pub(crate) fn score_day(rt: &(impl Files + Print + Eprint)) {
     let mut tables = [0i32; 7704];
-    let lengths = read_set(&mut tables);
+    let lengths = read_set(rt, &mut tables);
     let directory = [1, 9, 10, 6];
     let mut cells = [
         0, 2710, 40, 0, 2655, 25, 0, 2840, 60, 0, 2390, 12, 0, 2405, 15, 0,
@@ -56,8 +59,8 @@ pub(crate) fn score_day() {
     };
     let outcome = ended.outcome;
     let Outcome::Done { steps: _ } = outcome else {
-        io::write_all(STDOUT_FILENO, b"the day is not scored\n");
+        let _ = rt.write_all(b"the day is not scored\n");
         return;
     };
-    show_times(&cells, values[5]);
+    show_times(rt, &cells, values[5]);
 }

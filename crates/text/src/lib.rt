@@ -2,6 +2,7 @@
 #![tactic(auto)]
 
 pub mod console; // console.rt: text on standard output
+pub mod input; // input.rt: bytes from a file or standard input
 
 ghost use Rattle.std.specs.Prelude.{◌∷◌, [], ◌+◌, ◌<◌, ◌≤◌, length};
 ghost use Rattle.text.specs.Text.{text_of, decimal, Grown};

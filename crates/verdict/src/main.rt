@@ -1,27 +1,29 @@
 // Reads a routine table from standard input and prints the verdict on it, one line.
 #![tactic(auto)]
 
-use libc::STDIN_FILENO;
+use std::io::Read;
+use text::input::read_full;
 
 // Reads some more of the input and says whether there was any.
-fn skip_some() -> bool {
-    let mut buffer = io::buffer();
-    io::read_full(STDIN_FILENO, &mut buffer) > 0
+fn skip_some(input: &mut impl Read) -> bool {
+    let mut buffer = [0u8; 4096];
+    read_full(input, &mut buffer) > 0
 }
 
 // Reads the input to its end. A loop has to end, and nothing says that an input does, so it counts down from a number that no run uses up.
-fn skip_rest() {
+fn skip_rest(input: &mut impl Read) {
     let mut turns = u64::MAX;
-    while turns > 0 && skip_some() {
+    while turns > 0 && skip_some(input) {
         turns -= 1;
     }
 }
 
-fn main() {
+fn main(rt: HostRuntime) {
+    let mut input = rt.stdin();
     // Larger than the largest table: what fills it is refused for its length, and so is what is longer.
-    let mut bytes = io::large_buffer();
-    let size = io::read_full(STDIN_FILENO, &mut bytes);
-    skip_rest();
+    let mut bytes = [0u8; 65536];
+    let size = read_full(&mut input, &mut bytes);
+    skip_rest(&mut input);
     let line = lines::verdict_line(files::check_file(&bytes[..size]));
-    text::console::show_text(line);
+    text::console::show_text(&rt, line);
 }

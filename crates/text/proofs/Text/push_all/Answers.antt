@@ -1,5 +1,4 @@
 -- `text::Text::push_all` meets its contract: each turn adds one byte.
-use Prim.Native.Nat.{◌-◌}
 use native.Mathlib.Omega.{arith}
 use borrow.Author.Rules.{rules}
 use Rattle.text.specs.TextLaws.{grown-start, grown-next, grown-whole}

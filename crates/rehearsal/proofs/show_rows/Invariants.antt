@@ -1,8 +1,0 @@
-use Prim.Native.Nat.{◌-◌, ◌≤◌}
-use Rattle.rehearsal.proofs.show_rows.Given as goal
-
-abbrev pub invariant-loop-row : goal.invariant-loop-row
-invariant-loop-row l = l.row ≤ 13
-
-abbrev pub decreases-loop-row : goal.decreases-loop-row
-decreases-loop-row l = 13 - l.row

@@ -1,0 +1,5 @@
+-- The number of digits falls.
+use Rattle.text.proofs.Text.+push_digits.Given as goal
+
+abbrev pub decreases-push_digits : goal.decreases-push_digits
+decreases-push_digits l = l.digits
