@@ -24,7 +24,8 @@ Leads (Refused r) T h d a b l = layout.Refused r ≡ verdict (block_layout l T h
 Leads (Next x) T h d a b l = block_layout l T h d a b ≡ block_layout (l - 1) T h d x b
 Leads (Blocks x y) T h d a b l =
     (d ≤ max_depth)
-    × (block_layout l T h d a b ≡ also (block_layout (l - 1) T h (d + 1) (a + 1) x) (also (block_layout (l - 1) T h (d + 1) x y) (block_layout (l - 1) T h d y b)))
+    × (block_layout l T h d a b ≡ also (block_layout (l - 1) T h (d + 1) (a + 1) x)
+    (also (block_layout (l - 1) T h (d + 1) x y) (block_layout (l - 1) T h d y b)))
 
 pub record Parted (T : List ℤ) (h : Sections) (d a b : ℕ) (r : Parts) : Type 0 where
   pub leads : (l : ℕ) → 0 < l → Leads r T h d a b l

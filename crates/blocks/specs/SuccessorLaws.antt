@@ -76,7 +76,8 @@ bounded-append : (m : ℕ) (xs ys : List Successors) → Bounded m xs → Bounde
 bounded-append m [] ys p q = q
 bounded-append m (x ∷ xs) ys p q = (p.0, p.1, bounded-append m xs ys p.2 q)
 
-pub bounded_at : (m : ℕ) (xs : List Successors) (i : ℕ) (d : Successors) → Bounded m xs → i < length xs → ((get_or xs i d).next ≤ m) × ((get_or xs i d).other ≤ m)
+pub bounded_at : (m : ℕ) (xs : List Successors) (i : ℕ) (d : Successors) → Bounded m xs → i < length xs → ((get_or xs i d).next ≤ m)
+    × ((get_or xs i d).other ≤ m)
 bounded_at m [] i d p q = absurd (omega arith)
 bounded_at m (x ∷ xs) zero d p q = (p.0, p.1)
 bounded_at m (x ∷ xs) (suc i) d p q = bounded_at m xs i d p.2 (omega arith)

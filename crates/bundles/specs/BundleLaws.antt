@@ -88,7 +88,8 @@ pub measured-by : (f : FactSet) (s : Simple) {E : Environment} {r : Frame} {d : 
 measured-by f s m e = e ∙ ap₂ (λ (x y : List ℕ). applied x y f s) m.sizes m.spans
 
 -- A kind 14 names a pointer and a row of the table.
-pub row-limits : (T : List ℤ) (h : Sections) (a : ℕ) {s : Statement} {p : Simple} {y r : ℕ} → statement_at T h a ≡ Read s → s ≡ Plain p → declares_of p ≡ Row y r
+pub row-limits : (T : List ℤ) (h : Sections) (a : ℕ) {s : Statement} {p : Simple} {y r : ℕ} → statement_at T h a ≡ Read s → s ≡ Plain p → declares_of p
+    ≡ Row y r
     → (y < 16) × (r < 64)
 row-limits T h a {s} {p} {y} {r} e d n =
     let q : statement_at T h a ≡ Read (Plain (Declare y r)) = e ∙ ap Read (d ∙ ap Plain (row_named p y r n)) in
@@ -254,7 +255,8 @@ module _ {T : List ℤ} {h : Sections} {E : Environment} {head count : ℕ} {w�
           ∙ line-some E head at p (simples (left - 1) T h (at + 1)) (state_of f R) K)
 
       state-here : bundle_after (simples count T h (head + 1)) w₀ ≡ bundle_after (simples (left - 1) T h (at + 1)) (state_after p (state_of f R))
-      state-here = k.left-state ∙ (ap (λ (ss : List Simple). bundle_after ss (state_of f R)) line ∙ after_more p (simples (left - 1) T h (at + 1)) (state_of f R))
+      state-here = k.left-state ∙ (ap (λ (ss : List Simple). bundle_after ss (state_of f R)) line
+          ∙ after_more p (simples (left - 1) T h (at + 1)) (state_of f R))
 
       marks-here : line_marks E (head + 1) (simples count T h (head + 1)) w₀ M₀
           ≡ line_marks E (at + 1) (simples (left - 1) T h (at + 1)) (state_after p (state_of f R)) (marked_if (safe_in E (state_of f R) p) M at)

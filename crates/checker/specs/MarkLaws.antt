@@ -174,7 +174,8 @@ module _ (T : List ℤ) (h : Sections) (E : Environment) (L : List ℤ) where
       m = marked_if (safe_in E w s) M a
 
       go : (b : Bool) → eqb d a ≡ b → (a < d → reported m d ≡ false → Inside u (state_after s w) m d)
-          → reported (block_marks E L u (state_after s w) m) d ≡ read_safe store E (statement_at T h d) (cond b w (state_before store E L u (state_after s w) d))
+          → reported (block_marks E L u (state_after s w) m) d
+          ≡ read_safe store E (statement_at T h d) (cond b w (state_before store E L u (state_after s w) d))
       go true e ih =
           let q : d ≡ a = eqb-true d a e in
           let f : reported M a ≡ false = rw q at z in
@@ -297,7 +298,8 @@ module _ (T : List ℤ) (h : Sections) (E : Environment) (L : List ℤ) where
       (λ i. block_inside u (a + 1) (called_state c w) M n.1 r.1 l (omega (arith, n.0)) d (omega arith) (omega (arith, n.0)) z)
     where
       go : (b : Bool) → eqb d a ≡ b → (a < d → Inside u (called_state c w) M d)
-          → reported (block_marks E L u (called_state c w) M) d ≡ read_safe store E (statement_at T h d) (cond b w (state_before store E L u (called_state c w) d))
+          → reported (block_marks E L u (called_state c w) M) d
+          ≡ read_safe store E (statement_at T h d) (cond b w (state_before store E L u (called_state c w) d))
       go true e ih =
           let q : d ≡ a = eqb-true d a e in
           block-outside u (a + 1) (called_state c w) M n.1 l (omega (arith, n.0)) d (under (omega arith)) ∙ (z ∙ sym (head-unsafe d a _ w q r.0 refl))

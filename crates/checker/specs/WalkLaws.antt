@@ -474,7 +474,8 @@ module _ {T : List ℤ} {h : Sections} {E : Environment} {L : List ℤ} {rs : Li
     pub before-refused : {w : Walked} {x : Refusal} → w.verdict ≡ v → v ≡ Refused x → Walks E L rs b w₀ M₀ w
     before-refused q x = stops _ _ (here (While c n) u) (q ∙ asked) (q ∙ x)
 
-    module _ (shown : v ≡ Accepted) {l : FactSet} (y : l ≡ loop_facts (targets_from T h (at + 1) n) f) {k : FactSet} (listed : k ≡ entry_facts (entries_of L at) l)
+    module _ (shown : v ≡ Accepted) {l : FactSet} (y : l ≡ loop_facts (targets_from T h (at + 1) n) f) {k : FactSet}
+        (listed : k ≡ entry_facts (entries_of L at) l)
         {g : FactSet} (e : g ≡ condition_facts k c)
         {r : Walked} (w : Walks E L rs (rest T h left (at + 1) (at + 1 + n)) (state_of g F.rows.each) M r) where
       lost : k ≡ entry_facts (entries_of L at) (loop_facts (assigned (rest T h left (at + 1) (at + 1 + n))) f)

@@ -10,7 +10,8 @@ use Rattle.arrays.specs.TabulateLaws.{get_d_tabulate}
 use Rattle.rules.specs.BoundsRules.{nothing_known, element_size}
 use Rattle.rules.specs.declared.Environment.{Environment}
 use Rattle.conditions.specs.Conditions.{relates}
-use Rattle.machine.specs.Machine.{value, end_value, Failing, none, upper_end, first_of, access_failing, arithmetic_failing, beyond, terminator_failing, store_failing}
+use Rattle.machine.specs.Machine.{value, end_value, Failing, none, upper_end, first_of, access_failing, arithmetic_failing, beyond, terminator_failing}
+use Rattle.machine.specs.Machine.{store_failing}
 use Rattle.checks.specs.Checked.{end_in, bounds_in, declared_in, step_unless, size_in, string_in}
 use Rattle.answers.specs.declared.stops.Check.TheVariants.{NullAccess, OutOfBounds, NullArithmetic, AddressRange, Terminator}
 use Rattle.checks.specs.declared.Step.TheVariants.{Go, Stop}

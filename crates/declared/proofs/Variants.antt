@@ -1,7 +1,8 @@
 -- What the last arms of the `match` in `access_of` and `declares_of` are told.
 use Rattle.std.specs.Prelude.{◌≡◌, ℕ, refl}
 use Rattle.statements.specs.declared.Simple.{Simple}
-use Rattle.statements.specs.declared.Simple.TheVariants.{Literal, AddConstant, Arithmetic, Null, Address, PointerOffset, PointerIndex, Load, Store, Check, Declare}
+use Rattle.statements.specs.declared.Simple.TheVariants.{Literal, AddConstant, Arithmetic, Null, Address, PointerOffset, PointerIndex, Load, Store, Check}
+use Rattle.statements.specs.declared.Simple.TheVariants.{Declare}
 use Rattle.declared.specs.Shown.{access_of, declares_of}
 use Rattle.declared.specs.declared.Access.TheVariants.{Nothing}
 use Rattle.declared.specs.declared.Declares.TheVariants.{NoRow}

@@ -93,7 +93,8 @@ pub no_last : (n : ℕ) → n ≤ 0 → n - 1 ≡ 0
 no_last n l = omega arith
 
 -- Refusal 20 sees the caller's kinds alone.
-kinds-fit : (E : Environment) (f : FactSet) (K : List Bounds) (r : Routine) (c : CallSite) → arguments_fit (kinds_as (kinds_of E)) f K r c ≡ arguments_fit E f K r c
+kinds-fit : (E : Environment) (f : FactSet) (K : List Bounds) (r : Routine) (c : CallSite) → arguments_fit (kinds_as (kinds_of E)) f K r c
+    ≡ arguments_fit E f K r c
 unfolding calls.arguments_fit calls.argument_fits calls.bounds_fit calls.kind_fits
 kinds-fit E f K r c = refl
 

@@ -76,7 +76,8 @@ module _ (E : Environment) (e : Effect) (other : is_pointer E (replaced_by e) �
       go true i false s = absurd (false≢true (sym t ∙ rw (i, s) refl))
       go true i true s = rw (i, kept i s, stay-shown f (changed_by e) p (declared E p) s) refl
 
-  spared-from : (f : FactSet) (n p : ℕ) → n + p ≤ 16 → touched_from E (Forget (changed_by e)) n p ≡ false → unshown_from E f (bounds_after e E.declared) n p ≡ []
+  spared-from : (f : FactSet) (n p : ℕ) → n + p ≤ 16 → touched_from E (Forget (changed_by e)) n p ≡ false → unshown_from E f (bounds_after e E.declared) n p
+      ≡ []
   unfolding touched_from bounds_rules.unshown_from missed
   spared-from f zero p h t = refl
   spared-from f (suc n) p h t =

@@ -75,7 +75,8 @@ module _ {l : Lends} {quantum : ℕ} {seats : List Seat} {ends S : List ℕ} (c 
 
   none-received : (total r : ℕ) → r < count_of l → get_or (after (routines_of l) quantum total 0).received r 0 ≡ 0
   none-received total r b =
-      ap (λ (P : Schedule). get_or P.received r 0) (after-start (routines_of l) (routines-run l S launched) quantum total) ∙ get_or-replicate (count_of l) r 0 0 b
+      ap (λ (P : Schedule). get_or P.received r 0) (after-start (routines_of l) (routines-run l S launched) quantum total)
+      ∙ get_or-replicate (count_of l) r 0 0 b
 
   standing : (total : ℕ) → Standing l quantum total 0 seats ends l.values l.cells
   standing total = record {

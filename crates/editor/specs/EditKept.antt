@@ -1,7 +1,8 @@
 -- AN EDIT THAT IS MADE keeps what calls leave: the edited table passes causes 1 to 6, and a walk from nothing over it comes to each place at or before the
 -- edit.
 -- So the walk from the last of them has the verdict of a check from nothing (`rechecked`).
-use Rattle.std.specs.Prelude.{ℕ, zero, suc, ◌+◌, ◌-◌, ◌*◌, ◌/◌, ◌<◌, ◌≤◌, ◌≡◌, refl, Bool, true, false, ◌&&◌, cond, List, [], ◌∷◌, ℤ, length, get_or, take, eqb, ltb}
+use Rattle.std.specs.Prelude.{ℕ, zero, suc, ◌+◌, ◌-◌, ◌*◌, ◌/◌, ◌<◌, ◌≤◌, ◌≡◌, refl, Bool, true, false, ◌&&◌, cond, List, [], ◌∷◌, ℤ, length, get_or, take, eqb}
+use Rattle.std.specs.Prelude.{ltb}
 use Rattle.std.proofs.Common.{sym, ◌∙◌, ap, arith, ltb-false, eq-eqb}
 use Rattle.words.specs.Sections.{in_limits, table_end}
 use Rattle.words.specs.declared.sections.Sections.{Sections}

@@ -17,7 +17,8 @@ use Rattle.blocks.specs.ShapeLaws.{table-laid}
 use Rattle.rules.specs.FactSets.{State}
 use Rattle.rules.specs.Stored.{new_state}
 use Rattle.edits.specs.TopLevel.{top_level, span_of}
-use Rattle.edits.specs.Cuts.{Cut, landing, landing-top, landing-end, cut-top, cut-back, cut-first, cut-last, first, rest, first-laid, rest-laid, span-laid, top-past}
+use Rattle.edits.specs.Cuts.{Cut, landing, landing-top, landing-end, cut-top, cut-back, cut-first, cut-last, first, rest, first-laid, rest-laid, span-laid}
+use Rattle.edits.specs.Cuts.{top-past}
 use Rattle.edits.specs.Edited.{edited_sections, edited}
 use Rattle.edits.specs.EditedLaws.{Fits}
 use Rattle.edits.specs.EditLaws.{span-least}

@@ -115,7 +115,8 @@ module _ (T : List ℤ) (h : Sections) where
         let l' = rw y at l in
         let q = all-kept P r' p in
         all-onward (block_faults E [] [] (branch x c t u nil) w) _ _
-        (λ e. kept-reached {a = x + size (branch x c t u nil)} o (kept_at K n P x w) (rest-laid (branch x c t u o) l') (behind-first (branch x c t u o) l' r' e) q) q
+        (λ e. kept-reached {a = x + size (branch x c t u nil)} o (kept_at K n P x w) (rest-laid (branch x c t u o) l')
+        (behind-first (branch x c t u o) l' r' e) q) q
     kept-reached {a} {w} (loop x c t o) P l r p =
         let y = sym l.numbered.0 in
         let r' = rw y at r in

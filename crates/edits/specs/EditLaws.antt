@@ -1,6 +1,8 @@
 -- Laws by which the code of an edit is proved.
-use Rattle.std.specs.Prelude.{ℕ, zero, suc, ◌+◌, ◌-◌, ◌*◌, ◌/◌, ◌^◌, ◌<◌, ◌≤◌, ◌≡◌, refl, Bool, true, false, ◌&&◌, cond, List, [], ◌∷◌, ◌++◌, ℤ, pos, length, get_or, set, take, drop, eqb, ltb}
-use Rattle.std.proofs.Common.{sym, ◌∙◌, ap, arith, sub-one, pos_of_ne-zero, length-append, length-set, length-take, length-drop, ext_get_or, get_or-take, get_or-drop, get_or-append-add, get_or-set_same, get_or-set_other}
+use Rattle.std.specs.Prelude.{ℕ, zero, suc, ◌+◌, ◌-◌, ◌*◌, ◌/◌, ◌^◌, ◌<◌, ◌≤◌, ◌≡◌, refl, Bool, true, false, ◌&&◌, cond, List, [], ◌∷◌, ◌++◌, ℤ, pos, length}
+use Rattle.std.specs.Prelude.{get_or, set, take, drop, eqb, ltb}
+use Rattle.std.proofs.Common.{sym, ◌∙◌, ap, arith, sub-one, pos_of_ne-zero, length-append, length-set, length-take, length-drop, ext_get_or, get_or-take}
+use Rattle.std.proofs.Common.{get_or-drop, get_or-append-add, get_or-set_same, get_or-set_other}
 use borrow.Author.Tests.{eqb-true, eqb-false, eq-eqb, ne_eqb, ltb-true, ltb-false, lt-ltb, le-ltb}
 use Rattle.std.proofs.Math.ListN.{get_or-append}
 use Rattle.arrays.specs.Tabulate.{tabulate}

@@ -10,7 +10,8 @@ use Rattle.sums.specs.Numbers.{bias}
 use Rattle.arrays.specs.Tabulate.{tabulate}
 use Rattle.arrays.specs.TabulateLaws.{length-tabulate, get_d_tabulate}
 use Rattle.words.specs.Words.{biased, word, fields_at}
-use Rattle.words.specs.Sections.{start_right, in_limits, Limits, object_start, variable_start, statement_start, row_start, rows_start, table_end, is_variable, kind_of, kind_at, object_terminated}
+use Rattle.words.specs.Sections.{start_right, in_limits, Limits, object_start, variable_start, statement_start, row_start, rows_start, table_end, is_variable}
+use Rattle.words.specs.Sections.{kind_of, kind_at, object_terminated}
 use Rattle.words.specs.SectionsLaws.{both, limits}
 use Rattle.words.specs.declared.sections.Sections.{Sections}
 use Rattle.words.specs.declared.sections.KindRead.TheVariants.{Unread}

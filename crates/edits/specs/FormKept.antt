@@ -17,7 +17,8 @@ use Rattle.words.specs.declared.sections.Sections.{Sections}
 use Rattle.statements.specs.Statements.{statement_at}
 use Rattle.statements.specs.declared.StatementRead.{StatementRead}
 use Rattle.table.specs.Form.{is_number, four_pairs, length_right, sections_of, fourth_right, directory_right, object_right, variable_reads, is_variable_read}
-use Rattle.table.specs.Form.{row_reads, is_row_read, statement_reads, is_statement_read, lowest_from, lowest_object, lowest_variable, lowest_row, lowest_statement}
+use Rattle.table.specs.Form.{row_reads, is_row_read, statement_reads, is_statement_read, lowest_from, lowest_object, lowest_variable, lowest_row}
+use Rattle.table.specs.Form.{lowest_statement}
 use Rattle.table.specs.Form.{items_form, form_of}
 use Rattle.table.specs.Searches.{holds-below}
 use Rattle.table.specs.declared.Form.{Form}
@@ -46,7 +47,8 @@ holds : (b : Bool) (r : Refusal) (f : Form) (h : Sections) → cond b f (Refused
 holds true r f h e = (refl, e)
 holds false r f h e = let z : ◌≡◌ {A = ℕ} 0 1 = cc in absurd (omega arith)
 
-items-tested : (T : List ℤ) (g h : Sections) → length_right T ≡ true → sections_of T ≡ g → directory_right T g ≡ true → items_form T g ≡ WellFormed h → Tested T h
+items-tested : (T : List ℤ) (g h : Sections) → length_right T ≡ true → sections_of T ≡ g → directory_right T g ≡ true → items_form T g ≡ WellFormed h
+    → Tested T h
 unfolding items_form
 items-tested T g h l c d e =
     let o = passes (ltb (lowest_object T g) g.objects) (ObjectLength (lowest_object T g)) _ h e in

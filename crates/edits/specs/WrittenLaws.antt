@@ -1,7 +1,8 @@
 -- The edited table, written in place: the words behind the text moved, then the text, then two words of the directory.
 use Rattle.std.specs.Prelude.{ℕ, ◌+◌, ◌-◌, ◌*◌, ◌<◌, ◌≤◌, ◌≡◌, Bool, ◌&&◌, cond, List, [], ◌∷◌, ◌++◌, ℤ, pos, set, eqb}
 use Rattle.std.proofs.Math.Path.{refl, sym, ap}
-use Rattle.std.proofs.Common.{◌∙◌, ⊎_elim, eq-or-lt_of_le, length-append, length-set, length-drop, ext_get_or, get_or-drop, get_or-append-add, get_or-set_same, get_or-set_other}
+use Rattle.std.proofs.Common.{◌∙◌, ⊎_elim, eq-or-lt_of_le, length-append, length-set, length-drop, ext_get_or, get_or-drop, get_or-append-add, get_or-set_same}
+use Rattle.std.proofs.Common.{get_or-set_other}
 use Rattle.std.proofs.Math.Bool.{true, false}
 use native.Mathlib.Omega.{arith}
 use borrow.Author.Tests.{eqb-true, eqb-false, ne_eqb, ltb-true, ltb-false, lt-ltb, le-ltb}
@@ -49,7 +50,8 @@ module _ {A : Type 0} {d : A} where
       (λ j l. let z : i + j - by ≡ i - 1 + (j + 1) - by = omega arith in ap (λ (x : ℕ). get_or old x d) z)
 
   -- The element that stood `by` behind.
-  pub shifted_down : {old new : List A} {first i : ℕ} (by : ℕ) {a : A} → Overwritten d old first (i - first) (λ j. get_or old (first + j + by) d) new → first ≤ i
+  pub shifted_down : {old new : List A} {first i : ℕ} (by : ℕ) {a : A} → Overwritten d old first (i - first) (λ j. get_or old (first + j + by) d) new
+      → first ≤ i
       → a ≡ get_or new (i + by) d → a ≡ get_or old (first + (i - first) + by) d
   shifted_down {old} {new} {first} {i} by p q e =
       e ∙ (p.behind (i + by) (omega arith) ∙ (let z : i + by ≡ first + (i - first) + by = omega arith in ap (λ (x : ℕ). get_or old x d) z))
@@ -142,7 +144,8 @@ module _ {B B₁ : List ℤ} (h : Sections) (p m k : ℕ) (X : List ℤ) (fits :
   unfolding edited
   both_words i = go (ltb i (table_end g)) refl
     where
-      go : (x : Bool) → ltb i (table_end g) ≡ x → get_or (tabulate (table_end g) f ++ drop (table_end g) B) i (pos 0) ≡ get_or (set (set B₁ 5 five) 6 six) i (pos 0)
+      go : (x : Bool) → ltb i (table_end g) ≡ x → get_or (tabulate (table_end g) f ++ drop (table_end g) B) i (pos 0)
+          ≡ get_or (set (set B₁ 5 five) 6 six) i (pos 0)
       go true t =
           let l = ltb-true i (table_end g) t in
           get_or-append (tabulate (table_end g) f) (drop (table_end g) B) (pos 0) i (omega (arith, length-tabulate (table_end g) f))

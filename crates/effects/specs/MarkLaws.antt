@@ -158,4 +158,5 @@ module _ (n : ℕ) (lost : ℕ → Bool) (f : FactSet) {g : FactSet} (e : g ≡ 
 pub loop-facts : (xs : List ℕ) (f : FactSet) (m : List Bool) → m ≡ marked no_marks xs → dropped_each 16 (λ v. get_or m v false) f ≡ loop_facts xs f
 unfolding fact_rules.loop_facts
 loop-facts xs f m e = dropped-alike 16 _ _ f
-    (λ v p. ap (λ (l : List Bool). get_or l v false) e ∙ (marked-among no_marks xs v p ∙ ap (λ (b : Bool). b || among v xs) (get_or-replicate 16 v false false p)))
+    (λ v p. ap (λ (l : List Bool). get_or l v false) e
+    ∙ (marked-among no_marks xs v p ∙ ap (λ (b : Bool). b || among v xs) (get_or-replicate 16 v false false p)))

@@ -56,7 +56,13 @@ module _ (E : Environment) where
           let d : 16 ≤ i / 6 = omega arith in
           let u : (i - 96) / 6 ≡ i / 6 - 16 = omega arith in
           let v : (i - 96) % 6 ≡ i % 6 = omega arith in
-          rw (m, get_d_tabulate 384 (λ (n : ℕ). bounds_number (get_or E.rows (n / 6) nothing_known) (n % 6)) (i - 96) 0 (omega arith), le-ltb (i / 6) 16 d, u, v)
+          rw (
+            m,
+            get_d_tabulate 384 (λ (n : ℕ). bounds_number (get_or E.rows (n / 6) nothing_known) (n % 6)) (i - 96) 0 (omega arith),
+            le-ltb (i / 6) 16 d,
+            u,
+            v,
+          )
 
   size-laid : length E.sizes ≡ 16 → (i : ℕ) → 480 ≤ i → i < 512
       → size_or_mark E.sizes E.strings i ≡ after_bounds E i

@@ -93,7 +93,8 @@ module _ (f : ℕ → Answer) (n : ℕ) (w : List ℕ) {w' : List ℕ} where
 module _ (l : Lends) (quantum total : ℕ) (ends S w : List ℕ) where
   -- Too few words for an answer.
   pub no-words : length w < 37 → DispatchAnswer l quantum total ends S w false l.values l.cells w
-  no-words h = let t : (leb 37 (length w) && room_right ends S) ≡ false = rw (lt-leb 37 (length w) h) in record { room = sym t; words = rw t (refl, refl, refl) }
+  no-words h = let t : (leb 37 (length w) && room_right ends S)
+      ≡ false = rw (lt-leb 37 (length w) h) in record { room = sym t; words = rw t (refl, refl, refl) }
 
   module _ (outcomes : ℕ → Outcome) (vs cs w' : List ℕ) (b : Bool) (enough : 37 ≤ length w) where
     -- Where the room is as the promise says, the words are those of what is said.

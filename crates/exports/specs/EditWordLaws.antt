@@ -61,6 +61,7 @@ start-words B L {K} {S} {w} a h z s e =
 pub no-edit : {B : List ℤ} {o p : ℕ} {X : List ℤ} {K S w : List ℕ} → length w < 6 → EditCallWords B o p X K S w false B S w
 no-edit {w = w} h = record { room = sym (lt-leb 6 (length w) h); words = rw (lt-leb 6 (length w) h) (refl, refl, refl) }
 
-pub edit-words : {B : List ℤ} (o : ℕ) {p : ℕ} {X : List ℤ} {K S w : List ℕ} {B' : List ℤ} {S' w' : List ℕ} {e : Edit} (a : Answer) → 6 ≤ length w → e ≡ edit_of o
+pub edit-words : {B : List ℤ} (o : ℕ) {p : ℕ} {X : List ℤ} {K S w : List ℕ} {B' : List ℤ} {S' w' : List ℕ} {e : Edit} (a : Answer) → 6 ≤ length w → e
+    ≡ edit_of o
     → EditCall B p e X K S a B' S' → w' ≡ edit_words a w → EditCallWords B o p X K S w true B' S' w'
 edit-words o {w = w} a h z s e = record { room = sym (le-leb 6 (length w) h); words = rw (le-leb 6 (length w) h) (a, rw z at s, e) }

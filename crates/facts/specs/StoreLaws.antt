@@ -70,7 +70,8 @@ module _ (f : FactSet) (x y k : ℕ) where
       go false s = refl
 
 -- Numbers in range are compared as they are.
-pub within-plain : (s a b k j : ℕ) → s ≤ 8 → a < 2 ^ 40 → b < 2 ^ 40 → k < 2 ^ 40 → j < 2 ^ 40 → within_end s a b k j ≡ leb (a + s * b + k) (j + bias + s * bias)
+pub within-plain : (s a b k j : ℕ) → s ≤ 8 → a < 2 ^ 40 → b < 2 ^ 40 → k < 2 ^ 40 → j < 2 ^ 40 → within_end s a b k j
+    ≡ leb (a + s * b + k) (j + bias + s * bias)
 unfolding within_end
 within-plain s a b k j hs ha hb hk hj = rw (le-leb s 8 hs, lt-ltb a (2 ^ 40) ha, lt-ltb b (2 ^ 40) hb, lt-ltb k (2 ^ 40) hk, lt-ltb j (2 ^ 40) hj)
 
@@ -217,7 +218,8 @@ module _ (f : FactSet) (x y up down : ℕ) where
 
   other_row : (i : ℕ) → i < 17 → i ≢ x → row_at (reassigned f x y up down) i ≡ rerouted_row (row_at f i) x (concatenated (sum_at f i y) down)
   unfolding reassigned
-  other_row i h n = get_or-set_other (tabulate 17 (rerouted f x y down)) x i (own_row (row_at f y) x up) no_row n ∙ get_d_tabulate 17 (rerouted f x y down) i no_row h
+  other_row i h n = get_or-set_other (tabulate 17 (rerouted f x y down)) x i (own_row (row_at f y) x up) no_row n
+      ∙ get_d_tabulate 17 (rerouted f x y down) i no_row h
 
 -- One sum after x was put between y - down and y + up: from x to x, from x, to x, or another.
 abbrev pub anew_at : ℕ → ℕ → ℕ → Bool → Bool → ℕ
@@ -232,7 +234,8 @@ module _ (f : FactSet) (i j : ℕ) (hi : i < 17) (hj : j < 17) where
   sum-new = rw (get_d_tabulate, get_d_tabulate)
 
   pub sum-lowered : (x y k : ℕ) → sum_at (lowered f x y k) i j
-      ≡ cond (leb (sum_at f i y) (concatenated (sum_at f i x) k)) (sum_at f i j) (min (sum_at f i j) (concatenated (concatenated (sum_at f i x) k) (sum_at f y j)))
+      ≡ cond (leb (sum_at f i y) (concatenated (sum_at f i x) k)) (sum_at f i j)
+      (min (sum_at f i j) (concatenated (concatenated (sum_at f i x) k) (sum_at f y j)))
   unfolding lowered lowered_row
   sum-lowered x y k = rw get_d_tabulate (in-picked (leb (sum_at f i y) (concatenated (sum_at f i x) k)) (row_at f i) _ j hj)
 

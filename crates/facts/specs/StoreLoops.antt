@@ -176,7 +176,8 @@ module _ {facts : List Fact} where
 
 -- The loop through a row, after j sums: `to` is the row's sum to zero.
 abbrev routed : List Bool → Bool → Row → ℕ → Row → ℕ → ℕ
-routed pointers pointer row to zeros n = cond (cond (eqb n zero_var) true (same pointer (get_or pointers n false))) (in_row row n) (concatenated to (in_row zeros n))
+routed pointers pointer row to zeros n = cond (cond (eqb n zero_var) true (same pointer (get_or pointers n false))) (in_row row n)
+    (concatenated to (in_row zeros n))
 
 pub record Routing (pointers : List Bool) (pointer : Bool) (row : Row) (to : ℕ) (zeros next : Row) (j : ℕ) : Type 0 where
   pub filled : Filled next.sums row.sums 17 (routed pointers pointer row to zeros) j

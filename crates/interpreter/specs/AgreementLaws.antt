@@ -34,7 +34,8 @@ use Rattle.machine.specs.Machine.{memory_of, after_checks, branched, statement_s
 use Rattle.machine.specs.AlonePoints.{point_after}
 use Rattle.machine.specs.Points.{failing_at}
 use Rattle.checks.specs.Checked.{step_unless, check_of}
-use Rattle.steps.specs.Bare.{values_after, cells_after, changed_unless, Move, move, simple_move, statement_move, bare_move, InCells, InsideSimple, Inside, Ready}
+use Rattle.steps.specs.Bare.{values_after, cells_after, changed_unless, Move, move, simple_move, statement_move, bare_move, InCells, InsideSimple, Inside}
+use Rattle.steps.specs.Bare.{Ready}
 use Rattle.interpreter.specs.BareRun.{Result, result, follow, bare_run, IfTrue, Onward, SafeRun}
 use Rattle.interpreter.specs.Agreement.{step_shown, move_shown, result_shown, Serves, KnownAt, Runnable}
 use Rattle.interpreter.specs.Outcomes.{outcome_shown}

@@ -48,7 +48,8 @@ module _ (h : Sections) (E : Environment) (D cs vs os : List ℕ) (A : Admitted 
   pair-after : (o : ℕ) → o < h.objects → end_before D o ≤ low D o
   unfolding pair_right
   pair-after o l =
-      let t = both (leb (end_before D o) (get_or D (2 * o) 0) && leb (high D o) (length cs)) (eqb (get_or D (2 * o + 1) 0) (object_length E o)) (A.objects o l) in
+      let t = both (leb (end_before D o) (get_or D (2 * o) 0) && leb (high D o) (length cs)) (eqb (get_or D (2 * o + 1) 0) (object_length E o))
+      (A.objects o l) in
       leb-true (end_before D o) (low D o) (both (leb (end_before D o) (get_or D (2 * o) 0)) (leb (high D o) (length cs)) t.0).0
 
   in-order : (o d : ℕ) → o + suc d < h.objects → high D o ≤ low D (o + suc d)

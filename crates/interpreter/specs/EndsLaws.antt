@@ -126,7 +126,8 @@ module _ (E : Environment) (R vs : List ℕ) (p : ℕ) (few : p < 16) where
   access-same : (a : ℕ) (rest : Failing) → access_failing (declared_in (ends_of E R)) vs p a rest ≡ access_failing (in_force E R) vs p a rest
   unfolding access_failing
   access-same a rest =
-      ap₂ (λ (l u : ℕ). first_of (eqb (value vs p) 0) 2 (first_of (ltb a l || beyond (is_string (declared_in (ends_of E R)) p) u a) 3 rest)) lower-same upper-same
+      ap₂ (λ (l u : ℕ). first_of (eqb (value vs p) 0) 2 (first_of (ltb a l || beyond (is_string (declared_in (ends_of E R)) p) u a) 3 rest)) lower-same
+      upper-same
       ∙ ap (λ (b : Bool). first_of (eqb (value vs p) 0) 2
       (first_of (ltb a (lower_end (in_force E R) vs p) || beyond b (upper_end (in_force E R) vs p) a) 3 rest)) (string-same E R p few)
 

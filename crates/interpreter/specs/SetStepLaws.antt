@@ -17,7 +17,8 @@ use Rattle.rules.specs.BoundsRules.{in_force}
 use Rattle.rules.specs.Calls.{Routine}
 use Rattle.machine.specs.Machine.{Failing, none, fails, Status, going, stopped, stuck, Point, halted, statement_step, successors_of, next_point}
 use Rattle.machine.specs.Points.{failing_at}
-use Rattle.machine.specs.SetMachine.{Frame, Stack, stack, is_going, table_of, sections_of, environment_of, result_of, has_ended, resumed, settled, waiting, begun}
+use Rattle.machine.specs.SetMachine.{Frame, Stack, stack, is_going, table_of, sections_of, environment_of, result_of, has_ended, resumed, settled, waiting}
+use Rattle.machine.specs.SetMachine.{begun}
 use Rattle.machine.specs.SetMachine.{own_step, stack_step, next_if, next_stack}
 use Rattle.interpreter.specs.StepLaws.{StepFacts, step-facts, next-going}
 

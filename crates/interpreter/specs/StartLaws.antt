@@ -102,7 +102,8 @@ module _ (h : Sections) (E : Environment) (D cs vs os : List ℕ) (A : Admitted 
   pub object-inside : (o : ℕ) → o < h.objects → high D o ≤ length cs
   unfolding pair_right
   object-inside o l =
-      let e = both (leb (end_before D o) (get_or D (2 * o) 0) && leb (high D o) (length cs)) (eqb (get_or D (2 * o + 1) 0) (object_length E o)) (A.objects o l) in
+      let e = both (leb (end_before D o) (get_or D (2 * o) 0) && leb (high D o) (length cs)) (eqb (get_or D (2 * o + 1) 0) (object_length E o))
+      (A.objects o l) in
       leb-true _ _ (both (leb (end_before D o) (get_or D (2 * o) 0)) (leb (high D o) (length cs)) e.0).1
 
   entry-origin : (v : ℕ) → entry_right E D vs os v ≡ true → get_or os v 0 ≤ h.objects

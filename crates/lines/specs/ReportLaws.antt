@@ -37,7 +37,8 @@ module _ {before : List ℕ} {len : ℕ} {t : Text} where
   unfolding entry_text
   entry-spent row e g = rw e g
 
-  pub entry-stopped : (row : ℕ) {o : Outcome} {n : ℕ} {c : Check} → o ≡ Stopped n c → Grown before (stopped_text c) len t → Grown before (entry_text row o) len t
+  pub entry-stopped : (row : ℕ) {o : Outcome} {n : ℕ} {c : Check} → o ≡ Stopped n c → Grown before (stopped_text c) len t
+      → Grown before (entry_text row o) len t
   unfolding entry_text
   entry-stopped row e g = rw e g
 

@@ -41,7 +41,8 @@ in_order L e = eqb e 0 || leb (while_word L (e - 1)) (while_word L e)
 
 unfoldable pub entry_right : List ℤ → Sections → List ℤ → ℕ → Bool
 entry_right T h L e =
-    sides_right T h (left_word L e) (right_word L e) && is_constant (offset_word L e) && names_while T h (while_word L e) && in_order L e && leb (4 * e + 4) (length L)
+    sides_right T h (left_word L e) (right_word L e) && is_constant (offset_word L e) && names_while T h (while_word L e) && in_order L e && leb (4 * e + 4)
+    (length L)
 
 unfoldable pub lowest_entry : List ℤ → Sections → List ℤ → ℕ
 lowest_entry T h L = lowest_from (entry_right T h L) 0 (entry_count L)

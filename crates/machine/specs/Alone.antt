@@ -127,7 +127,8 @@ module _ (T L : List ℤ) (formed : form_of T ≡ WellFormed (sections_of T)) (a
 
   -- The states are the points of the routine.
   pub alone-points : (t : ℕ) → stack_after one D t (start_stack one D cs vs os)
-      ≡ stack [] 0 (point_after T (sections_of T) (environment_of T (sections_of T)) D t (start T (sections_of T) (environment_of T (sections_of T)) D cs vs os))
+      ≡ stack [] 0 (point_after T (sections_of T) (environment_of T (sections_of T)) D t
+      (start T (sections_of T) (environment_of T (sections_of T)) D cs vs os))
   unfolding start_stack
   alone-points t =
       run_alone (routine_of T) D (length cs) L (begun-setting T (sections_of T) L formed accepts D cs vs os begun)

@@ -135,7 +135,8 @@ module _ (D : List ℕ) (R : ℕ → Type 0) where
     simple-framed (Check c) n named = framed-none P _ origins refl refl
     simple-framed (Declare p r) n named = framed-values _ _ _ n origins
 
-    checked-framed : (f : Failing) (s : Simple) (n : ℕ) → ((p o : ℕ) → s ≡ Address p o → R o) → Framed D R P (after_checks f P n (performed E D s (memory_of P)))
+    checked-framed : (f : Failing) (s : Simple) (n : ℕ) → ((p o : ℕ) → s ≡ Address p o → R o)
+        → Framed D R P (after_checks f P n (performed E D s (memory_of P)))
     checked-framed (fails k) s n named = framed-none P _ origins refl refl
     checked-framed none s n named = simple-framed s n named
 

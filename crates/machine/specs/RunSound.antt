@@ -176,7 +176,8 @@ module _ (T : List ℤ) (h : Sections) (E : Environment) (D : List ℕ) (room : 
     start-return cs vs os g =
         record { cells = record { long = g.steady.cells-long; small = g.steady.cells-small; last-zero = g.last-zero }; small = omega arith }
 
-    pub start-kept : (cs vs os : List ℕ) → Good h E D room new_state (declared_in E new_state) (record { cells = cs; values = vs; origins = os; rows = own_rows })
+    pub start-kept : (cs vs os : List ℕ) → Good h E D room new_state (declared_in E new_state)
+        (record { cells = cs; values = vs; origins = os; rows = own_rows })
         → Invariant (start T h E D cs vs os)
     unfolding start table_entry
     start-kept cs vs os g =

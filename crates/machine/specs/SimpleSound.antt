@@ -258,7 +258,8 @@ module _ (T : List ℤ) (h : Sections) (E : Environment) (D : List ℕ) (room : 
           (λ is e.
           derived-own _ is e (λ l u b. shift-holds v (values_set m p a) p is.except k (omega (arith, is.value-is)) l u (known K p) (rw s b)))
 
-      pub index-left : 1 ≤ a → (s : Bool) → eqb p q ≡ s → GoodAfter (ranged F p 1 max_value) (bounds_after (cond s (Forget p) (Copy p q)) K) (derived_set m p q a)
+      pub index-left : 1 ≤ a → (s : Bool) → eqb p q ≡ s
+          → GoodAfter (ranged F p 1 max_value) (bounds_after (cond s (Forget p) (Copy p q)) K) (derived_set m p q a)
       index-left l true e = forget-good (ranged F p 1 max_value) (eqb-true p q e) (ranged-fact p a (get_or m.origins q 0) i small 1 max_value l small)
       index-left l false e = copy-good (ranged F p 1 max_value) (ranged-fact p a (get_or m.origins q 0) i small 1 max_value l small)
 

@@ -116,7 +116,8 @@ module _ (K : List ℕ) (n : ℕ) (E : Environment) where
       (same (block_faults E [] [] (call x s nil) w) _ P (kept-silent r (block_after E [] (call x s nil) w) P (λ y e. q y (or-second (eqb x y) _ e))))
   kept-silent (branch x c t o r) w P q =
       rw (unnamed P x w (q x (or-first (eqb x x) _ (eq-eqb x x refl))))
-      (same (block_faults E [] [] (branch x c t o nil) w) _ P (kept-silent r (block_after E [] (branch x c t o nil) w) P (λ y e. q y (or-second (eqb x y) _ e))))
+      (same (block_faults E [] [] (branch x c t o nil) w) _ P
+      (kept-silent r (block_after E [] (branch x c t o nil) w) P (λ y e. q y (or-second (eqb x y) _ e))))
   kept-silent (loop x c t r) w P q =
       rw (unnamed P x w (q x (or-first (eqb x x) _ (eq-eqb x x refl))))
       (same (block_faults E [] [] (loop x c t nil) w) _ P (kept-silent r (block_after E [] (loop x c t nil) w) P (λ y e. q y (or-second (eqb x y) _ e))))

@@ -1,5 +1,6 @@
 -- The places of a store: behind a place's position stand the 290 words of its fact set, then the rows in force.
-use Rattle.std.specs.Prelude.{ℕ, zero, suc, ◌+◌, ◌-◌, ◌*◌, ◌/◌, min, ◌≡◌, Bool, true, false, ◌&&◌, ◌||◌, cond, List, [], ◌∷◌, ◌++◌, length, get_or, eqb, ltb, leb}
+use Rattle.std.specs.Prelude.{ℕ, zero, suc, ◌+◌, ◌-◌, ◌*◌, ◌/◌, min, ◌≡◌, Bool, true, false, ◌&&◌, ◌||◌, cond, List, [], ◌∷◌, ◌++◌, length, get_or, eqb, ltb}
+use Rattle.std.specs.Prelude.{leb}
 use Rattle.arrays.specs.Tabulate.{tabulate}
 use Rattle.facts.specs.Store.{new_set}
 use Rattle.facts.specs.Words.{loaded}

@@ -118,7 +118,8 @@ module _ (K : List ℕ) (n : ℕ) where
       rw (lt-leb a (place r) (f a (or-first (eqb a a) _ (eq-eqb a a refl)))) (stored_past r A P (λ x e. f x (or-second (eqb a x) _ e)))
 
   step : {v : Verdict} (F G : List Refusal) (a b c : ℕ) (A : List ℕ) (P Q : List Place) (w : State FactSet) → Ranged a b F → Ranged b c G → a < b
-      → ((x : ℕ) → is_in A x ≡ true → b ≤ x) → v ≡ verdict_of (also F G) → (v ≡ verdict_of G → positions_in Q ≡ stored K n v A (positions_in (kept_at K n P a w)))
+      → ((x : ℕ) → is_in A x ≡ true → b ≤ x) → v ≡ verdict_of (also F G)
+      → (v ≡ verdict_of G → positions_in Q ≡ stored K n v A (positions_in (kept_at K n P a w)))
       → positions_in (onward F Q (kept_at K n P a w)) ≡ stored K n v (a ∷ A) (positions_in P)
   unfolding also verdict_of Ranged stored is_empty
   step {v} [] G a b c A P Q w f g p i e q =

@@ -1,5 +1,6 @@
 -- Laws of the store: what its code leaves.
-use Rattle.std.specs.Prelude.{ℕ, zero, suc, ◌+◌, ◌-◌, ◌*◌, ◌/◌, ◌<◌, ◌≤◌, min, ◌≡◌, refl, Bool, true, false, ◌&&◌, ◌||◌, cond, length, get_or, set, take, drop, eqb, ltb, leb}
+use Rattle.std.specs.Prelude.{ℕ, zero, suc, ◌+◌, ◌-◌, ◌*◌, ◌/◌, ◌<◌, ◌≤◌, min, ◌≡◌, refl, Bool, true, false, ◌&&◌, ◌||◌, cond, length, get_or, set, take, drop}
+use Rattle.std.specs.Prelude.{eqb, ltb, leb}
 use Rattle.std.proofs.Common.{sym, ◌∙◌, arith, pos_of_ne-zero, length-set, length-append, get_or-set_same, get_or-set_other, take_all, drop-cons}
 use Rattle.std.proofs.Math.Path.{ap, ap₂}
 use mathlib.Core.List.{List, [], ◌∷◌, ◌++◌}
@@ -131,7 +132,8 @@ module _ (S : List ℕ) (a : ℕ) (f : FactSet) (R : List ℕ) {S₂ S₃ : List
 
   rows-here : tabulate 16 (λ r. get_or (set S₃ 0 (place_count S + 1)) ((place_start (place_count S)) + 291 + r) 0) ≡ R
   rows-here =
-      tabulate-alike 16 (λ r p. get_or-set_other S₃ 0 ((place_start (place_count S)) + 291 + r) (place_count S + 1) 0 (λ e. omega arith) ∙ rows.inside r p) ∙ whole
+      tabulate-alike 16 (λ r p. get_or-set_other S₃ 0 ((place_start (place_count S)) + 291 + r) (place_count S + 1) 0 (λ e. omega arith) ∙ rows.inside r p)
+      ∙ whole
 
   place_here : place_at (set S₃ 0 (place_count S + 1)) (place_count S) ≡ place_of a (state_of f R)
   unfolding position_at state_at rows_at

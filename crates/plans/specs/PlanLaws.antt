@@ -91,7 +91,8 @@ pub record Planned (there : Bool) (T : List ℤ) (room : ℕ) (h : Sections) (at
   pub found : there ≡ true
   pub few : 7 * (h.statements - removed_by e (span_of (statement_at T h at))) + words_by e (length X) ≤ 7168
   pub fits : length T - 7 * removed_by e (span_of (statement_at T h at)) + words_by e (length X) ≤ room
-  pub kind : kind_plan at e (text_of (text_table T h X) (text_sections h X) (length X)) (removed_by e (span_of (statement_at T h at))) (length X / 7) ≡ Change m k
+  pub kind : kind_plan at e (text_of (text_table T h X) (text_sections h X) (length X)) (removed_by e (span_of (statement_at T h at))) (length X / 7)
+      ≡ Change m k
 
 never : {r : Refusal} {m k : ℕ} {A : Type 0} → Refused r ≡ Change m k → A
 never e = let z : ◌≡◌ {A = ℕ} 0 1 = cc in absurd (omega arith)
@@ -121,7 +122,8 @@ right-only at text.Layout m k a b e = never e
 
 -- A plan to change fits the table and the buffer.
 module _ (there : Bool) (T : List ℤ) (room : ℕ) (h : Sections) (at : ℕ) where
-  pub plan-fits : (e : Edit) (X : List ℤ) (m k : ℕ) → at + removed_by e (span_of (statement_at T h at)) ≤ h.statements → in_limits h ≡ true → length T ≡ table_end h
+  pub plan-fits : (e : Edit) (X : List ℤ) (m k : ℕ) → at + removed_by e (span_of (statement_at T h at)) ≤ h.statements → in_limits h ≡ true → length T
+      ≡ table_end h
       → plan_of there T room h at e X ≡ Change m k → Fits h at m k × (table_end (edited_sections h m k) ≤ room)
   plan-fits Insert X m k some v z p =
       let q = planned there T room h at Insert X m k p in

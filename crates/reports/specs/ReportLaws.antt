@@ -1,6 +1,8 @@
 -- A mark sets its statement's bit, and no other.
-use Rattle.std.specs.Prelude.{ℕ, zero, suc, ◌+◌, ◌*◌, ◌/◌, ◌%◌, ◌^◌, ◌<◌, ◌≤◌, max, ◌≡◌, refl, ◌≢◌, Bool, true, false, List, eqb, length, get_or, set, replicate}
-use Rattle.std.proofs.Common.{sym, ap, ap₂, ◌∙◌, arith, pow-suc, one-mul, mul-div_cancel, mod-eq_of_lt, eqb-true, eq-eqb, pow_pos, get_or-set_same, get_or-set_other}
+use Rattle.std.specs.Prelude.{ℕ, zero, suc, ◌+◌, ◌*◌, ◌/◌, ◌%◌, ◌^◌, ◌<◌, ◌≤◌, max, ◌≡◌, refl, ◌≢◌, Bool, true, false, List, eqb, length, get_or, set}
+use Rattle.std.specs.Prelude.{replicate}
+use Rattle.std.proofs.Common.{sym, ap, ap₂, ◌∙◌, arith, pow-suc, one-mul, mul-div_cancel, mod-eq_of_lt, eqb-true, eq-eqb, pow_pos, get_or-set_same}
+use Rattle.std.proofs.Common.{get_or-set_other}
 use Rattle.std.proofs.Math.Nat.{pow-succ', div_self, div-eq_of_lt, div-div-eq-div-mul, mul-mod_left, zero-div}
 use Rattle.std.proofs.lemmas.Bool.{eqb-false}
 use Rattle.std.proofs.Math.Arith.{digits_div, digits_mod}

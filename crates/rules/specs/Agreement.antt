@@ -206,7 +206,8 @@ module _ (T : List ℤ) (h : Sections) (w : Formed T h) (q : Decider) (right : D
       where
         go : (b : Bool) → is_pointer E p ≡ b → unshown_from store (in_force E R) f K m (p + 1) ≡ unshown_from (by_chains q) (in_force E R) H K m (p + 1)
             → cons_if (b && not (bounds_shown store f p (known K p) (declared (in_force E R) p))) p (unshown_from store (in_force E R) f K m (p + 1))
-            ≡ cons_if (b && not (bounds_shown (by_chains q) H p (known K p) (declared (in_force E R) p))) p (unshown_from (by_chains q) (in_force E R) H K m (p + 1))
+            ≡ cons_if (b && not (bounds_shown (by_chains q) H p (known K p) (declared (in_force E R) p))) p
+            (unshown_from (by_chains q) (in_force E R) H K m (p + 1))
         go true e i = ap₂ (λ (x : Bool) (xs : List ℕ). cons_if (not x) p xs) (declared-agree R n p K l ((environment-declares T h w).below p e) a) i
         go false e i = i
 
@@ -391,7 +392,8 @@ module _ (T : List ℤ) (h : Sections) (w : Formed T h) (q : Decider) (right : D
         }
 
     branch-agrees : (a : ℕ) (c : Condition) (x y u : Block) {U : State History} {W : State FactSet} → StateRepresents vars U W
-        → BlockAgrees x (assumed (by_chains q) U c) (assumed store W c) → BlockAgrees y (assumed (by_chains q) U (negated_of c)) (assumed store W (negated_of c))
+        → BlockAgrees x (assumed (by_chains q) U c) (assumed store W c)
+        → BlockAgrees y (assumed (by_chains q) U (negated_of c)) (assumed store W (negated_of c))
         → ((U : State History) (W : State FactSet) → StateRepresents vars U W → BlockAgrees u U W) → BlockAgrees (branch a c x y u) U W
     unfolding block_faults block_after
     branch-agrees a c x y u t i j rest =

@@ -276,7 +276,8 @@ module _ (E : Environment) (f : FactSet) (K : List Bounds) where
   denied true b p q = not-false b q
   denied false b p q = absurd (false≢true p)
 
-  shown-from : (n p : ℕ) → unshown_from E f K n p ≡ [] → (q : ℕ) → p ≤ q → q < p + n → is_pointer E q ≡ true → bounds_shown f q (known K q) (declared E q) ≡ true
+  shown-from : (n p : ℕ) → unshown_from E f K n p ≡ [] → (q : ℕ) → p ≤ q → q < p + n → is_pointer E q ≡ true → bounds_shown f q (known K q) (declared E q)
+      ≡ true
   unfolding bounds_rules.unshown_from
   shown-from zero p e q l u t = absurd (omega arith)
   shown-from (suc n) p e q l u t =

@@ -26,7 +26,8 @@ use Rattle.words.specs.declared.sections.Sections.{Sections}
 use Rattle.conditions.specs.Conditions.{same_kind}
 use Rattle.blocks.specs.Layout.{also, when}
 use Rattle.blocks.specs.LayoutLaws.{no-first, no-rest}
-use Rattle.listed.specs.Entries.{left_word, right_word, offset_word, while_word, entry_count, entry_at, entry_if, belongs, entries_from, entries_of, EntriesHold}
+use Rattle.listed.specs.Entries.{left_word, right_word, offset_word, while_word, entry_count, entry_at, entry_if, belongs, entries_from, entries_of}
+use Rattle.listed.specs.Entries.{EntriesHold}
 use Rattle.listed.specs.ListForm.{names_variable, names_while, in_order, sides_right, entry_right, list_faults}
 use Rattle.listed.specs.ListLaws.{each_right}
 use Rattle.listed.specs.declared.Entry.{Entry}

@@ -11,7 +11,8 @@ use Rattle.words.specs.Sections.{in_limits, is_variable, kind_at, integer_at, po
 use Rattle.words.specs.Sections.{kind_of, kind_is, array_at, string_at, object_terminated, takes_pointer, takes_object, names_array, names_string}
 use Rattle.conditions.specs.Conditions.{negation, negated_of, same_kind, beside_literal, condition_right, right_of, offset_of, condition_of}
 use Rattle.statements.specs.Statements.{unused_from, literal_read, add_constant_read, arithmetic_read, null_read, address_read, pointer_offset_read}
-use Rattle.statements.specs.Statements.{pointer_index_read, load_read, store_read, bundle_read, check_read, if_read, while_read, kind_read, statement_at, declare_read}
+use Rattle.statements.specs.Statements.{pointer_index_read, load_read, store_read, bundle_read, check_read, if_read, while_read, kind_read, statement_at}
+use Rattle.statements.specs.Statements.{declare_read}
 use Rattle.table.specs.Variables.{end_words_at, variable_words_at, end_right, end_zero, end_of, integer_record, pointer_record}
 use Rattle.table.specs.Variables.{variable_of, variable_at, object_at, row_words_at, row_of, row_at, is_size, size_of, object_cells}
 use Rattle.table.specs.Form.{length_right, is_number, sections_of, directory_right, object_right, variable_reads, statement_reads, lowest_from}
@@ -26,7 +27,8 @@ use Rattle.rules.specs.BoundsRules.{forget_end, forget_bounds, object_bounds, ro
 use Rattle.rules.specs.CallLaws.{none-formed}
 use Rattle.rules.specs.Stored.{effect, end_at_most, known_at_most, bounds_shown, unshown_from, unshown, access_shown, equated, positive, differs}
 use Rattle.rules.specs.Stored.{relation_facts, condition_facts, sum_facts, offset_facts, facts_after, dropped_each, loop_facts, bundle_bounds, bundle_faults}
-use Rattle.rules.specs.Stored.{block_faults, section_faults, faults, shift_constant, shift_end, shift_bounds, effect_on, bounds_after, bundle_after, block_after}
+use Rattle.rules.specs.Stored.{block_faults, section_faults, faults, shift_constant, shift_end, shift_bounds, effect_on, bounds_after, bundle_after}
+use Rattle.rules.specs.Stored.{block_after}
 use Rattle.rules.specs.FactRules.{among}
 use Rattle.rules.specs.Rules.{access_at, bounds_at, same_rows, rows_at}
 use Rattle.rules.specs.Verdict.{environment_of, verdict_of}
@@ -149,19 +151,30 @@ routines =
     []
 
 computed : map (λ (r : Routine). verdict_of (faults [] r.table [])) routines ≡ map (λ (r : Routine). r.verdict) routines
-unfolding routines concatenated least_sum shown within_end end_shown new_row new_set lowered_row lowered marked added own_row rerouted_row reassigned ranged dropped
-    shifted joined_sum joined_row joined tabulate length_right is_number four_pairs sections_of fourth_right directory_right object_right variable_reads row_reads
-    statement_reads lowest_from lowest_object lowest_variable lowest_row lowest_statement items_form form_of negation negated_of start_right in_limits is_variable kind_of
-    kind_at kind_is integer_at pointer_at array_at string_at object_terminated takes_pointer takes_object names_integer names_pointer names_array names_string names_index
-    fields_at unused_from literal_read add_constant_read arithmetic_read null_read address_read pointer_offset_read pointer_index_read load_read store_read same_kind
-    beside_literal condition_right right_of offset_of condition_of bundle_read declare_read check_read if_read while_read kind_read statement_at end_words_at variable_words_at
-    end_right end_zero end_of integer_record is_size size_of pointer_record variable_of variable_at row_words_at row_of row_at object_cells object_at biased word index_of
+unfolding routines concatenated least_sum shown within_end end_shown new_row new_set lowered_row lowered marked added own_row rerouted_row reassigned ranged
+    dropped
+    shifted joined_sum joined_row joined tabulate length_right is_number four_pairs sections_of fourth_right directory_right object_right variable_reads
+    row_reads
+    statement_reads lowest_from lowest_object lowest_variable lowest_row lowest_statement items_form form_of negation negated_of start_right in_limits
+    is_variable kind_of
+    kind_at kind_is integer_at pointer_at array_at string_at object_terminated takes_pointer takes_object names_integer names_pointer names_array names_string
+    names_index
+    fields_at unused_from literal_read add_constant_read arithmetic_read null_read address_read pointer_offset_read pointer_index_read load_read store_read
+    same_kind
+    beside_literal condition_right right_of offset_of condition_of bundle_read declare_read check_read if_read while_read kind_read statement_at end_words_at
+    variable_words_at
+    end_right end_zero end_of integer_record is_size size_of pointer_record variable_of variable_at row_words_at row_of row_at object_cells object_at biased
+    word index_of
     is_below literal_value is_constant also when contents bundle_layout block_layout layout verdict size simples parse tree targets assigned forget_end
-    weight shift_constant bounds_rules.shift_end forget_bounds bounds_rules.shift_bounds object_bounds upper_limit bounds_rules.effect_on bounds_rules.bounds_after row_bound
+    weight shift_constant bounds_rules.shift_end forget_bounds bounds_rules.shift_bounds object_bounds upper_limit bounds_rules.effect_on
+    bounds_rules.bounds_after row_bound
     rows_after bounds_rules.effect bounds_rules.end_at_most bounds_rules.known_at_most bounds_rules.bounds_shown bounds_rules.unshown_from bounds_rules.unshown
-    bounds_rules.row_unshown bounds_rules.access_shown fact_rules.equated fact_rules.positive fact_rules.differs fact_rules.relation_facts fact_rules.condition_facts
-    fact_rules.sum_facts fact_rules.offset_facts fact_rules.facts_after among fact_rules.dropped_each fact_rules.loop_facts access_at bounds_at same_rows rows_at
-    walk_rules.bundle_after walk_rules.bundle_bounds walk_rules.bundle_faults walk_rules.block_after walk_rules.block_faults environment_of verdict_rules.section_faults
+    bounds_rules.row_unshown bounds_rules.access_shown fact_rules.equated fact_rules.positive fact_rules.differs fact_rules.relation_facts
+    fact_rules.condition_facts
+    fact_rules.sum_facts fact_rules.offset_facts fact_rules.facts_after among fact_rules.dropped_each fact_rules.loop_facts access_at bounds_at same_rows
+    rows_at
+    walk_rules.bundle_after walk_rules.bundle_bounds walk_rules.bundle_faults walk_rules.block_after walk_rules.block_faults environment_of
+    verdict_rules.section_faults
     verdict_rules.faults verdict_of entry_at belongs entries_from entries_of list_faults lowest_entry fact_rules.entry_facts walk_rules.entries_unshown
 computed = refl
 

@@ -206,7 +206,8 @@ put_same T U right r f =
     same-objects (with_objects os U) T f right (put-objects os U w ∙ objects-long T right)
     (λ o l.
     let e : object_start (sections_of (with_objects os U)) o ≡ (sections_of U).start + o = omega (arith, put-start os U w) in
-    ap biased (ap (λ (i : ℕ). get_or (with_objects os U) i (pos 0)) e ∙ (put-object os U w o (omega (arith, l, objects-long T right)) ∙ object-word T right o l)))
+    ap biased (ap (λ (i : ℕ). get_or (with_objects os U) i (pos 0)) e
+    ∙ (put-object os U w o (omega (arith, l, objects-long T right)) ∙ object-word T right o l)))
 
 -- All routines of an accepted set have the objects of routine 0.
 pub members-same : (Ts : List (List ℤ)) → AllAccepted Ts → (n : ℕ) → n < length Ts → SameObjects (member_of Ts n) (member_of Ts 0)

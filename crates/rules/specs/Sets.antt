@@ -1,5 +1,6 @@
 -- A set of routines (document 02, point 14): "In a lent set of 1 to 8 routines, without loop facts". What its routines are, and the verdict on it.
-use Rattle.std.specs.Prelude.{ℕ, zero, suc, ◌+◌, ◌<◌, Bool, true, false, not, ◌&&◌, cond, List, [], ◌∷◌, ◌++◌, map, ◌≡◌, leb, eqb, ℤ, pos, negsuc, length, get_or, set, take, drop}
+use Rattle.std.specs.Prelude.{ℕ, zero, suc, ◌+◌, ◌<◌, Bool, true, false, not, ◌&&◌, cond, List, [], ◌∷◌, ◌++◌, map, ◌≡◌, leb, eqb, ℤ, pos, negsuc, length}
+use Rattle.std.specs.Prelude.{get_or, set, take, drop}
 use Rattle.answers.specs.declared.refusals.Refusal.{Refusal}
 use Rattle.answers.specs.declared.refusals.Refusal.TheVariants.{ObjectLength, RoutineCount}
 use Rattle.table.specs.Form.{sections_of, head_right}

@@ -180,7 +180,8 @@ module _ (W : List ℤ) (L : List ℕ) (accepted : AllAccepted (tables_in W L)) 
       go (yes e) =
           let q = member-first e in
           sections-made (sections_of M) (ap (λ (T : List ℤ). (sections_of T).start) q)
-          (ap (λ (T : List ℤ). (sections_of T).objects) q ∙ ap (λ (k : ℕ). (sections_of (lent_of W L k)).objects) e) (ap (λ (T : List ℤ). (sections_of T).variables) q)
+          (ap (λ (T : List ℤ). (sections_of T).objects) q ∙ ap (λ (k : ℕ). (sections_of (lent_of W L k)).objects) e)
+          (ap (λ (T : List ℤ). (sections_of T).variables) q)
           (ap (λ (T : List ℤ). (sections_of T).statements) q) (ap (λ (T : List ℤ). (sections_of T).rows) q)
       go (no z) =
           let q = member-later z in

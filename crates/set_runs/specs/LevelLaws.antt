@@ -144,8 +144,10 @@ module _ (W : List ℤ) (L D S : List ℕ) (n limit made : ℕ) (ends₀ vs₀ c
             (f _ _ (begins-there p.asks.callable n p.asks.known q x)).within
 
         -- or the routine goes on.
-        pub loops-on : {at' : ℕ} {ends' vs' : List ℕ} (called' : List ℕ) → get_or called' (count - 1) 0 ≡ get_or us (count - 1) 0 → room_of ends' n ≡ room_of ends n
-            → at' ≡ get_or S (2048 * n + 2 * a) 0 → vs' ≡ set vs site.result (get_or called' (count - 1) 0) → length ends' ≡ length ends → length vs' ≡ length vs
+        pub loops-on : {at' : ℕ} {ends' vs' : List ℕ} (called' : List ℕ) → get_or called' (count - 1) 0 ≡ get_or us (count - 1) 0 → room_of ends' n
+            ≡ room_of ends n
+            → at' ≡ get_or S (2048 * n + 2 * a) 0 → vs' ≡ set vs site.result (get_or called' (count - 1) 0) → length ends' ≡ length ends → length vs'
+            ≡ length vs
             → length ds ≡ length cs → Looping at' w ends' vs' ds
         loops-on called' last kept due given le lv lc = record {
           asks = p.asks;

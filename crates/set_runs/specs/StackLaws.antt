@@ -15,7 +15,8 @@ use Rattle.statements.specs.declared.StatementRead.{StatementRead}
 use Rattle.statements.specs.declared.StatementRead.TheVariants.{Read, Unread}
 use Rattle.rules.specs.Calls.{Routine}
 use Rattle.machine.specs.Machine.{Status, going, stopped, stuck, Point, next_point}
-use Rattle.machine.specs.SetMachine.{Frame, Stack, stack, is_going, table_of, sections_of, environment_of, result_of, has_ended, resumed, settled, waiting, begun}
+use Rattle.machine.specs.SetMachine.{Frame, Stack, stack, is_going, table_of, sections_of, environment_of, result_of, has_ended, resumed, settled, waiting}
+use Rattle.machine.specs.SetMachine.{begun}
 use Rattle.machine.specs.SetMachine.{own_step, stack_step, next_if, next_stack, stack_after}
 
 and-false : (b : Bool) → (b && false) ≡ false

@@ -78,7 +78,8 @@ module _ (Ts : List (List ℤ)) (n : ℕ) (g : AllFormed (before n (routines_of 
       go : (a b : Bool) → head_right (get_or Ts n []) ≡ b
           → verdict_of (cond a (ObjectLength 0 ∷ []) (cond b (faults (before n (routines_of Ts)) (member_of Ts n) []) (faults [] (get_or Ts n []) [])))
           ≡ verdict_of (cond a (ObjectLength 0 ∷ [])
-          (cond b (verdict_rules.faults (by_chains d) (before n (routines_of Ts)) (member_of Ts n) []) (verdict_rules.faults (by_chains d) [] (get_or Ts n []) [])))
+          (cond b (verdict_rules.faults (by_chains d) (before n (routines_of Ts)) (member_of Ts n) [])
+          (verdict_rules.faults (by_chains d) [] (get_or Ts n []) [])))
       go true b q = refl
       go false true q = same-verdict _ _ (faults-agree (before n (routines_of Ts)) g (member_of Ts n) [] d r)
       go false false q = ap verdict_of (sym (head-faults (by_chains d) (get_or Ts n []) q))

@@ -49,7 +49,8 @@ module _ (E : Environment) (L : List ℤ) (rs qs : List Routine)
         block_same r (sides_joined E (block_after E L t (assumed w c)) (block_after E L e (assumed w (negated_of c)))),
       ) refl
   block_same (loop a c t r) w =
-      rw (block_same t (assumed (at_head (entries_of L a) (assigned t) w) c), block_same r (assumed (at_head (entries_of L a) (assigned t) w) (negated_of c))) refl
+      rw (block_same t (assumed (at_head (entries_of L a) (assigned t) w) c), block_same r (assumed (at_head (entries_of L a) (assigned t) w) (negated_of c)))
+      refl
   block_same (bundle a ss r) w = rw (block_same r (bundle_after ss w)) refl
   block_same (call a c r) w = rw (same a c w.facts (declared_in E w), block_same r (called_state c w)) refl
   block_same (unread a) w = refl

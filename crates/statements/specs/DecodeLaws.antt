@@ -230,7 +230,8 @@ module _ (table : List ℤ) (h : Sections) (limits : Limits h) (f : Fields) (t :
       (λ e. let z : ◌≡◌ {A = ℕ} 0 1 = cc in absurd (omega arith))))))))))))))))
 
   kind-decoded : kind_read table h f ≡ Read t → decoded_as kind f ≡ t
-  unfolding kind_read decoded_as literal_read add_constant_read arithmetic_read null_read address_read pointer_offset_read pointer_index_read load_read store_read check_read
+  unfolding kind_read decoded_as literal_read add_constant_read arithmetic_read null_read address_read pointer_offset_read pointer_index_read load_read
+      store_read check_read
       if_read while_read bundle_read declare_read call_read
   kind-decoded =
       either-record (eqb kind 1) _ _ _ _ t (read_as (integer f.first && unused_from 3 f) _ _ t

@@ -79,7 +79,8 @@ module _ (a n p q : ℕ) (vs : List ℕ) where
       let g : value vs q ≡ value vs q + k - bias = omega arith in
       rw (eq-eqb k bias e) (record { said = refl; buffer = ap (set vs p) g })
 
-  pub assigns-offset : (k b : ℕ) (r : Step) (ws : List ℕ) → (k ≡ bias → ⊥) → b ≡ value vs q → Assigns (arithmetic_failing b (b + k)) a n p (b + k - bias) vs r ws
+  pub assigns-offset : (k b : ℕ) (r : Step) (ws : List ℕ) → (k ≡ bias → ⊥) → b ≡ value vs q
+      → Assigns (arithmetic_failing b (b + k)) a n p (b + k - bias) vs r ws
       →
       Assigns (offset_failing vs q k) a n p (value vs q + k - bias) vs r ws
   assigns-offset k b r ws ne e m = rw (ne_eqb k bias ne) (rw e at m)

@@ -95,7 +95,8 @@ changed_unless (fails n) old new = old
 unfoldable pub simple_move : List ℕ → List ℕ → Simple → ℕ → ℕ → List ℕ → List ℕ → Move
 simple_move W D s a next vs cs =
     let f = failing (declared_in W) vs s in
-    move (step_unless f a next) (changed_unless f W (ends_after s W)) (changed_unless f vs (values_after W D s vs cs)) (changed_unless f cs (cells_after W s vs cs))
+    move (step_unless f a next) (changed_unless f W (ends_after s W)) (changed_unless f vs (values_after W D s vs cs))
+    (changed_unless f cs (cells_after W s vs cs))
 
 unfoldable pub statement_move : List ℕ → List ℕ → Statement → ℕ → Successors → List ℕ → List ℕ → Move
 statement_move W D (Plain s) a n vs cs = simple_move W D s a n.next vs cs

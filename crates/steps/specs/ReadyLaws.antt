@@ -123,7 +123,8 @@ module _ (T : List ℤ) (h : Sections) (W S : List ℕ) (a : ℕ) (vs cs : List 
   ready-known s r e m = r.known m s (sym (read-decoded r.checked h a r.statement r.reads) ∙ (sym r.same ∙ e))
 
 -- The record of a statement that reads lies in the table.
-pub ready-start : {T : List ℤ} {h : Sections} {W D S vs cs : List ℕ} {a : ℕ} → Prepared T h W D S vs → Ready T h W S a vs cs → statement_start h a + 7 ≤ length T
+pub ready-start : {T : List ℤ} {h : Sections} {W D S vs cs : List ℕ} {a : ℕ} → Prepared T h W D S vs → Ready T h W S a vs cs
+    → statement_start h a + 7 ≤ length T
 ready-start {T} {h} {W} {D} {S} {vs} {cs} {a} p r =
     let l = read-limits r.checked h a r.statement r.reads in
     omega (arith, p.table, l.0.start, l.0.objects, l.0.variables, l.0.statements, l.1)

@@ -43,7 +43,8 @@ module _ (right : ℕ → Bool) where
   from-holds zero i h k l u = absurd (omega arith)
   from-holds (suc n) i h k l u = go (right i) refl h (λ g m. from-holds n (i + 1) g k m (omega arith))
     where
-      go : (b : Bool) → right i ≡ b → i + suc n ≤ cond b (lowest_from right (i + 1) n) i → (i + 1 + n ≤ lowest_from right (i + 1) n → i + 1 ≤ k → right k ≡ true)
+      go : (b : Bool) → right i ≡ b → i + suc n ≤ cond b (lowest_from right (i + 1) n) i
+          → (i + 1 + n ≤ lowest_from right (i + 1) n → i + 1 ≤ k → right k ≡ true)
           → right k ≡ true
       go true e g later =
           ⊎_elim (λ (s : i ≡ k). ap right (sym s) ∙ e) (λ (m : i < k). later (omega (arith, g)) (omega arith)) (eq-or-lt_of_le l)

@@ -120,7 +120,13 @@ module _ (R : Routines) (runs : Runs R) (quantum total : ℕ) where
     served-both l = go (R.waits r had) refl
       where
         go : (b : Bool) → R.waits r had ≡ b → sum (turn s r) + had ≡ sum s + get_or (turn s r) r 0
-        go true w = omega (arith, ap sum (served-waiting w), sum-set s r gets l, ap (λ (x : List ℕ). get_or x r 0) (served-waiting w), get_or-set_same s r gets 0 l)
+        go true w = omega (
+          arith,
+          ap sum (served-waiting w),
+          sum-set s r gets l,
+          ap (λ (x : List ℕ). get_or x r 0) (served-waiting w),
+          get_or-set_same s r gets 0 l,
+        )
         go false w = omega (arith, ap sum (served-ended w), ap (λ (x : List ℕ). get_or x r 0) (served-ended w))
 
     -- A turn in which nothing is received changes nothing.
@@ -281,7 +287,8 @@ module _ (R : Routines) (runs : Runs R) (quantum total : ℕ) where
       some-waits s zero = inl (λ r l. absurd (omega arith))
       some-waits s (suc m) = go (R.waits m (get_or s m 0)) refl (some-waits s m)
         where
-          last : R.waits m (get_or s m 0) ≡ false → ((r : ℕ) → r < m → R.waits r (get_or s r 0) ≡ false) → (r : ℕ) → r < suc m → R.waits r (get_or s r 0) ≡ false
+          last : R.waits m (get_or s m 0) ≡ false → ((r : ℕ) → r < m → R.waits r (get_or s r 0) ≡ false) → (r : ℕ) → r < suc m → R.waits r (get_or s r 0)
+              ≡ false
           last w h r l = by_order r m (λ u. h r u) (λ u. let e : r ≡ m = omega arith in rw e w)
 
           go : (b : Bool) → R.waits m (get_or s m 0) ≡ b

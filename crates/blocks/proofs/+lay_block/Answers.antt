@@ -35,10 +35,10 @@ returns-in_default t c = then-refused c.loop-left.invariant c.loop-left-test.tru
 
 pub overflow_add-depth-in-Blocks : goal.overflow_add-depth-in-Blocks
 overflow_add-depth-in-Blocks t c = omega (
-      arith,
-      shallow c.loop-left.invariant c.loop-left-test.true c.read_parts-parts.ensures
-          c.in-Blocks.is,
-    )
+  arith,
+  shallow c.loop-left.invariant c.loop-left-test.true c.read_parts-parts.ensures
+      c.in-Blocks.is,
+)
 
 pub lay_block-other-requires : goal.lay_block-other-requires
 lay_block-other-requires t c = (left-falls c.loop-left.invariant c.loop-left-test.true c.decreases, tt)

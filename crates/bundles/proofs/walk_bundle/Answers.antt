@@ -5,11 +5,13 @@ use native.Mathlib.Omega.{arith}
 use Rattle.statements.specs.declared.StatementRead.TheVariants.{Read}
 use Rattle.statements.specs.StatementLaws.{read-within, read-limits}
 use Rattle.effects.specs.FactRulesLaws.{carried-out, read-ranged}
-use Rattle.bundles.specs.BundleLaws.{held_none, held-done, held-unread, held-other, held-access, held_more, access-asked, nothing-asked-of, applied-facts, applied-effect, applied-short, held-missed, held-row, measured-by, row-limits}
+use Rattle.bundles.specs.BundleLaws.{held_none, held-done, held-unread, held-other, held-access, held_more, access-asked, nothing-asked-of, applied-facts}
+use Rattle.bundles.specs.BundleLaws.{applied-effect, applied-short, held-missed, held-row, measured-by, row-limits}
 use Rattle.reports.specs.declared.Report.{Report}
 use Rattle.rules.specs.Verdict.{environment_of}
 use Rattle.bundles.proofs.walk_bundle.Goals as goal
-use Rattle.bundles.proofs.walk_bundle.Goals.{else-is_access, else-loop-left-test, then-is_access+else-not-access_shown, then-loop-left-test+in-Read+in_default-statement, then-loop-left-test+in_default}
+use Rattle.bundles.proofs.walk_bundle.Goals.{else-is_access, else-loop-left-test, then-is_access+else-not-access_shown}
+use Rattle.bundles.proofs.walk_bundle.Goals.{then-loop-left-test+in-Read+in_default-statement, then-loop-left-test+in_default}
 
 pub loop-left-init : goal.loop-left-init
 loop-left-init c = held_none _ _ _ _ _ _ _ _ c.requires.3.seen refl
@@ -128,10 +130,12 @@ loop-left-preserved c = held_more c.loop-left.invariant
     (sym c.declares_of-declares.ensures
     ∙ c.in-NoRow.is)
     (elim c.if-is_access.branch [
-      then-is_access+else-not-access_shown w ↦ access-asked _ _ _ _ _ _ w.access_shown.ensures (not-false _ w.if-not-access_shown.false-raw) w.access_safe-safe.ensures
-    (ap (λ (r : Report). r.words) w.report-is ∙ w.mark_if-report.ensures)
+      | then-is_access+else-not-access_shown w ↦ access-asked _ _ _ _ _ _ w.access_shown.ensures (not-false _ w.if-not-access_shown.false-raw)
+          w.access_safe-safe.ensures
+          (ap (λ (r : Report). r.words) w.report-is ∙ w.mark_if-report.ensures)
       | else-is_access w ↦ nothing-asked-of _ _ _ _ _ _ c.is_access.ensures w.if-is_access.false
-    (ap (λ (r : Report). r.words) w.report-is) ])
+          (ap (λ (r : Report). r.words) w.report-is)
+    ])
     (applied-facts (environment_of
     c.args.table.now
     c.args.sections) _ _
@@ -147,6 +151,9 @@ loop-left-preserved c = held_more c.loop-left.invariant
 
 pub returns : goal.returns
 returns c = elim c.loop-left-test.branch [
-      else-loop-left-test w ↦ held-done c.loop-left.invariant w.loop-left-test.false c.end_bundle.ensures
-      | then-loop-left-test+in_default w ↦ held-unread c.loop-left.invariant w.loop-left-test.true (sym w.read_due-got.ensures ∙ w.in_default.is) c.end_bundle.ensures
-      | then-loop-left-test+in-Read+in_default-statement w ↦ held-other c.loop-left.invariant w.loop-left-test.true (sym w.read_due-got.ensures ∙ w.in-Read.is) w.in_default-statement.not-Plain c.end_bundle.ensures ]
+  | else-loop-left-test w ↦ held-done c.loop-left.invariant w.loop-left-test.false c.end_bundle.ensures
+  | then-loop-left-test+in_default w ↦ held-unread c.loop-left.invariant w.loop-left-test.true (sym w.read_due-got.ensures ∙ w.in_default.is)
+      c.end_bundle.ensures
+  | then-loop-left-test+in-Read+in_default-statement w ↦ held-other c.loop-left.invariant w.loop-left-test.true
+      (sym w.read_due-got.ensures ∙ w.in-Read.is) w.in_default-statement.not-Plain c.end_bundle.ensures
+]

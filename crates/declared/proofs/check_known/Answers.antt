@@ -30,7 +30,8 @@ loop-p-preserved c = passed-more c.loop-p.invariant c.loop-p-test.true
     (elim c.if-environment-p.branch [
       | then-environment-p+else-not-bounds_shown w ↦ asked-shown _ _ _ _ (search (length-under, rules)) (own-known (goal.at.loop-p-preserved c).After-own-1)
           w.bounds_shown.ensures w.if-not-bounds_shown.false-raw
-      | else-environment-p w ↦ unasked _ _ _ _ (search (length-under, rules)) (own-known (goal.at.loop-p-preserved c).After-own-1) c.same_bounds.ensures w.if-environment-p.false
+      | else-environment-p w ↦ unasked _ _ _ _ (search (length-under, rules)) (own-known (goal.at.loop-p-preserved c).After-own-1) c.same_bounds.ensures
+          w.if-environment-p.false
     ])
 
 pub returns : goal.returns

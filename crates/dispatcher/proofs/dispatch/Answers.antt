@@ -7,7 +7,8 @@ use Rattle.dispatcher.specs.DispatchLaws.{was-false, was-true, room-is, room_cut
 use Rattle.dispatcher.proofs.dispatch.Goals as goal
 
 pub returns-then-not-room_right : goal.returns-then-not-room_right
-returns-then-not-room_right c = answers-no-room _ _ _ _ _ _ _ (sym (room-is _ _ _ c.room_right.ensures) ∙ was-false _ c.if-not-room_right.true-raw) c.only.ensures
+returns-then-not-room_right c = answers-no-room _ _ _ _ _ _ _ (sym (room-is _ _ _ c.room_right.ensures) ∙ was-false _ c.if-not-room_right.true-raw)
+    c.only.ensures
 
 pub returns-then-not-count_right : goal.returns-then-not-count_right
 returns-then-not-count_right c = answers-count _ _ _ _ _ _ _

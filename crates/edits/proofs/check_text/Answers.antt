@@ -9,7 +9,16 @@ use Rattle.edits.specs.EditLaws.{text-made}
 use Rattle.edits.proofs.check_text.Goals as goal
 
 pub slice_bounds-judge_text-end : goal.slice_bounds-judge_text-end
-slice_bounds-judge_text-end c = simp length-take (omega (arith, c.fill_edited.ensures.long, c.requires.few, c.requires.sizes.objects, c.requires.sizes.variables, c.requires.sizes.start, c.requires.sizes.rows))
+slice_bounds-judge_text-end c = simp length-take
+    (omega (
+      arith,
+      c.fill_edited.ensures.long,
+      c.requires.few,
+      c.requires.sizes.objects,
+      c.requires.sizes.variables,
+      c.requires.sizes.start,
+      c.requires.sizes.rows,
+    ))
 
 pub judge_text-requires : goal.judge_text-requires
 judge_text-requires c = rw c.edited_sections-alone.ensures (omega (arith, c.requires.few))
@@ -17,5 +26,6 @@ judge_text-requires c = rw c.edited_sections-alone.ensures (omega (arith, c.requ
 pub returns : goal.returns
 returns c = c.judge_text.ensures
     ∙ ap₂ (λ (U : List ℤ) (g : Sections). text_of U g (length c.args.text.now))
-    (text-made _ _ _ _ _ c.fill_edited.ensures (omega arith) (omega (arith, c.requires.few, c.requires.sizes.objects, c.requires.sizes.variables, c.requires.sizes.start, c.requires.sizes.rows)))
+    (text-made _ _ _ _ _ c.fill_edited.ensures (omega arith)
+    (omega (arith, c.requires.few, c.requires.sizes.objects, c.requires.sizes.variables, c.requires.sizes.start, c.requires.sizes.rows)))
     c.edited_sections-alone.ensures

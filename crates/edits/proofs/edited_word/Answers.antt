@@ -9,7 +9,8 @@ returns-then-i-eq5 c = to_z-of_z {w = w32} {z = c.number_word.result} (record { 
     ∙ word-five _ _ _ _ _ _ _ c.if-i-eq5.true
 
 pub returns-then-i-sections : goal.returns-then-i-sections
-returns-then-i-sections c = to_z-of_z {w = w32} {z = c.number_word-then-i-sections.result} (record { sfits = c.number_word-then-i-sections.type_inv }) ∙ c.number_word-then-i-sections.ensures
+returns-then-i-sections c = to_z-of_z {w = w32} {z = c.number_word-then-i-sections.result} (record { sfits = c.number_word-then-i-sections.type_inv })
+    ∙ c.number_word-then-i-sections.ensures
     ∙ word-six _ _ _ _ _ _ _ c.if-i-eq5.false c.if-i-sections.true
 
 pub returns-then-i-start : goal.returns-then-i-start
@@ -17,7 +18,8 @@ returns-then-i-start c = to_z-of_z {w = w32} {z = c.signed_word.result} (record 
     ∙ word-before _ _ _ _ _ _ _ c.if-i-eq5.false c.if-i-sections.false c.if-i-start.true
 
 pub returns-then-i-first : goal.returns-then-i-first
-returns-then-i-first c = to_z-of_z {w = w32} {z = c.signed_word-then-i-first.result} (record { sfits = c.signed_word-then-i-first.type_inv }) ∙ c.signed_word-then-i-first.ensures
+returns-then-i-first c = to_z-of_z {w = w32} {z = c.signed_word-then-i-first.result} (record { sfits = c.signed_word-then-i-first.type_inv })
+    ∙ c.signed_word-then-i-first.ensures
     ∙ word-new _ _ _ _ _ _ _ c.if-i-eq5.false c.if-i-sections.false
     c.if-i-start.false c.if-i-first.true
 

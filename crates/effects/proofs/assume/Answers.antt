@@ -20,5 +20,6 @@ pub returns-in-4 : goal.returns-in-4
 returns-in-4 c = λ f. condition-equal _ f _ c.in-4.is refl (makes_both c.adding.ensures f)
 
 pub returns-in_default : goal.returns-in_default
-returns-in_default c = λ f. condition-differs _ f _ c.in_default.in_default-own.rest.0.0.0.0.1 c.in_default.in_default-own.rest.0.0.0.1 c.in_default.in_default-own.rest.0.0.1 c.in_default.in_default-own.rest.0.1 c.in_default.in_default-own.rest.1 _ _
+returns-in_default c = λ f. condition-differs _ f _ c.in_default.in_default-own.rest.0.0.0.0.1 c.in_default.in_default-own.rest.0.0.0.1
+    c.in_default.in_default-own.rest.0.0.1 c.in_default.in_default-own.rest.0.1 c.in_default.in_default-own.rest.1 _ _
     c.fact_if.ensures c.fact_if-in_default.ensures (makes_both c.adding-in_default.ensures f)

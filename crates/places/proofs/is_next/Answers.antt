@@ -13,4 +13,5 @@ position_at-requires c = place-within c.args.store.now (c.place_count-count.resu
     (omega (arith, count-within c.args.store.now, c.place_count-count.ensures, pos_of_ne-zero c.if-count-eq0.false))
 
 pub returns : goal.returns
-returns c = rw c.position_at.ensures (next-behind _ _ _ (ap (λ (n : ℕ). n - 1) c.place_count-count.ensures) (λ z. c.if-count-eq0.false (c.place_count-count.ensures ∙ z)))
+returns c = rw c.position_at.ensures (next-behind _ _ _ (ap (λ (n : ℕ). n - 1) c.place_count-count.ensures)
+    (λ z. c.if-count-eq0.false (c.place_count-count.ensures ∙ z)))

@@ -1,7 +1,8 @@
 -- `steps::advance` meets its contract.
 use mathlib.Core.Path.{sym, ◌∙◌}
 use native.Mathlib.Omega.{arith}
-use Rattle.steps.specs.ReadyLaws.{ready-below, ready-start, ready-simple, ready-known, ready-if, ready-while, bare-plain, bare-if, bare-while, bare-bundle, bare-call}
+use Rattle.steps.specs.ReadyLaws.{ready-below, ready-start, ready-simple, ready-known, ready-if, ready-while, bare-plain, bare-if, bare-while, bare-bundle}
+use Rattle.steps.specs.ReadyLaws.{bare-call}
 use Rattle.steps.proofs.advance.Goals as goal
 
 pub overflow_mul-at : goal.overflow_mul-at

@@ -8,7 +8,8 @@ use Rattle.statements.specs.StatementLaws.{read-counts-if, read-counts-while, re
 use Rattle.blocks.specs.Tree.{parse}
 use Rattle.blocks.specs.Flow.{flow}
 use Rattle.blocks.specs.Written.{written}
-use Rattle.blocks.specs.FlowLaws.{Turn, arm, placed, falls as left-falls, room-put, room-if, room-bundle, link-none, link-end, link-unread, link-plain, link-call, link-if, link-while, link-bundle}
+use Rattle.blocks.specs.FlowLaws.{Turn, arm, placed, falls as left-falls, room-put, room-if, room-bundle, link-none, link-end, link-unread, link-plain}
+use Rattle.blocks.specs.FlowLaws.{link-call, link-if, link-while, link-bundle}
 use Rattle.blocks.proofs.flow.+link_block.Goals as goal
 use Rattle.blocks.proofs.flow.+link_block.Goals.{In-Read}
 
@@ -64,45 +65,45 @@ loop-left-preserved-in-Plain t c = link-plain (arm (turn t (goal.at.loop-left-pr
 
 pub overflow_add-middle : goal.overflow_add-middle
 overflow_add-middle t c = let u = arm (turn t (goal.at.overflow_add-middle t c).In-Read) c.in-If.is in omega (
-      arith,
-      (placed u).0,
-      u.room,
-      read-counts-if _ _ _ _ _ _ u.read,
-      c.well_formed,
-    )
+  arith,
+  (placed u).0,
+  u.room,
+  read-counts-if _ _ _ _ _ _ u.read,
+  c.well_formed,
+)
 
 pub overflow_add-rest : goal.overflow_add-rest
 overflow_add-rest t c = let u = arm (turn t (goal.at.overflow_add-rest t c).In-Read) c.in-If.is in omega (
-      arith,
-      (placed u).0,
-      u.room,
-      read-counts-if _ _ _ _ _ _ u.read,
-      c.well_formed,
-    )
+  arith,
+  (placed u).0,
+  u.room,
+  read-counts-if _ _ _ _ _ _ u.read,
+  c.well_formed,
+)
 
 pub put_successors-requires-in-If : goal.put_successors-requires-in-If
 put_successors-requires-in-If t c = (placed (turn t (goal.at.put_successors-requires-in-If t c).In-Read)).1
 
 pub link_block-requires : goal.link_block-requires
 link_block-requires t c = let u = turn t (goal.at.link_block-requires t c).In-Read in (
-      left-falls u c.decreases,
-      room-put u _ c.put_successors-in-If.ensures,
-    )
+  left-falls u c.decreases,
+  room-put u _ c.put_successors-in-If.ensures,
+)
 
 pub link_block-requires-in-If : goal.link_block-requires-in-If
 link_block-requires-in-If t c = let u = turn t (goal.at.link_block-requires-in-If t c).In-Read in (
-      left-falls u c.decreases,
-      room-if (arm u c.in-If.is) _ _ _
-          c.put_successors-in-If.ensures c.link_block.ensures,
-    )
+  left-falls u c.decreases,
+  room-if (arm u c.in-If.is) _ _ _
+      c.put_successors-in-If.ensures c.link_block.ensures,
+)
 
 pub loop-left-smaller-in-If : goal.loop-left-smaller-in-If
 loop-left-smaller-in-If t c = omega (
-      arith,
-      (turn t
-          (goal.at.loop-left-smaller-in-If t c).In-Read
-          ).some,
-    )
+  arith,
+  (turn t
+      (goal.at.loop-left-smaller-in-If t c).In-Read
+      ).some,
+)
 
 pub loop-left-preserved-in-If : goal.loop-left-preserved-in-If
 loop-left-preserved-in-If t c = link-if (arm (turn t
@@ -116,21 +117,21 @@ loop-left-preserved-in-If t c = link-if (arm (turn t
 
 pub overflow_add-rest-in-While : goal.overflow_add-rest-in-While
 overflow_add-rest-in-While t c = let u = arm (turn t (goal.at.overflow_add-rest-in-While t c).In-Read) c.in-While.is in omega (
-      arith,
-      (placed u).0,
-      u.room,
-      read-counts-while _ _ _ _ _ u.read,
-      c.well_formed,
-    )
+  arith,
+  (placed u).0,
+  u.room,
+  read-counts-while _ _ _ _ _ u.read,
+  c.well_formed,
+)
 
 pub put_successors-requires-in-While : goal.put_successors-requires-in-While
 put_successors-requires-in-While t c = (placed (turn t (goal.at.put_successors-requires-in-While t c).In-Read)).1
 
 pub link_block-requires-in-While : goal.link_block-requires-in-While
 link_block-requires-in-While t c = let u = turn t (goal.at.link_block-requires-in-While t c).In-Read in (
-      left-falls u c.decreases,
-      room-put u _ c.put_successors-in-While.ensures,
-    )
+  left-falls u c.decreases,
+  room-put u _ c.put_successors-in-While.ensures,
+)
 
 pub loop-left-smaller-in-While : goal.loop-left-smaller-in-While
 loop-left-smaller-in-While t c = omega (arith, (turn t (goal.at.loop-left-smaller-in-While t c).In-Read).some)
@@ -145,12 +146,12 @@ loop-left-preserved-in-While t c = link-while (arm (turn t (goal.at.loop-left-pr
 
 pub overflow_add-rest-in-Bundle : goal.overflow_add-rest-in-Bundle
 overflow_add-rest-in-Bundle t c = let u = arm (turn t (goal.at.overflow_add-rest-in-Bundle t c).In-Read) c.in-Bundle.is in omega (
-      arith,
-      (placed u).0,
-      u.room,
-      read-counts-bundle _ _ _ _ u.read,
-      c.well_formed,
-    )
+  arith,
+  (placed u).0,
+  u.room,
+  read-counts-bundle _ _ _ _ u.read,
+  c.well_formed,
+)
 
 pub put_successors-requires-in-Bundle : goal.put_successors-requires-in-Bundle
 put_successors-requires-in-Bundle t c = (placed (turn t (goal.at.put_successors-requires-in-Bundle t c).In-Read)).1

@@ -13,20 +13,20 @@ overflow_add-at c = omega (arith, c.requires, c.well_formed, c.loop-left.invaria
 
 pub put_successors-requires : goal.put_successors-requires
 put_successors-requires c = omega (
-      arith,
-      c.requires,
-      c.loop-left.invariant.1,
-      c.loop-left.invariant.2,
-      c.loop-left-test.true,
-    )
+  arith,
+  c.requires,
+  c.loop-left.invariant.1,
+  c.loop-left.invariant.2,
+  c.loop-left-test.true,
+)
 
 pub loop-left-preserved : goal.loop-left-preserved
 loop-left-preserved c = (
-      c.loop-left.invariant.0 ∙ line-some _ _ _ _ _ _ c.loop-left-test.true
-          c.first_simple-next.ensures c.put_successors.ensures,
-      omega arith,
-      ap length c.put_successors.ensures ∙ (length-put _ _ ∙ c.loop-left.invariant.2),
-    )
+  c.loop-left.invariant.0 ∙ line-some _ _ _ _ _ _ c.loop-left-test.true
+      c.first_simple-next.ensures c.put_successors.ensures,
+  omega arith,
+  ap length c.put_successors.ensures ∙ (length-put _ _ ∙ c.loop-left.invariant.2),
+)
 
 pub returns : goal.returns
 returns c = sym (c.loop-left.invariant.0 ∙ line-none _ _ _ _ c.loop-left-test.false)

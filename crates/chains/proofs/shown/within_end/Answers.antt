@@ -54,22 +54,26 @@ overflow_add-result c = let r : InRangeEnd c.args.size c.args.a c.args.b c.args.
 
 pub overflow_add-result-then-size-a : goal.overflow_add-result-then-size-a
 unfolding within_end
-overflow_add-result-then-size-a c = let r : InRangeEnd c.args.size c.args.a c.args.b c.args.k c.args.j = within-range c.args.size c.args.a c.args.b c.args.k c.args.j
+overflow_add-result-then-size-a c = let r : InRangeEnd c.args.size c.args.a c.args.b c.args.k c.args.j = within-range c.args.size c.args.a c.args.b c.args.k
+    c.args.j
     c.if-size-a.true in search rules
 
 pub overflow_add-result-then-size-a-2 : goal.overflow_add-result-then-size-a-2
 unfolding within_end
-overflow_add-result-then-size-a-2 c = let r : InRangeEnd c.args.size c.args.a c.args.b c.args.k c.args.j = within-range c.args.size c.args.a c.args.b c.args.k c.args.j
+overflow_add-result-then-size-a-2 c = let r : InRangeEnd c.args.size c.args.a c.args.b c.args.k c.args.j = within-range c.args.size c.args.a c.args.b c.args.k
+    c.args.j
     c.if-size-a.true in search rules
 
 pub overflow_mul-result-then-size-a : goal.overflow_mul-result-then-size-a
 unfolding within_end
-overflow_mul-result-then-size-a c = let r : InRangeEnd c.args.size c.args.a c.args.b c.args.k c.args.j = within-range c.args.size c.args.a c.args.b c.args.k c.args.j
+overflow_mul-result-then-size-a c = let r : InRangeEnd c.args.size c.args.a c.args.b c.args.k c.args.j = within-range c.args.size c.args.a c.args.b c.args.k
+    c.args.j
     c.if-size-a.true in search rules
 
 pub overflow_add-result-then-size-a-3 : goal.overflow_add-result-then-size-a-3
 unfolding within_end
-overflow_add-result-then-size-a-3 c = let r : InRangeEnd c.args.size c.args.a c.args.b c.args.k c.args.j = within-range c.args.size c.args.a c.args.b c.args.k c.args.j
+overflow_add-result-then-size-a-3 c = let r : InRangeEnd c.args.size c.args.a c.args.b c.args.k c.args.j = within-range c.args.size c.args.a c.args.b c.args.k
+    c.args.j
     c.if-size-a.true in search rules
 
 pub returns-then-size-a : goal.returns-then-size-a

@@ -8,14 +8,18 @@ use Rattle.rules.specs.Verdict.{environment_of}
 use Rattle.effects.specs.FactRulesLaws.{assumed, negated-asked}
 use Rattle.bundles.specs.BundleLaws.{applied-short, measured-by, marked-safe, unmarked}
 use Rattle.bundles.specs.declared.Walked.{Walked}
-use Rattle.checker.specs.WalkLaws.{Turn, carried_from, arm, placed, falls as left-falls, negated-offset, if-counts, while-count, bundle-count, if-offset, while-offset, plain-ranged, kept-none, kept-done, kept-end, kept-unread, plain-refused}
+use Rattle.checker.specs.WalkLaws.{Turn, carried_from, arm, placed, falls as left-falls, negated-offset, if-counts, while-count, bundle-count, if-offset}
+use Rattle.checker.specs.WalkLaws.{while-offset, plain-ranged, kept-none, kept-done, kept-end, kept-unread, plain-refused}
 use Rattle.checker.specs.PlaceLaws.{then-placed, else-placed, body-placed}
-use Rattle.checker.specs.WalkLaws.{turn-plain, turn-untouched, at-node, then-refused, else-refused, turn-if, body_refused, turn-while, bundle-refused, turn-bundle, row-named-within, same-force, row-refused, turn-row, sides-differ, ends-differ, before-refused, again-refused, call-refused}
+use Rattle.checker.specs.WalkLaws.{turn-plain, turn-untouched, at-node, then-refused, else-refused, turn-if, body_refused, turn-while, bundle-refused}
+use Rattle.checker.specs.WalkLaws.{turn-bundle, row-named-within, same-force, row-refused, turn-row, sides-differ, ends-differ, before-refused, again-refused}
+use Rattle.checker.specs.WalkLaws.{call-refused}
 use Rattle.checker.specs.WalkLaws.{turn-call, empty-walks, settled, settled-walks, no-entries}
 use Rattle.declared.specs.Force.{state_of}
 use Rattle.declared.specs.Callee.{callees_in}
 use Rattle.checker.proofs.walk.+walk.Goals as goal
-use Rattle.checker.proofs.walk.+walk.Goals.{else-inner-middle, else-is_access, else-listed-gt0, else-loop-left-test, else-middle-rest, then-inner-middle, then-is_access, then-listed-gt0, then-loop-left-test+then-at-end, then-middle-rest+in-Accepted-other_verdict}
+use Rattle.checker.proofs.walk.+walk.Goals.{else-inner-middle, else-is_access, else-listed-gt0, else-loop-left-test, else-middle-rest, then-inner-middle}
+use Rattle.checker.proofs.walk.+walk.Goals.{then-is_access, then-listed-gt0, then-loop-left-test+then-at-end, then-middle-rest+in-Accepted-other_verdict}
 use Rattle.checker.proofs.walk.+walk.Goals.{In-Read, Joined-is_access}
 
 -- the turn, once its statement is read
@@ -451,7 +455,8 @@ loop-left-preserved-in-While t c = turn-while (arm
     c.answer-head.ensures c.assume-in-While-2.ensures c.after-now-in-While.ensures)
 
 pub overflow_add-rest-in-Bundle : goal.overflow_add-rest-in-Bundle
-overflow_add-rest-in-Bundle t c = let u = (arm (turn t (goal.at.overflow_add-rest-in-Bundle t c).In-Read) c.in-Bundle.is) in omega (arith, placed u, bundle-count u)
+overflow_add-rest-in-Bundle t c = let u = (arm (turn t (goal.at.overflow_add-rest-in-Bundle t c).In-Read) c.in-Bundle.is)
+    in omega (arith, placed u, bundle-count u)
 
 pub walk_bundle-now-requires : goal.walk_bundle-now-requires
 walk_bundle-now-requires t c = (

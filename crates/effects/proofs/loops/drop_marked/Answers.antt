@@ -14,8 +14,9 @@ loop-v-init c = (dropped-none _ _, search rules)
 pub loop-v-preserved : goal.loop-v-preserved
 loop-v-preserved c = (
   elim c.if-marks-v.branch [
-      then-marks-v w ↦ drop-marked _ _ _ c.loop-v.invariant.0 w.if-marks-v.true (drop-made _ w.after-facts.ensures w.ranging.ensures) w.facts-is
-      | else-marks-v w ↦ drop-unmarked _ _ _ c.loop-v.invariant.0 w.if-marks-v.false w.facts-is ],
+    | then-marks-v w ↦ drop-marked _ _ _ c.loop-v.invariant.0 w.if-marks-v.true (drop-made _ w.after-facts.ensures w.ranging.ensures) w.facts-is
+    | else-marks-v w ↦ drop-unmarked _ _ _ c.loop-v.invariant.0 w.if-marks-v.false w.facts-is
+  ],
   search rules,
 )
 

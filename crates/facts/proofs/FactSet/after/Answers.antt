@@ -19,7 +19,11 @@ use Rattle.facts.specs.StoreLoops.{long-anew, anew-none, anew-nowhere, lowering-
 use Rattle.facts.specs.Grid.{set_with, loading-none, loading-more, loading-set, loading-long, rerouting-none, rerouting-more, rerouting-done}
 use Rattle.facts.specs.Grid.{grid-falls, grid-stays, grid-known, grid-closed, grid-lowered, stored}
 use Rattle.facts.proofs.FactSet.after.Goals as goal
-use Rattle.facts.proofs.FactSet.after.Goals.{After-facts-1, else-start-sums, else-target-lt16, else-x-lt17, then-start-sums, then-target-lt16+else-base-lt17, then-target-lt16+then-base-lt17+else-loop-i-then-base-lt17-test, then-x-lt17+else-y-lt17, then-x-lt17+then-y-lt17+else-not-mark, then-x-lt17+then-y-lt17+then-not-mark+else-k-sums, then-x-lt17+then-y-lt17+then-not-mark+then-k-sums+else-concat-lt-BIAS+else-loop-i-else-concat-lt-BIAS-test, then-x-lt17+then-y-lt17+then-not-mark+then-k-sums+then-concat-lt-BIAS}
+use Rattle.facts.proofs.FactSet.after.Goals.{After-facts-1, else-start-sums, else-target-lt16, else-x-lt17, then-start-sums, then-target-lt16+else-base-lt17}
+use Rattle.facts.proofs.FactSet.after.Goals.{then-target-lt16+then-base-lt17+else-loop-i-then-base-lt17-test, then-x-lt17+else-y-lt17}
+use Rattle.facts.proofs.FactSet.after.Goals.{then-x-lt17+then-y-lt17+else-not-mark, then-x-lt17+then-y-lt17+then-not-mark+else-k-sums}
+use Rattle.facts.proofs.FactSet.after.Goals.{then-x-lt17+then-y-lt17+then-not-mark+then-k-sums+else-concat-lt-BIAS+else-loop-i-else-concat-lt-BIAS-test}
+use Rattle.facts.proofs.FactSet.after.Goals.{then-x-lt17+then-y-lt17+then-not-mark+then-k-sums+then-concat-lt-BIAS}
 
 -- The set before the facts are added.
 remade : (c : After-facts-1) → let was = c.args.self in let to = c.args.change in
@@ -27,10 +31,13 @@ remade : (c : After-facts-1) → let was = c.args.self in let to = c.args.change
 remade c =
     let was = c.args.self in
     let to = c.args.change in
-    let same : set_with c.loop-i.sums was.contradiction ≡ was = loading-set _ _ c.loop-i.sums c.loop-i.invariant c.loop-i-test.false (search (length-under, rules)) in
+    let same : set_with c.loop-i.sums was.contradiction
+    ≡ was = loading-set _ _ c.loop-i.sums c.loop-i.invariant c.loop-i-test.false (search (length-under, rules)) in
     (elim c.if-target-lt16.branch [
-      | then-target-lt16+then-base-lt17+else-loop-i-then-base-lt17-test w ↦ rerouting-done _ _ _ _ _ _ w.loop-i-then-base-lt17.invariant to.up w.loop-i-then-base-lt17-test.false w.if-target-lt16.true w.if-base-lt17.true w.own_sums-own.ensures w.sums-is
-      | then-target-lt16+else-base-lt17 w ↦ anew-nowhere _ _ _ _ _ w.if-target-lt16.true w.if-base-lt17.false (ap (λ (t : List (List ℕ)). set_with t was.contradiction) w.sums-is)
+      | then-target-lt16+then-base-lt17+else-loop-i-then-base-lt17-test w ↦ rerouting-done _ _ _ _ _ _ w.loop-i-then-base-lt17.invariant to.up
+          w.loop-i-then-base-lt17-test.false w.if-target-lt16.true w.if-base-lt17.true w.own_sums-own.ensures w.sums-is
+      | then-target-lt16+else-base-lt17 w ↦ anew-nowhere _ _ _ _ _ w.if-target-lt16.true w.if-base-lt17.false
+          (ap (λ (t : List (List ℕ)). set_with t was.contradiction) w.sums-is)
       | else-target-lt16 w ↦ anew-none _ _ _ _ _ w.if-target-lt16.false (ap (λ (t : List (List ℕ)). set_with t was.contradiction) w.sums-is)
     ])
     ∙ ap (λ (f : FactSet). anew f to.target to.base to.up to.down) same
@@ -214,8 +221,10 @@ loop-i-else-concat-lt-BIAS-smaller c = falls 17 _ c.loop-i-else-concat-lt-BIAS-t
 
 pub loop-i-else-concat-lt-BIAS-preserved : goal.loop-i-else-concat-lt-BIAS-preserved
 loop-i-else-concat-lt-BIAS-preserved c = elim c.if-start-sums.branch [
-  | then-start-sums w ↦ grid-falls _ _ _ _ _ c.loop-i-else-concat-lt-BIAS.sums _ c.loop-i-else-concat-lt-BIAS.invariant c.loop-i-else-concat-lt-BIAS-test.true c.concat-start.ensures w.if-start-sums.true w.lowered_sums.ensures w.sums-is
-  | else-start-sums w ↦ grid-stays _ _ _ _ _ c.loop-i-else-concat-lt-BIAS.sums _ c.loop-i-else-concat-lt-BIAS.invariant c.loop-i-else-concat-lt-BIAS-test.true c.concat-start.ensures w.if-start-sums.false w.sums-is
+  | then-start-sums w ↦ grid-falls _ _ _ _ _ c.loop-i-else-concat-lt-BIAS.sums _ c.loop-i-else-concat-lt-BIAS.invariant c.loop-i-else-concat-lt-BIAS-test.true
+      c.concat-start.ensures w.if-start-sums.true w.lowered_sums.ensures w.sums-is
+  | else-start-sums w ↦ grid-stays _ _ _ _ _ c.loop-i-else-concat-lt-BIAS.sums _ c.loop-i-else-concat-lt-BIAS.invariant c.loop-i-else-concat-lt-BIAS-test.true
+      c.concat-start.ensures w.if-start-sums.false w.sums-is
 ]
 
 pub overflow_step-n : goal.overflow_step-n
@@ -227,12 +236,17 @@ loop-n-smaller c = falls 3 _ c.loop-n-test.true
 pub loop-n-preserved : goal.loop-n-preserved
 loop-n-preserved c = told_more c.loop-n.invariant c.loop-n-test.true
     (elim c.if-x-lt17.branch [
-      | then-x-lt17+then-y-lt17+then-not-mark+then-k-sums+then-concat-lt-BIAS w ↦ grid-closed c.loop-n.sums c.loop-n.mark _ _ _ w.if-x-lt17.true w.if-y-lt17.true w.if-not-mark.true-raw w.if-k-sums.true w.concat-then-k-sums.ensures w.if-concat-lt-BIAS.true
+      | then-x-lt17+then-y-lt17+then-not-mark+then-k-sums+then-concat-lt-BIAS w ↦ grid-closed c.loop-n.sums c.loop-n.mark _ _ _ w.if-x-lt17.true
+          w.if-y-lt17.true w.if-not-mark.true-raw w.if-k-sums.true w.concat-then-k-sums.ensures w.if-concat-lt-BIAS.true
           (ap₂ set_with w.sums-is w.mark-is)
-      | then-x-lt17+then-y-lt17+then-not-mark+then-k-sums+else-concat-lt-BIAS+else-loop-i-else-concat-lt-BIAS-test w ↦ grid-lowered c.loop-n.sums c.loop-n.mark _ _ _ w.if-x-lt17.true w.if-y-lt17.true w.if-not-mark.true-raw w.if-k-sums.true w.concat-then-k-sums.ensures w.if-concat-lt-BIAS.false w.loop-i-else-concat-lt-BIAS.invariant
+      | then-x-lt17+then-y-lt17+then-not-mark+then-k-sums+else-concat-lt-BIAS+else-loop-i-else-concat-lt-BIAS-test w ↦ grid-lowered c.loop-n.sums
+          c.loop-n.mark _ _ _ w.if-x-lt17.true w.if-y-lt17.true w.if-not-mark.true-raw w.if-k-sums.true w.concat-then-k-sums.ensures w.if-concat-lt-BIAS.false
+          w.loop-i-else-concat-lt-BIAS.invariant
           w.loop-i-else-concat-lt-BIAS-test.false (ap₂ set_with w.sums-is w.mark-is)
-      | then-x-lt17+then-y-lt17+then-not-mark+else-k-sums w ↦ grid-known c.loop-n.sums c.loop-n.mark _ _ _ w.if-x-lt17.true w.if-y-lt17.true w.if-k-sums.false (ap₂ set_with w.sums-is w.mark-is)
-      | then-x-lt17+then-y-lt17+else-not-mark w ↦ way-marked _ _ _ _ w.if-x-lt17.true w.if-y-lt17.true w.if-not-mark.false-raw (ap₂ set_with w.sums-is w.mark-is)
+      | then-x-lt17+then-y-lt17+then-not-mark+else-k-sums w ↦ grid-known c.loop-n.sums c.loop-n.mark _ _ _ w.if-x-lt17.true w.if-y-lt17.true w.if-k-sums.false
+          (ap₂ set_with w.sums-is w.mark-is)
+      | then-x-lt17+then-y-lt17+else-not-mark w ↦ way-marked _ _ _ _ w.if-x-lt17.true w.if-y-lt17.true w.if-not-mark.false-raw
+          (ap₂ set_with w.sums-is w.mark-is)
       | then-x-lt17+else-y-lt17 w ↦ way-right _ _ _ _ w.if-x-lt17.true w.if-y-lt17.false (ap₂ set_with w.sums-is w.mark-is)
       | else-x-lt17 w ↦ way-left _ _ _ _ w.if-x-lt17.false (ap₂ set_with w.sums-is w.mark-is)
     ])

@@ -13,4 +13,5 @@ returns-then-n-eq0 c = rw c.if-n-eq0.true c.read_own.ensures
 
 pub returns : goal.returns
 unfolding row_bound
-returns c = ap₂ (λ (s : ℕ) (b : Bounds). sized s b) c.read_size-size.ensures c.row_at-row.ensures ∙ row-some (environment_of c.args.table.now c.args.sections) _ _ c.if-n-eq0.false
+returns c = ap₂ (λ (s : ℕ) (b : Bounds). sized s b) c.read_size-size.ensures c.row_at-row.ensures
+    ∙ row-some (environment_of c.args.table.now c.args.sections) _ _ c.if-n-eq0.false

@@ -70,7 +70,10 @@ returns-in-Leaves t c = leaves-now _ _ _ _ _ _ _ _ _ _
     c.in-Leaves.is
 
 pub call_at-site-requires : goal.call_at-site-requires
-call_at-site-requires t c = (number-few _ _ _ _ _ _ _ _ _ _ (calling t (goal.at.call_at-site-requires t c).In-Calls), call-within _ _ _ _ _ _ _ _ _ _ (calling t (goal.at.call_at-site-requires t c).In-Calls))
+call_at-site-requires t c = (
+  number-few _ _ _ _ _ _ _ _ _ _ (calling t (goal.at.call_at-site-requires t c).In-Calls),
+  call-within _ _ _ _ _ _ _ _ _ _ (calling t (goal.at.call_at-site-requires t c).In-Calls),
+)
 
 pub variables_of-count-requires : goal.variables_of-count-requires
 variables_of-count-requires t c = omega (

@@ -15,7 +15,12 @@ pub bounds-member-i : goal.bounds-member-i
 bounds-member-i c = omega (arith, c.loop-i.invariant.0.long, c.loop-i.invariant.1, c.loop-i.invariant.2, c.loop-i-test.true)
 
 pub loop-i-preserved : goal.loop-i-preserved
-loop-i-preserved c = (copied_more c.loop-i.invariant.0 (omega (arith, c.loop-i.invariant.1, c.loop-i.invariant.2, c.loop-i-test.true)) (to_z-of_z {w = w32} ((record { sfits = c.member-1.given }))), c.loop-i.invariant.1, c.loop-i.invariant.2)
+loop-i-preserved c = (
+  copied_more c.loop-i.invariant.0 (omega (arith, c.loop-i.invariant.1, c.loop-i.invariant.2, c.loop-i-test.true))
+      (to_z-of_z {w = w32} ((record { sfits = c.member-1.given }))),
+  c.loop-i.invariant.1,
+  c.loop-i.invariant.2,
+)
 
 pub shape_of-member : goal.shape_of-member
 shape_of-member c = c.loop-i.invariant.0.long

@@ -41,5 +41,6 @@ returns-in-6 c = to_z-of_z {w = w32} {z = c.number_word-in-6.result} (record { s
 
 pub returns-in_default : goal.returns-in_default
 returns-in_default c = to_z-of_z {w = w32} {z = c.signed_word.result} (record { sfits = c.signed_word.type_inv }) ∙ c.signed_word.ensures
-    ∙ word-head c.requires.0 _ c.in_default.in_default-own.rest.0.0.0.1 c.in_default.in_default-own.rest.0.0.1 c.in_default.in_default-own.rest.0.1 c.in_default.in_default-own.rest.1
+    ∙ word-head c.requires.0 _ c.in_default.in_default-own.rest.0.0.0.1 c.in_default.in_default-own.rest.0.0.1 c.in_default.in_default-own.rest.0.1
+    c.in_default.in_default-own.rest.1
     c.requires.1

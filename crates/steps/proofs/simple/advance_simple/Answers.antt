@@ -1,6 +1,7 @@
 -- `steps::simple::advance_simple` meets its contract.
 use native.Mathlib.Omega.{arith}
-use Rattle.steps.specs.AdvanceLaws.{move-as, moves-literal, moves-add-constant, moves-arithmetic, moves-null, moves-address, moves-offset, moves-index, moves-load, moves-store, moves-check, moves-declare, load-known, store-known}
+use Rattle.steps.specs.AdvanceLaws.{move-as, moves-literal, moves-add-constant, moves-arithmetic, moves-null, moves-address, moves-offset, moves-index}
+use Rattle.steps.specs.AdvanceLaws.{moves-load, moves-store, moves-check, moves-declare, load-known, store-known}
 use Rattle.steps.proofs.simple.advance_simple.Goals as goal
 
 pub overflow_cast-values : goal.overflow_cast-values

@@ -4,10 +4,24 @@ use Rattle.steps.specs.AdvanceLaws.{goes_on, assigns-stop, assigns-call, assigns
 use Rattle.steps.proofs.simple.load.Goals as goal
 
 pub address_of-address-requires : goal.address_of-address-requires
-address_of-address-requires c = (c.requires.accessible.pointer, c.requires.accessible.ends, c.requires.accessible.sizes _, c.requires.accessible.constant, c.requires.accessible.index, c.requires.accessible.slots)
+address_of-address-requires c = (
+  c.requires.accessible.pointer,
+  c.requires.accessible.ends,
+  c.requires.accessible.sizes _,
+  c.requires.accessible.constant,
+  c.requires.accessible.index,
+  c.requires.accessible.slots,
+)
 
 pub check_load-said-requires-clause-pointer_bound : goal.check_load-said-requires-clause-pointer_bound
-check_load-said-requires-clause-pointer_bound c = (c.requires.accessible.pointer, c.requires.accessible.ends, c.requires.accessible.small, c.requires.accessible.sizes, c.requires.accessible.named, c.requires.accessible.slots)
+check_load-said-requires-clause-pointer_bound c = (
+  c.requires.accessible.pointer,
+  c.requires.accessible.ends,
+  c.requires.accessible.small,
+  c.requires.accessible.sizes,
+  c.requires.accessible.named,
+  c.requires.accessible.slots,
+)
 
 pub check_load-said-requires-clause-address_value : goal.check_load-said-requires-clause-address_value
 check_load-said-requires-clause-address_value c = λ e. rw c.address_of-address.ensures.value (c.requires.constant_value e)
