@@ -3,8 +3,8 @@
 
 Holds that the list is whole: whatever a contract of an entry point cites stands in a listed file, and a listed file uses listed files alone
 (besides the kit's library and the types that src/ declares). A line `invariant FILE` names a predicate that one call gives and the next asks for, of which
-nothing else is said: a contract may cite it, but what it means is no part of the promise, so that its file is neither counted nor followed. Prints the lines of each file without its `use` lines, blank lines and comments; then all
-together, also with the `use` lines counted, and with everything."""
+nothing else is said: a contract may cite it, but what it means is no part of the promise, so that its file is neither counted nor followed. Prints the lines
+of each file without its `use` lines, blank lines and comments; then all together, also with the `use` lines counted, and with everything."""
 import re
 import sys
 from pathlib import Path
