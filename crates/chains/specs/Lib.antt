@@ -1,12 +1,4 @@
 pub mod Facts
 pub mod History
 pub mod LeastSums
-pub mod Chains
-pub mod Operations
-pub mod Join
-pub mod Exact
-pub mod ExactAfter
-pub mod HistoryLaws
-pub mod Sound
 pub mod Examples
-pub mod SizeLaws

@@ -40,7 +40,7 @@ use Rattle.reports.specs.ReportLaws.{none-reported}
 use Rattle.rules.specs.Stored.{store, new_state, block_faults, section_faults, form_faults, faults}
 use Rattle.rules.specs.StateBefore.{state_before}
 use Rattle.rules.specs.Report.{read_safe, safe_at, reported_if, reported_at}
-use Rattle.rules.specs.ReportLaws.{reported-stored}
+use Rattle.rules.proofs.ReportLaws.{reported-stored}
 use Rattle.rules.specs.AcceptedLaws.{accepted-clear}
 use Rattle.checker.specs.Checks.{Refuses, ChecksSections}
 use Rattle.checker.specs.MarkLaws.{over, block_inside, block-outside}
@@ -48,7 +48,7 @@ use Rattle.checker.specs.declared.Checked.{Checked}
 use Rattle.rules.specs.Verdict.{environment_of, verdict_of}
 use Rattle.rules.specs.Ranges.{Measured}
 use Rattle.rules.specs.ByChains.{Judged, Reported}
-use Rattle.rules.specs.Decidable.{judged}
+use Rattle.rules.proofs.Decidable.{judged}
 use Rattle.rules.specs.CallLaws.{none-formed}
 use Rattle.rules.specs.Calls.{Routine}
 use Rattle.rules.specs.BoundsRules.{own_rows, upper_limit}

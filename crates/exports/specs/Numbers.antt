@@ -8,7 +8,7 @@ use Rattle.rules.specs.Report.{reported_at}
 use Rattle.rules.specs.Verdict.{Reading, verdict_reads, first_reads}
 use Rattle.rules.specs.Verdict as reading
 use Rattle.rules.specs.ByChains.{by_chains, chain_faults, Judged, Reported}
-use Rattle.rules.specs.Decidable.{decided}
+use Rattle.rules.proofs.Decidable.{decided}
 use Rattle.rules.specs.declared.Verdict.{Verdict}
 use Rattle.exports.specs.Words.{put_three, verdict_words, chosen, put_numbers, report_numbers, CheckReport}
 

@@ -7,7 +7,7 @@ use Rattle.answers.specs.declared.refusals.Refusal.{Refusal}
 use Rattle.rules.specs.Verdict.{Reading, verdict_reads, first_reads}
 use Rattle.rules.specs.Small.{ReadingSmall}
 use Rattle.rules.specs.ByChains.{chain_faults, Judged}
-use Rattle.rules.specs.Decidable.{decided}
+use Rattle.rules.proofs.Decidable.{decided}
 use Rattle.rules.specs.declared.Verdict.{Verdict}
 use Rattle.rules.specs.declared.Verdict.TheVariants as verdict
 use Rattle.answers.specs.Answers.{check_number, check_statement, reads}

@@ -10,7 +10,7 @@ use Rattle.table.specs.Form.{length_right, form_of, four_pairs}
 use Rattle.rules.specs.FactSets.{FactSets}
 use Rattle.rules.specs.Verdict.{faults, verdict_of}
 use Rattle.rules.specs.ByChains.{by_chains, Judged}
-use Rattle.rules.specs.Decidable.{decided, says}
+use Rattle.rules.proofs.Decidable.{decided, says}
 use Rattle.rules.specs.declared.Verdict.{Verdict}
 use Rattle.rules.specs.declared.Verdict.TheVariants.{Refused}
 use Rattle.files.specs.Files.{word_at, words_of, file_faults, FileJudged}

@@ -29,8 +29,8 @@ use Rattle.interpreter.specs.StartLaws.{admitted, start-laid, start-safe, start-
 use Rattle.interpreter.specs.Agreement.{result_shown, PassesAt}
 use Rattle.rules.specs.Verdict as verdict_rules
 use Rattle.rules.specs.ByChains.{by_chains}
-use Rattle.rules.specs.Decidable.{decided, decider, decider-decides}
-use Rattle.rules.specs.Agreement.{SameFirst, same_self, same-also, faults-agree}
+use Rattle.rules.proofs.Decidable.{decided, decider, decider-decides}
+use Rattle.rules.proofs.Agreement.{SameFirst, same_self, same-also, faults-agree}
 use Rattle.interpreter.specs.Claim.{Lent, Leaves, entry_faults, run_faults}
 use Rattle.interpreter.specs.Claim.{Ran, RunAnswer, RunJudged, Begins, WholeRun, WholeSetRun}
 use Rattle.interpreter.specs.AnswerLaws.{never}

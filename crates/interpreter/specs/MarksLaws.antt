@@ -9,8 +9,8 @@ use Rattle.blocks.specs.Flow.{successors}
 use Rattle.blocks.specs.Shape.{entries_at}
 use Rattle.steps.specs.Bare.{mark, Marked}
 use Rattle.rules.specs.ByChains.{Reported}
-use Rattle.rules.specs.Decidable.{decider, decider-decides}
-use Rattle.rules.specs.ReportLaws.{report-agrees}
+use Rattle.rules.proofs.Decidable.{decider, decider-decides}
+use Rattle.rules.proofs.ReportLaws.{report-agrees}
 use Rattle.interpreter.specs.Marks.{marks, Reports}
 
 -- The report of the checker is that by the store's facts.

@@ -17,13 +17,13 @@ use Rattle.table.specs.Form.{sections_of}
 use Rattle.blocks.specs.Tree.{tree}
 use Rattle.listed.specs.Entries.{entries_of, EntriesHold}
 use Rattle.rules.specs.Calls.{Routine, routine_at, no_routine}
-use Rattle.rules.specs.ListedLaws.{entries-right, entries-mean}
+use Rattle.rules.proofs.ListedLaws.{entries-right, entries-mean}
 use Rattle.rules.specs.ByChains.{Decider, by_chains, DecidesTable}
 use Rattle.rules.specs.StateBefore.{state_before}
 use Rattle.rules.specs.Report.{read_safe, safe_at, reported_at}
-use Rattle.rules.specs.ReportLaws.{report-agrees}
+use Rattle.rules.proofs.ReportLaws.{report-agrees}
 use Rattle.rules.specs.Sets.{routines_of}
-use Rattle.rules.specs.SetLaws.{length-routines, routine-at}
+use Rattle.rules.proofs.SetLaws.{length-routines, routine-at}
 use Rattle.rules.specs.Stored.{store, new_state}
 use Rattle.machine.specs.Machine.{value, none, fails, Status, going, stopped, stuck, halted, start}
 use Rattle.machine.specs.Points.{Access, no_access, access, access_from, AccessInside, Outside}
@@ -32,7 +32,7 @@ use Rattle.machine.specs.Frame.{Names}
 use Rattle.machine.specs.SetMachine.{Frame, Stack, stack, start_stack, stack_after, next_stack}
 use Rattle.machine.specs.SetMachine as sets
 use Rattle.machine.specs.SetSound.{SetSetting, StackInvariant, StackSound, AllTrue, stack-kept, stack-sound}
-use Rattle.machine.specs.SetFrame.{StackOrigins, run-stack-framed}
+use Rattle.machine.proofs.SetFrame.{StackOrigins, run-stack-framed}
 use Rattle.interpreter.specs.AnswerLaws.{never, going_done, going-spent, done-steps, stopped-steps, spent-steps}
 use Rattle.interpreter.specs.SafeLaws.{reported-safe, safe-passes}
 use Rattle.interpreter.specs.Traces.{ended, stopped-rests, counts, all-counted}

@@ -7,7 +7,7 @@ use Rattle.rules.specs.BoundsRules.{is_pointer}
 use Rattle.rules.specs.Calls.{Routine, routine_at}
 use Rattle.rules.specs.EnvironmentLaws.{environment-declares}
 use Rattle.rules.specs.Sets.{routines_of, count_right, AllAccepted}
-use Rattle.rules.specs.SetLaws.{all-formed, length-routines}
+use Rattle.rules.proofs.SetLaws.{all-formed, length-routines}
 use Rattle.rules.specs.declared.Environment.{Environment}
 use Rattle.machine.specs.Machine.{stuck}
 use Rattle.machine.specs.Soundness.{Begun}

@@ -9,13 +9,13 @@ use Rattle.statements.specs.declared.Statement.TheVariants.{Plain}
 use Rattle.rules.specs.Calls.{Routine, routine_at, no_routine}
 use Rattle.table.specs.Form.{sections_of}
 use Rattle.rules.specs.Sets.{members, member_of, routines_of, AllAccepted}
-use Rattle.rules.specs.SetLaws.{length-routines, routine-at, members-same}
-use Rattle.rules.specs.Decidable.{decider, decider-decides}
+use Rattle.rules.proofs.SetLaws.{length-routines, routine-at, members-same}
+use Rattle.rules.proofs.Decidable.{decider, decider-decides}
 use Rattle.blocks.specs.LayoutLaws.{no-rest}
 use Rattle.machine.specs.Frame.{Elsewhere, SameCells}
 use Rattle.machine.specs.Points.{CellOf}
 use Rattle.machine.specs.SetMachine.{Stack, last_values}
-use Rattle.machine.specs.SetFrame.{two-alike, others-untouched}
+use Rattle.machine.proofs.SetFrame.{two-alike, others-untouched}
 use Rattle.interpreter.specs.BegunLaws.{one-object}
 use Rattle.interpreter.specs.StartLaws.{Admitted, admitted, origin-inside}
 use Rattle.interpreter.specs.Claim.{Lent, Leaves, answer_of, last_number, entry_faults, EndsAt, run_faults, Begins}

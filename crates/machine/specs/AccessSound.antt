@@ -10,7 +10,7 @@ use Rattle.std.proofs.Math.Dec.{ltb, eqb}
 use Rattle.sums.specs.Numbers.{bias, zero_var}
 use Rattle.facts.specs.Store.{shown}
 use Rattle.facts.specs.declared.FactSet.{FactSet}
-use Rattle.chains.specs.Sound.{InRange, Holds}
+use Rattle.chains.proofs.Sound.{InRange, Holds}
 use Rattle.words.specs.SectionsLaws.{both}
 use Rattle.table.specs.declared.variables.End.{End}
 use Rattle.rules.specs.Stored.{end_at_most, known_at_most, address_safe}

@@ -5,7 +5,7 @@ use Rattle.std.proofs.Common.{◌∙◌}
 use Rattle.std.proofs.Math.Logic.{inl, inr}
 use Rattle.std.proofs.Math.Bool.{true, false}
 use mathlib.Core.List.{List, [], ◌∷◌, ◌++◌}
-use Rattle.chains.specs.Sound.{InRange, Holds, joined-left-holds, joined-right-holds}
+use Rattle.chains.proofs.Sound.{InRange, Holds, joined-left-holds, joined-right-holds}
 use Rattle.facts.specs.declared.FactSet.{FactSet}
 use Rattle.words.specs.declared.sections.Sections.{Sections}
 use Rattle.conditions.specs.Conditions.{negated_of}
@@ -26,7 +26,7 @@ use Rattle.rules.specs.FactSets.{State}
 use Rattle.rules.specs.Stored.{loop_facts, entries_unshown, entry_facts, effect, bundle_bounds, bundle_faults, sides_joined, block_faults, bounds_after}
 use Rattle.rules.specs.Stored.{state_after, called_state, assumed, at_head, access_in, unshown_in, declared_in, bundle_after, block_after}
 use Rattle.rules.specs.FactsTrue.{Agree, among-left, among-right, loop-facts-hold}
-use Rattle.rules.specs.ListedLaws.{EntriesTrue, entries-true, entries-hold}
+use Rattle.rules.proofs.ListedLaws.{EntriesTrue, entries-true, entries-hold}
 use Rattle.listed.specs.Entries.{entries_of}
 use Rattle.listed.specs.declared.Entry.{Entry}
 use Rattle.rules.specs.BoundsRules.{is_pointer, known, in_force}

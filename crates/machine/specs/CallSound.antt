@@ -12,7 +12,7 @@ use Rattle.std.proofs.Math.Seq.{set_out}
 use Rattle.sums.specs.Numbers.{bias, max_value, zero_var}
 use Rattle.arrays.specs.Tabulate.{tabulate}
 use Rattle.arrays.specs.TabulateLaws.{get_d_tabulate, length-tabulate}
-use Rattle.chains.specs.Sound.{InRange, new-holds}
+use Rattle.chains.proofs.Sound.{InRange, new-holds}
 use Rattle.facts.specs.Store.{dropped}
 use Rattle.facts.specs.declared.FactSet.{FactSet}
 use Rattle.words.specs.NameLaws.{either}

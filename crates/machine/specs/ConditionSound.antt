@@ -7,7 +7,7 @@ use Rattle.std.proofs.Math.Bool.{true, false, not}
 use borrow.Author.Tests.{leb-true, ltb-true, eqb-true, eqb-false, not-true}
 use Rattle.sums.specs.Numbers.{bias}
 use Rattle.facts.specs.Store.{shown, added}
-use Rattle.chains.specs.Sound.{InRange, Holds, added-holds}
+use Rattle.chains.proofs.Sound.{InRange, Holds, added-holds}
 use Rattle.facts.specs.declared.FactSet.{FactSet}
 use Rattle.conditions.specs.Conditions.{relates, negation, negated_of}
 use Rattle.conditions.specs.NegationLaws.{negation-decides}

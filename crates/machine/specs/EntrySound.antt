@@ -11,7 +11,7 @@ use Rattle.std.proofs.Math.Dec.{leb}
 use Rattle.std.proofs.Math.ListN.{get_or, get_or-eq_default}
 use Rattle.sums.specs.Numbers.{bias, zero_var}
 use Rattle.arrays.specs.TabulateLaws.{length-tabulate}
-use Rattle.chains.specs.Sound.{InRange, new-holds}
+use Rattle.chains.proofs.Sound.{InRange, new-holds}
 use Rattle.words.specs.NameLaws.{implied}
 use Rattle.words.specs.SectionsLaws.{both}
 use Rattle.words.specs.declared.sections.Sections.{Sections}

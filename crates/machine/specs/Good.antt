@@ -3,7 +3,7 @@ use Rattle.std.specs.Prelude.{ℕ, suc, ◌+◌, ◌*◌, ◌^◌, ◌≤◌, �
 use Rattle.std.proofs.Common.{◌∙◌, sym, inl, inr, arith, eqb-true, length-set, get_or-set_same, get_or-set_other}
 use Rattle.std.proofs.lemmas.Bool.{eqb-false}
 use Rattle.sums.specs.Numbers.{bias, max_value}
-use Rattle.chains.specs.Sound.{InRange, Holds, Except}
+use Rattle.chains.proofs.Sound.{InRange, Holds, Except}
 use Rattle.facts.specs.declared.FactSet.{FactSet}
 use Rattle.words.specs.declared.sections.Sections.{Sections}
 use Rattle.blocks.specs.Layout.{layout}

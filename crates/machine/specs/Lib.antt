@@ -18,6 +18,5 @@ pub mod Standing
 pub mod EntrySound
 pub mod RunSound
 pub mod SetSound
-pub mod SetFrame
 pub mod Alone
 pub mod SetRun

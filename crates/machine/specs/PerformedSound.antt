@@ -11,7 +11,7 @@ use borrow.Author.Tests.{leb-false, ltb-false, eqb-true, eqb-false, not-false}
 use Rattle.std.proofs.Math.ListN.{get_or, set, length-set}
 use Rattle.facts.specs.Store.{in_range}
 use Rattle.sums.specs.Numbers.{bias, max_value}
-use Rattle.chains.specs.Sound.{Holds}
+use Rattle.chains.proofs.Sound.{Holds}
 use Rattle.facts.specs.declared.FactSet.{FactSet}
 use Rattle.words.specs.Sections.{string_at, object_terminated}
 use Rattle.words.specs.Typed.{IsPointer}

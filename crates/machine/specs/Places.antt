@@ -1,6 +1,6 @@
 -- Where a point stands in a block of an accepted routine, and what then holds there.
 use Rattle.std.specs.Prelude.{ℕ, ◌+◌, ◌≡◌, ◌⊎◌, List, [], ◌∷◌, ℤ, length}
-use Rattle.chains.specs.Sound.{InRange, Holds}
+use Rattle.chains.proofs.Sound.{InRange, Holds}
 use Rattle.facts.specs.declared.FactSet.{FactSet}
 use Rattle.words.specs.declared.sections.Sections.{Sections}
 use Rattle.conditions.specs.Conditions.{negated_of}
@@ -15,7 +15,7 @@ use Rattle.rules.specs.FactSets.{State}
 use Rattle.rules.specs.Stored.{effect, sides_joined, bounds_after, state_after, called_state, assumed, at_head, declared_in, bundle_after, block_after}
 use Rattle.rules.specs.FactsTrue.{Agree}
 use Rattle.listed.specs.Entries.{entries_of}
-use Rattle.rules.specs.ListedLaws.{EntriesTrue}
+use Rattle.rules.proofs.ListedLaws.{EntriesTrue}
 use Rattle.rules.specs.declared.Bounds.{Bounds}
 use Rattle.rules.specs.declared.Environment.{Environment}
 use Rattle.machine.specs.Machine.{value, Memory}

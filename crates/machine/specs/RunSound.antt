@@ -9,8 +9,8 @@ use Rattle.facts.specs.Store.{contradictory}
 use Rattle.facts.specs.declared.FactSet.{FactSet}
 use Rattle.chains.specs.Facts.{Variables, Contradiction}
 use Rattle.chains.specs.History.{known}
-use Rattle.chains.specs.HistoryLaws.{contradicts-exactly}
-use Rattle.chains.specs.Sound.{Holds}
+use Rattle.chains.proofs.HistoryLaws.{contradicts-exactly}
+use Rattle.chains.proofs.Sound.{Holds}
 use Rattle.words.specs.Typed.{IsIndex, missing, given}
 use Rattle.conditions.specs.declared.Condition.{Condition}
 use Rattle.statements.specs.Typed.{SimpleTyped}
@@ -35,12 +35,12 @@ use Rattle.rules.specs.FactSets.{State}
 use Rattle.rules.specs.BoundsRules.{is_pointer, declared, own_rows, in_force}
 use Rattle.rules.specs.EnvironmentLaws.{Declares, environment-declares, Named}
 use Rattle.rules.specs.Stored.{store, faults, new_state, declared_in, safe_in, access_safe, block_after, block_faults}
-use Rattle.rules.specs.ListedLaws.{EntriesTrue, entries-right}
+use Rattle.rules.proofs.ListedLaws.{EntriesTrue, entries-right}
 use Rattle.listed.specs.Entries.{entries_of}
 use Rattle.rules.specs.BoundsRules as bounds_rules
 use Rattle.rules.specs.StateBefore.{state_before}
-use Rattle.rules.specs.BeforeLaws.{before-represented}
-use Rattle.rules.specs.StateRepresentation.{new-represented}
+use Rattle.rules.proofs.BeforeLaws.{before-represented}
+use Rattle.rules.proofs.StateRepresentation.{new-represented}
 use Rattle.rules.specs.ByChains.{Decider, by_chains, variables, DecidesTable}
 use Rattle.rules.specs.Verdict.{environment_of}
 use Rattle.rules.specs.AcceptedLaws.{clear}

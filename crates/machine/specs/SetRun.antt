@@ -13,7 +13,7 @@ use Rattle.rules.specs.Calls.{Routine, routine_at}
 use Rattle.rules.specs.EnvironmentLaws.{environment-declares}
 use Rattle.rules.specs.Stored.{new_state, block_faults}
 use Rattle.rules.specs.Sets.{member_of, routine_of, routines_of, before, count_right, AllAccepted}
-use Rattle.rules.specs.SetLaws.{length-routines, routine-at, member-formed, member-clear, all-formed, members-same}
+use Rattle.rules.proofs.SetLaws.{length-routines, routine-at, member-formed, member-clear, all-formed, members-same}
 use Rattle.machine.specs.Soundness.{Placed, Apart, Begun}
 use Rattle.machine.specs.Good.{Setting}
 use Rattle.machine.specs.EntrySound.{begun-good}

@@ -20,7 +20,7 @@ use Rattle.rules.specs.BoundsRules.{is_pointer, in_force}
 use Rattle.rules.specs.Calls.{Routine, routine_at, arguments_fit}
 use Rattle.rules.specs.CallLaws.{AllFormed, call-passed}
 use Rattle.rules.specs.Sets.{before}
-use Rattle.rules.specs.SetLaws.{before-short, before_at}
+use Rattle.rules.proofs.SetLaws.{before-short, before_at}
 use Rattle.rules.specs.Stored.{store, new_state, declared_in, block_faults}
 use Rattle.rules.specs.declared.Environment.{Environment}
 use Rattle.machine.specs.Machine.{bounds_true, Status, going, stopped, stuck, Point, memory_of, successors_of, step_if_due, next_point, start}

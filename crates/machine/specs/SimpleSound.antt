@@ -9,7 +9,7 @@ use borrow.Author.Tests.{eqb-true, eqb-false, eq-eqb, ne_eqb}
 use Rattle.std.proofs.Math.Dec.{eqb}
 use Rattle.sums.specs.Numbers.{bias, max_value}
 use Rattle.facts.specs.Store.{in_range, dropped, ranged, shifted}
-use Rattle.chains.specs.Sound.{Holds, dropped-holds, ranged-holds, shifted-holds}
+use Rattle.chains.proofs.Sound.{Holds, dropped-holds, ranged-holds, shifted-holds}
 use Rattle.facts.specs.declared.FactSet.{FactSet}
 use Rattle.words.specs.Typed.{IsInteger, IsPointer}
 use Rattle.words.specs.declared.sections.Sections.{Sections}

@@ -9,7 +9,7 @@ use Rattle.statements.specs.declared.Simple.{Simple}
 use Rattle.statements.specs.declared.Statement.TheVariants.{Plain, While}
 use Rattle.statements.specs.declared.StatementRead.TheVariants.{Read}
 use Rattle.listed.specs.Entries.{entries_of}
-use Rattle.rules.specs.ListedLaws.{EntriesTrue}
+use Rattle.rules.proofs.ListedLaws.{EntriesTrue}
 use Rattle.rules.specs.Stored.{store, new_state, safe_in}
 use Rattle.rules.specs.StateBefore.{state_before}
 use Rattle.rules.specs.BoundsRules.{is_pointer, object_length, in_force}

@@ -27,7 +27,7 @@ use Rattle.rules.specs.FactSets.{State}
 use Rattle.rules.specs.Stored.{effect, bundle_faults, sides_joined, block_faults, bounds_after, called_state, call_faults}
 use Rattle.rules.specs.Stored.{state_after, assumed, at_head, access_in, declared_in, bundle_after, block_after}
 use Rattle.rules.specs.FactsTrue.{neither}
-use Rattle.rules.specs.ListedLaws.{EntriesTrue}
+use Rattle.rules.proofs.ListedLaws.{EntriesTrue}
 use Rattle.listed.specs.Entries.{entries_of}
 use Rattle.conditions.specs.declared.Condition.{Condition}
 use Rattle.rules.specs.BoundsRules.{in_force}

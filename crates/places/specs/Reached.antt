@@ -25,7 +25,7 @@ use Rattle.rules.specs.Stored.{store, new_state, block_after, block_faults, sect
 use Rattle.rules.specs.Verdict.{environment_of, bounds_of, variable_size, row_bounds, verdict_of}
 use Rattle.rules.specs.Verdict as verdict_rules
 use Rattle.rules.specs.ByChains.{Judged}
-use Rattle.rules.specs.Decidable.{judged}
+use Rattle.rules.proofs.Decidable.{judged}
 use Rattle.rules.specs.declared.Verdict.{Verdict}
 use Rattle.declared.specs.ForceLaws.{pass}
 use Rattle.edits.specs.Followed.{followed, laid-followed, laid-parsed}

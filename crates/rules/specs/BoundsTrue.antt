@@ -14,7 +14,7 @@ use Rattle.sums.specs.Numbers.{bias, zero_var}
 use Rattle.sums.specs.Scale.{scale-equal}
 use Rattle.arrays.specs.TabulateLaws.{get_d_tabulate, length-tabulate}
 use Rattle.facts.specs.Store.{shown, end_shown}
-use Rattle.chains.specs.Sound.{InRange, Holds, Except, end-true}
+use Rattle.chains.proofs.Sound.{InRange, Holds, Except, end-true}
 use Rattle.facts.specs.declared.FactSet.{FactSet}
 use Rattle.words.specs.SectionsLaws.{both}
 use Rattle.words.specs.NameLaws.{either}

@@ -8,7 +8,7 @@ use Rattle.std.proofs.lemmas.Bool.{false≢true, eqb-false}
 use Rattle.arrays.specs.Choice.{cond_either}
 use Rattle.sums.specs.Numbers.{bias, max_value, zero_var}
 use Rattle.facts.specs.Store.{shown, in_range, added, dropped}
-use Rattle.chains.specs.Sound.{InRange, True, Holds, Except, added-holds, dropped-holds}
+use Rattle.chains.proofs.Sound.{InRange, True, Holds, Except, added-holds, dropped-holds}
 use Rattle.facts.specs.declared.FactSet.{FactSet}
 use Rattle.words.specs.SectionsLaws.{both}
 use Rattle.words.specs.NameLaws.{either}

@@ -12,7 +12,7 @@ use Rattle.blocks.specs.Flow.{Successors}
 use Rattle.blocks.specs.Shape.{entries_at}
 use Rattle.rules.specs.Calls.{Routine, argument}
 use Rattle.rules.specs.Sets.{routines_of}
-use Rattle.rules.specs.SetLaws.{length-routines}
+use Rattle.rules.proofs.SetLaws.{length-routines}
 use Rattle.machine.specs.Machine.{value, Point}
 use Rattle.machine.specs.SetMachine.{Frame, Stack, stack, stack_after, last_values, table_of, sections_of, waiting, begun, resumed, result_of}
 use Rattle.machine.specs.SetSound.{resume-kept, caller-waits, Calls, calls}

@@ -9,7 +9,7 @@ use Rattle.answers.specs.Answers.{reads}
 use Rattle.answers.specs.declared.refusals.Refusal.{Refusal}
 use Rattle.answers.specs.declared.refusals.Refusal.TheVariants.{RoutineCount}
 use Rattle.answers.specs.declared.stops.Outcome.TheVariants as outcome
-use Rattle.rules.specs.Decidable.{decider, decider-decides}
+use Rattle.rules.proofs.Decidable.{decider, decider-decides}
 use Rattle.rules.specs.Sets.{member_of, RoutineJudged, count_right, FirstRefused, AllAccepted, SetRefused, SetJudged}
 use Rattle.rules.specs.declared.SetVerdict.{SetVerdict}
 use Rattle.rules.specs.declared.SetVerdict.TheVariants as whole

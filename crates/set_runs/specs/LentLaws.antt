@@ -21,7 +21,7 @@ use Rattle.rules.specs.BoundsRules.{nothing_known, sized, row_bound, in_force}
 use Rattle.rules.specs.Verdict.{environment_of, bounds_of, variable_size, row_bounds}
 use Rattle.rules.specs.Sets.{object_words, with_objects, members, member_of, AllAccepted}
 use Rattle.rules.specs.PutLaws.{length-put, put-behind, head-whole, objects-long}
-use Rattle.rules.specs.SetLaws.{put-start, put-objects, lists-none, lent-head}
+use Rattle.rules.proofs.SetLaws.{put-start, put-objects, lists-none, lent-head}
 use Rattle.rules.specs.declared.Bounds.{Bounds}
 use Rattle.rules.specs.declared.Environment.{Environment}
 use Rattle.entry.specs.Ends.{bounds_number, place_bounds, place_number, ends_of}

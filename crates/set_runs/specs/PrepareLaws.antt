@@ -16,7 +16,7 @@ use Rattle.blocks.specs.SuccessorLaws.{written_at}
 use Rattle.blocks.specs.Written.{written, Written}
 use Rattle.rules.specs.Calls.{Routine, routine_at}
 use Rattle.rules.specs.Sets.{object_words, with_objects, member_of, routine_of, routines_of, count_right, AllAccepted}
-use Rattle.rules.specs.SetLaws.{length-routines, routine-at, member-formed, member-clear, all-formed}
+use Rattle.rules.proofs.SetLaws.{length-routines, routine-at, member-formed, member-clear, all-formed}
 use Rattle.rules.specs.Verdict.{environment_of}
 use Rattle.rules.specs.declared.Environment.{Environment}
 use Rattle.entry.specs.Entered.{entered}

@@ -18,7 +18,7 @@ use Rattle.table.specs.Form as form
 use Rattle.table.specs.FormLaws.{formed-head, head-limits}
 use Rattle.rules.specs.Calls.{Routine, routine_at}
 use Rattle.rules.specs.Sets.{member_of, routine_of, routines_of, count_right}
-use Rattle.rules.specs.SetLaws.{routine-at, member-formed}
+use Rattle.rules.proofs.SetLaws.{routine-at, member-formed}
 use Rattle.rules.specs.Verdict as verdict
 use Rattle.rules.specs.declared.Environment.{Environment}
 use Rattle.machine.specs.Machine.{Status, going, stopped, stuck, Point}

@@ -12,7 +12,7 @@ use Rattle.blocks.specs.Flow.{successors, table_flow}
 use Rattle.blocks.specs.Shape.{entries_at}
 use Rattle.rules.specs.Calls.{Routine, routine_at}
 use Rattle.rules.specs.Sets.{routines_of, AllAccepted}
-use Rattle.rules.specs.SetLaws.{length-routines, routine-at}
+use Rattle.rules.proofs.SetLaws.{length-routines, routine-at}
 use Rattle.machine.specs.Machine.{Status, Point, start}
 use Rattle.machine.specs.SetMachine.{Frame, Stack, stack, start_stack, stack_after, last_values, table_of, sections_of, environment_of}
 use Rattle.machine.specs.SetRun.{set-setting, start-invariant}

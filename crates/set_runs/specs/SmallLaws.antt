@@ -5,7 +5,7 @@ use Rattle.answers.specs.Answers.{reads}
 use Rattle.answers.specs.declared.refusals.Refusal.{Refusal}
 use Rattle.rules.specs.Calls.{routine_at}
 use Rattle.rules.specs.Sets.{routines_of, count_right, FirstRefused, AllAccepted}
-use Rattle.rules.specs.SetLaws.{length-routines, all-formed}
+use Rattle.rules.proofs.SetLaws.{length-routines, all-formed}
 use Rattle.entry.specs.SmallLaws.{entry-small}
 use Rattle.interpreter.specs.SmallLaws.{AnswerSmall, not-begun-small, ran-small, ran-within}
 use Rattle.sets.specs.SmallLaws.{count-few, count-some, count_small, first_small, refused-or-accepted}

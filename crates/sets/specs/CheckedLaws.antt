@@ -12,7 +12,7 @@ use Rattle.parts.specs.PartsLaws.{between-part}
 use Rattle.parts.specs.declared.Span.{Span}
 use Rattle.rules.specs.Calls.{Routine}
 use Rattle.rules.specs.Sets.{object_words, with_objects, count_right, RoutineJudged, FirstRefused, AllAccepted, SetJudged}
-use Rattle.rules.specs.SetLaws.{lent-head}
+use Rattle.rules.proofs.SetLaws.{lent-head}
 use Rattle.rules.specs.Stored.{faults}
 use Rattle.rules.specs.Verdict.{verdict_of}
 use Rattle.rules.specs.declared.SetVerdict.TheVariants as set-verdict

@@ -22,11 +22,11 @@ use Rattle.rules.specs.Verdict as verdict_rules
 use Rattle.rules.specs.Verdict.{verdict_of, Says}
 use Rattle.rules.specs.Stored.{store, call_faults, section_faults, form_faults, faults}
 use Rattle.rules.specs.ByChains.{Decider, by_chains, DecidesTable}
-use Rattle.rules.specs.Agreement.{same-verdict, faults-agree}
-use Rattle.rules.specs.Decidable.{decided, says}
+use Rattle.rules.proofs.Agreement.{same-verdict, faults-agree}
+use Rattle.rules.proofs.Decidable.{decided, says}
 use Rattle.rules.specs.Sets.{object_words, with_objects, members, member_of, routine_of, routines_of, before, lists_objects, member_faults, RoutineJudged}
 use Rattle.rules.specs.PutLaws.{head-whole, objects-few}
-use Rattle.rules.specs.SetLaws.{put-at, lists-none, lent-head, member-formed, routine-at, length-routines, before_at}
+use Rattle.rules.proofs.SetLaws.{put-at, lists-none, lent-head, member-formed, routine-at, length-routines, before_at}
 use Rattle.rules.specs.declared.Bounds.{Bounds}
 use Rattle.rules.specs.declared.Environment.{Environment}
 use Rattle.rules.specs.declared.Verdict.{Verdict}

@@ -29,7 +29,7 @@ use Rattle.conditions.specs.Conditions.{negated_of}
 use Rattle.listed.specs.Entries.{entries_of}
 use Rattle.rules.specs.Sets.{with_objects, routine_of}
 use Rattle.rules.specs.PutLaws.{put-kept, put-behind}
-use Rattle.rules.specs.SetLaws.{put-start, put-objects}
+use Rattle.rules.proofs.SetLaws.{put-start, put-objects}
 use Rattle.rules.specs.declared.Bounds.{Bounds}
 use Rattle.rules.specs.declared.Environment.{Environment}
 use Rattle.declared.specs.Callee.{signature_of}

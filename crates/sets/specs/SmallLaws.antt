@@ -16,7 +16,7 @@ use Rattle.rules.specs.Verdict.{faults, verdict_of, verdict_reads}
 use Rattle.rules.specs.Stored.{store}
 use Rattle.rules.specs.Sets.{member_of, routines_of, before, lists_objects, member_faults, RoutineJudged, count_right}
 use Rattle.rules.specs.Sets.{FirstRefused, AllAccepted, SetRefused, SetJudged}
-use Rattle.rules.specs.SetLaws.{member-formed, routine-at, before_at, before-short}
+use Rattle.rules.proofs.SetLaws.{member-formed, routine-at, before_at, before-short}
 use Rattle.rules.specs.Small.{RefusalSmall, FirstSmall, ReadingSmall, one-small, verdict-small}
 use Rattle.rules.specs.SmallLaws.{faults-small}
 use Rattle.rules.specs.declared.SetVerdict.{SetVerdict}

@@ -2,7 +2,7 @@
 use mathlib.Core.List.{[]}
 use Rattle.rules.specs.CallLaws.{none-formed}
 use Rattle.rules.specs.AcceptedLaws.{accepted-clear}
-use Rattle.rules.specs.Decidable.{stored-verdict}
+use Rattle.rules.proofs.Decidable.{stored-verdict}
 use Rattle.interpreter.specs.MarksLaws.{stored-report}
 use Rattle.interpreter.specs.ClaimLaws.{check-refused}
 use Rattle.interpreter.proofs.starts.prepare.Goals as goal

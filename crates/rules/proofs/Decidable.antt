@@ -7,10 +7,10 @@ use Rattle.facts.specs.Store.{sum_at, shown, contradictory}
 use Rattle.facts.specs.declared.FactSet.{FactSet}
 use Rattle.chains.specs.Facts.{Variables, Node, Known, EndShown}
 use Rattle.chains.specs.LeastSums.{LeastSums}
-use Rattle.chains.specs.Chains.{sinks, two-chains}
-use Rattle.chains.specs.Exact.{Exact}
+use Rattle.chains.proofs.Chains.{sinks, two-chains}
+use Rattle.chains.proofs.Exact.{Exact}
 use Rattle.chains.specs.History.{known}
-use Rattle.chains.specs.HistoryLaws.{made, exact, shows-exactly}
+use Rattle.chains.proofs.HistoryLaws.{made, exact, shows-exactly}
 use Rattle.answers.specs.declared.refusals.Refusal.{Refusal}
 use Rattle.table.specs.Form.{form_of}
 use Rattle.table.specs.declared.Form.{Form}
@@ -21,7 +21,7 @@ use Rattle.rules.specs.Calls.{Routine}
 use Rattle.rules.specs.CallLaws.{AllFormed}
 use Rattle.rules.specs.Stored.{store}
 use Rattle.rules.specs.ByChains.{Decider, Decides, variables, DecidesTable, Decided, chain_faults, Judged}
-use Rattle.rules.specs.Agreement.{verdict-agrees}
+use Rattle.rules.proofs.Agreement.{verdict-agrees}
 use Rattle.rules.specs.declared.Verdict.{Verdict}
 
 -- Two least sums, the second one times the size, and a constant, by plain addition, whatever the constant and the size.

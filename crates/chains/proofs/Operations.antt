@@ -9,8 +9,8 @@ use Rattle.facts.specs.StoreLaws.{anew_at}
 use Rattle.chains.specs.Facts.{Variables, Node, Comparable, from_zero, to-zero, Known, Always, lower, upper, ChainWithin, Shown}
 use Rattle.chains.specs.Facts.{Contradiction, With, before, fact, Without, kept, always, contradicted, Both, both, Moved, moved}
 use Rattle.chains.specs.LeastSums.{LeastSums}
-use Rattle.chains.specs.Chains.{append, weaken, one, none, more-shown, contradiction-of, Pair, comparable, zeros, mixed, pair, zero-node}
-use Rattle.chains.specs.Chains.{left-node, right-node, always-comparable, Closed, lowest-of, at_most, closed, through-zero, no-contradiction}
+use Rattle.chains.proofs.Chains.{append, weaken, one, none, more-shown, contradiction-of, Pair, comparable, zeros, mixed, pair, zero-node}
+use Rattle.chains.proofs.Chains.{left-node, right-node, always-comparable, Closed, lowest-of, at_most, closed, through-zero, no-contradiction}
 
 -- ---- each operation keeps to comparable pairs
 

@@ -3,8 +3,8 @@ use Rattle.std.specs.Prelude.{ℕ, ◌≡◌, ◌↔◌, Bool, true}
 use Rattle.facts.specs.Store.{shown, new_set, added, dropped, ranged, shifted, joined}
 use Rattle.chains.specs.Facts.{Variables, Node, Shown, Contradiction}
 use Rattle.chains.specs.History.{History, new, add, drop, range, shift, join, known, Legal}
-use Rattle.chains.specs.Exact.{Exact, shown-exact, contradiction-exact}
-use Rattle.chains.specs.ExactAfter.{new-exact, added-exact, ranged-exact, dropped-exact, shifted-exact, joined-exact}
+use Rattle.chains.proofs.Exact.{Exact, shown-exact, contradiction-exact}
+use Rattle.chains.proofs.ExactAfter.{new-exact, added-exact, ranged-exact, dropped-exact, shifted-exact, joined-exact}
 use Rattle.facts.specs.declared.FactSet.{FactSet}
 
 -- The fact set that the store makes; it has to know which variables are pointers.

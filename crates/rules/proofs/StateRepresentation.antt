@@ -21,9 +21,9 @@ use Rattle.rules.specs.Rules.{new_state, state_after, called_state, assumed, at_
 use Rattle.rules.specs.Verdict.{environment_of}
 use Rattle.rules.specs.Stored.{store}
 use Rattle.rules.specs.ByChains.{Decider, Decides, by_chains, variables}
-use Rattle.rules.specs.Representation.{Represents, represents-new, represents-join, condition-represented}
-use Rattle.rules.specs.Representation.{negated-represented, after-represented, result-represented, body-represented}
-use Rattle.rules.specs.ListedLaws.{EntriesRight, entries-represented}
+use Rattle.rules.proofs.Representation.{Represents, represents-new, represents-join, condition-represented}
+use Rattle.rules.proofs.Representation.{negated-represented, after-represented, result-represented, body-represented}
+use Rattle.rules.proofs.ListedLaws.{EntriesRight, entries-represented}
 
 pub record StateRepresents (vars : Variables) (U : State History) (W : State FactSet) : Type 0 where
   pub represents : Represents vars U.facts W.facts

@@ -14,10 +14,10 @@ use Rattle.sums.specs.Sums.{room_above}
 use Rattle.arrays.specs.TabulateLaws.{get_d_tabulate}
 use Rattle.facts.specs.Store.{shown, end_shown, new_set, added, dropped, ranged, shifted, joined}
 use Rattle.chains.specs.Facts.{Variables, Node, Comparable, same_kind, from_zero, to-zero, Known, empty, EndShown}
-use Rattle.chains.specs.Chains.{left-node, right-node}
-use Rattle.chains.specs.Exact.{Exact, end-exact}
+use Rattle.chains.proofs.Chains.{left-node, right-node}
+use Rattle.chains.proofs.Exact.{Exact, end-exact}
 use Rattle.chains.specs.History.{History, new, add, drop, range, shift, join, known, Legal, Slight}
-use Rattle.chains.specs.HistoryLaws.{made, exact, shows-exactly}
+use Rattle.chains.proofs.HistoryLaws.{made, exact, shows-exactly}
 use Rattle.facts.specs.declared.FactSet.{FactSet}
 use Rattle.words.specs.Sections.{pointer_at, Limits}
 use Rattle.words.specs.NameLaws.{integer-no-pointer}

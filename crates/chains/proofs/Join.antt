@@ -5,8 +5,8 @@ use Rattle.sums.specs.Numbers.{bias, zero_var}
 use Rattle.facts.specs.Store.{same, related}
 use Rattle.chains.specs.Facts.{Variables, Node, Comparable, same_kind, from_zero, to-zero, Known, Shown, Both, both}
 use Rattle.chains.specs.LeastSums.{LeastSums}
-use Rattle.chains.specs.Chains.{weaken, one, Pair, comparable, zeros, mixed, pair, same_or_not, zero-node, left-node, right-node, Closed, at_most, closed}
-use Rattle.chains.specs.Operations.{both-comparable, least-of-facts}
+use Rattle.chains.proofs.Chains.{weaken, one, Pair, comparable, zeros, mixed, pair, same_or_not, zero-node, left-node, right-node, Closed, at_most, closed}
+use Rattle.chains.proofs.Operations.{both-comparable, least-of-facts}
 
 -- The greater of the two sums; between a pointer and an integer the greater sums to and from zero.
 abbrev pub join_at : Bool → ℕ → ℕ → ℕ → ℕ

@@ -54,10 +54,10 @@ use Rattle.blocks.specs.LayoutLaws.{no-first, no-rest, passed}
 use Rattle.rules.specs.EnvironmentLaws.{environment-declares}
 use Rattle.rules.specs.Stored.{store}
 use Rattle.rules.specs.ByChains.{Decider, Decides, by_chains, variables, DecidesTable}
-use Rattle.rules.specs.Representation.{Represents, shown-represented, end-represented, range-represented}
-use Rattle.rules.specs.StateRepresentation.{StateRepresents, new-represented, meets, state-after, state-called, state-assumed, state-negated}
-use Rattle.rules.specs.StateRepresentation.{state-at-head}
-use Rattle.rules.specs.ListedLaws.{EntriesRight, entries-right, entries-agree}
+use Rattle.rules.proofs.Representation.{Represents, shown-represented, end-represented, range-represented}
+use Rattle.rules.proofs.StateRepresentation.{StateRepresents, new-represented, meets, state-after, state-called, state-assumed, state-negated}
+use Rattle.rules.proofs.StateRepresentation.{state-at-head}
+use Rattle.rules.proofs.ListedLaws.{EntriesRight, entries-right, entries-agree}
 use Rattle.rules.specs.Fair.{weight-small, FairEnd, index-node, FairKnown, FairBounds, FairAll, FairEffect, later}
 use Rattle.rules.specs.Fair.{constant-moved, after-fair, declared-fair, statement-fair, number-fair}
 use Rattle.rules.specs.declared.KnownEnd.{KnownEnd}

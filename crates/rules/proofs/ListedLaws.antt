@@ -13,9 +13,9 @@ use Rattle.sums.specs.Numbers.{bias, zero_var}
 use Rattle.facts.specs.Store.{shown, added}
 use Rattle.facts.specs.declared.FactSet.{FactSet}
 use Rattle.chains.specs.Facts.{Variables, Node, Comparable, from_zero, to-zero}
-use Rattle.chains.specs.Chains.{left-node, right-node}
+use Rattle.chains.proofs.Chains.{left-node, right-node}
 use Rattle.chains.specs.History.{History}
-use Rattle.chains.specs.Sound.{InRange, True, Holds, added-holds}
+use Rattle.chains.proofs.Sound.{InRange, True, Holds, added-holds}
 use Rattle.answers.specs.declared.refusals.Refusal.{Refusal}
 use Rattle.answers.specs.declared.refusals.Refusal.TheVariants.{LoopFact}
 use Rattle.words.specs.Fields.{plain, index_of, is_constant}
@@ -36,7 +36,7 @@ use Rattle.rules.specs.Rules.{entries_unshown}
 use Rattle.rules.specs.Stored.{store}
 use Rattle.rules.specs.ByChains.{Decider, Decides, by_chains, variables}
 use Rattle.rules.specs.RuleLaws.{no-fault}
-use Rattle.rules.specs.Representation.{Represents, represents-add, shown-represented, two-integers, two-pointers}
+use Rattle.rules.proofs.Representation.{Represents, represents-add, shown-represented, two-integers, two-pointers}
 
 -- ---- form
 

@@ -11,7 +11,7 @@ use Rattle.sums.specs.Scale.{scale-sums}
 use Rattle.facts.specs.StoreLaws.{least-node, within-plain}
 use Rattle.chains.specs.Facts.{Variables, Node, Known, lower, upper, Shown, Contradiction, EndShown}
 use Rattle.chains.specs.LeastSums.{LeastSums}
-use Rattle.chains.specs.Chains.{weaken, one, zero-node, Sane, sinks, shows-every, at_most, closed, no-contradiction, two-chains}
+use Rattle.chains.proofs.Chains.{weaken, one, zero-node, Sane, sinks, shows-every, at_most, closed, no-contradiction, two-chains}
 use Rattle.facts.specs.declared.FactSet.{FactSet}
 
 -- THE PROMISE. The known facts relate comparable pairs and have what is always known among them; a set without the mark has the least sums of their

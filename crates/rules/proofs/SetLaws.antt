@@ -24,8 +24,8 @@ use Rattle.rules.specs.Calls.{Routine, routine_at}
 use Rattle.rules.specs.CallLaws.{AllFormed}
 use Rattle.rules.specs.Verdict.{environment_of, form_faults, faults}
 use Rattle.rules.specs.ByChains.{by_chains}
-use Rattle.rules.specs.Agreement.{none_first, faults-agree}
-use Rattle.rules.specs.Decidable.{decider, decider-decides}
+use Rattle.rules.proofs.Agreement.{none_first, faults-agree}
+use Rattle.rules.proofs.Decidable.{decider, decider-decides}
 use Rattle.rules.specs.AcceptedLaws.{accepted-clear, clear, Clear}
 use Rattle.rules.specs.PutLaws.{put-kept, put_count, put-object, head-whole, objects-long, object-word}
 use Rattle.rules.specs.Sets.{object_words, with_objects, members, member_of, routine_of, routines_of, before}

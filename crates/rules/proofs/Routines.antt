@@ -33,8 +33,8 @@ use Rattle.rules.specs.FactRules.{among}
 use Rattle.rules.specs.Rules.{access_at, bounds_at, same_rows, rows_at}
 use Rattle.rules.specs.Verdict.{environment_of, verdict_of}
 use Rattle.rules.specs.ByChains.{Decided, chain_faults}
-use Rattle.rules.specs.Decidable.{decided}
-use Rattle.rules.specs.Agreement.{verdict-agrees}
+use Rattle.rules.proofs.Decidable.{decided}
+use Rattle.rules.proofs.Agreement.{verdict-agrees}
 use Rattle.answers.specs.declared.refusals.Refusal.TheVariants.{BoundsNotShown, BundleAccess}
 use Rattle.rules.specs.declared.Verdict.{Verdict}
 use Rattle.rules.specs.declared.Verdict.TheVariants.{Accepted, Refused}

@@ -4,7 +4,7 @@ use Rattle.std.proofs.Common.{mul-zero, leb-true, leb-false, arith}
 use Rattle.sums.specs.Numbers.{zero_var}
 use Rattle.sums.specs.Scale.{scale}
 use Rattle.chains.specs.Facts.{Variables, Node, Known, empty, ChainWithin, Contradiction, EndShown}
-use Rattle.chains.specs.Chains.{Sane, sinks, weaken}
+use Rattle.chains.proofs.Chains.{Sane, sinks, weaken}
 
 -- A chain from q to r whose sum with k is at most j.
 pub end-alone : (vars : Variables) (K : Known) → Sane vars K → (size q k r j : ℕ) → Node vars q → Node vars r

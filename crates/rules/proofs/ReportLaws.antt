@@ -25,13 +25,13 @@ use Rattle.reports.specs.Reports.{reported}
 use Rattle.rules.specs.Verdict.{environment_of, faults}
 use Rattle.rules.specs.Stored.{store}
 use Rattle.rules.specs.ByChains.{Decider, by_chains, variables, DecidesTable, Reported}
-use Rattle.rules.specs.Decidable.{decided}
+use Rattle.rules.proofs.Decidable.{decided}
 use Rattle.rules.specs.CallLaws.{none-formed}
 use Rattle.rules.specs.AcceptedLaws.{faults-clear}
-use Rattle.rules.specs.ListedLaws.{entries-right}
-use Rattle.rules.specs.StateRepresentation.{new-represented}
-use Rattle.rules.specs.BeforeLaws.{before-represented}
-use Rattle.rules.specs.Agreement.{SameFirst, safe-agrees, faults-agree}
+use Rattle.rules.proofs.ListedLaws.{entries-right}
+use Rattle.rules.proofs.StateRepresentation.{new-represented}
+use Rattle.rules.proofs.BeforeLaws.{before-represented}
+use Rattle.rules.proofs.Agreement.{SameFirst, safe-agrees, faults-agree}
 
 module _ (T : List ℤ) (h : Sections) (L : List ℤ) (formed : form_of T ≡ form.WellFormed h) (laid : layout T h ≡ []) (listed : list_faults T h L ≡ [])
     (q : Decider)

@@ -19,8 +19,8 @@ use Rattle.rules.specs.StateBefore.{line_before, state_before}
 use Rattle.rules.specs.Verdict.{environment_of}
 use Rattle.rules.specs.Stored.{store}
 use Rattle.rules.specs.ByChains.{Decider, Decides, by_chains, variables}
-use Rattle.rules.specs.ListedLaws.{EntriesRight}
-use Rattle.rules.specs.StateRepresentation.{StateRepresents, either, meets, state-after, state-called, state-assumed, state-negated, state-at-head}
+use Rattle.rules.proofs.ListedLaws.{EntriesRight}
+use Rattle.rules.proofs.StateRepresentation.{StateRepresents, either, meets, state-after, state-called, state-assumed, state-negated, state-at-head}
 use Rattle.rules.specs.declared.Environment.{Environment}
 
 module _ (T : List ℤ) (h : Sections) (w : Limits h) (L : List ℤ) (listed : (a : ℕ) → EntriesRight T h w (entries_of L a)) (q : Decider)

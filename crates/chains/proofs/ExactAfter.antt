@@ -13,12 +13,12 @@ use Rattle.chains.specs.Facts.{Variables, Node, Comparable, same_kind, from_zero
 use Rattle.chains.specs.Facts.{Contradiction, With, before, fact, Without, always, contradicted, raise, Moved, moved, Shifted, Both, both}
 use Rattle.chains.specs.LeastSums.{LeastSums}
 use Rattle.chains.specs.History.{Slight}
-use Rattle.chains.specs.Chains.{one, more-contradiction, contradiction-of, zero-node, left-node, right-node}
-use Rattle.chains.specs.Chains.{always-comparable, Sane, shows-every, closed, least-same, least_known}
-use Rattle.chains.specs.Operations.{with-comparable, without-comparable, moved-comparable, both-comparable, new-least}
-use Rattle.chains.specs.Operations.{add-shown, add-contradiction, add-least, anew_sums, anew-least, shift-least, closure-least}
-use Rattle.chains.specs.Join.{join_at, join-least}
-use Rattle.chains.specs.Exact.{Exact, in_rows, high, low}
+use Rattle.chains.proofs.Chains.{one, more-contradiction, contradiction-of, zero-node, left-node, right-node}
+use Rattle.chains.proofs.Chains.{always-comparable, Sane, shows-every, closed, least-same, least_known}
+use Rattle.chains.proofs.Operations.{with-comparable, without-comparable, moved-comparable, both-comparable, new-least}
+use Rattle.chains.proofs.Operations.{add-shown, add-contradiction, add-least, anew_sums, anew-least, shift-least, closure-least}
+use Rattle.chains.proofs.Join.{join_at, join-least}
+use Rattle.chains.proofs.Exact.{Exact, in_rows, high, low}
 use Rattle.facts.specs.declared.FactSet.{FactSet}
 
 -- ---- new

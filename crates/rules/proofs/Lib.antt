@@ -1,0 +1,9 @@
+pub mod Agreement
+pub mod BeforeLaws
+pub mod Decidable
+pub mod ListedLaws
+pub mod ReportLaws
+pub mod Representation
+pub mod Routines
+pub mod SetLaws
+pub mod StateRepresentation
