@@ -31,7 +31,7 @@ use Rattle.blocks.specs.ShapeLaws.{laid, table-laid}
 use Rattle.rules.specs.Stored.{store, block_faults}
 use Rattle.rules.specs.Verdict.{environment_of, verdict_reads}
 use Rattle.rules.specs.Small.{RefusalSmall, FirstSmall, ReadingSmall, one-small, also-small, verdict-small}
-use Rattle.rules.specs.SmallLaws.{block-layout-small, block-small, judged-small}
+use Rattle.rules.proofs.SmallLaws.{block-layout-small, block-small, judged-small}
 use Rattle.rules.specs.declared.Verdict.{Verdict}
 use Rattle.rules.specs.declared.Verdict.TheVariants.{Accepted, Refused}
 use Rattle.edits.specs.TopLevel.{span_of}

@@ -17,7 +17,7 @@ use Rattle.rules.specs.Verdict.{environment_of}
 use Rattle.rules.specs.Sets.{members, routines_of}
 use Rattle.rules.specs.ByChains.{by_chains}
 use Rattle.rules.specs.Small.{RefusalSmall, FirstSmall, also-small}
-use Rattle.rules.specs.SmallLaws.{faults-small}
+use Rattle.rules.proofs.SmallLaws.{faults-small}
 use Rattle.rules.proofs.SetLaws.{faults-formed}
 use Rattle.machine.specs.Machine as machine
 use Rattle.machine.specs.SetMachine.{Stack, stack_after, start_stack, next_stack}

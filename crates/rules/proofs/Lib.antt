@@ -7,3 +7,4 @@ pub mod Representation
 pub mod Routines
 pub mod SetLaws
 pub mod StateRepresentation
+pub mod SmallLaws

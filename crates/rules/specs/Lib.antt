@@ -20,4 +20,3 @@ pub mod FactsTrue
 pub mod BoundsTrue
 pub mod EnvironmentLaws
 pub mod Small
-pub mod SmallLaws

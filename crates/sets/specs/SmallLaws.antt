@@ -18,7 +18,7 @@ use Rattle.rules.specs.Sets.{member_of, routines_of, before, lists_objects, memb
 use Rattle.rules.specs.Sets.{FirstRefused, AllAccepted, SetRefused, SetJudged}
 use Rattle.rules.proofs.SetLaws.{member-formed, routine-at, before_at, before-short}
 use Rattle.rules.specs.Small.{RefusalSmall, FirstSmall, ReadingSmall, one-small, verdict-small}
-use Rattle.rules.specs.SmallLaws.{faults-small}
+use Rattle.rules.proofs.SmallLaws.{faults-small}
 use Rattle.rules.specs.declared.SetVerdict.{SetVerdict}
 use Rattle.rules.specs.declared.SetVerdict.TheVariants as whole
 use Rattle.rules.specs.declared.Verdict.{Verdict}

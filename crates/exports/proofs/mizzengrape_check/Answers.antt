@@ -1,6 +1,6 @@
 -- `exports::mizzengrape_check` meets its contract.
 use borrow.Author.Rules.{rules}
-use Rattle.rules.specs.SmallLaws.{judged-small}
+use Rattle.rules.proofs.SmallLaws.{judged-small}
 use Rattle.exports.specs.WordLaws.{no_room, checked-words}
 use Rattle.exports.proofs.mizzengrape_check.Goals as goal
 

@@ -4,7 +4,7 @@ use mathlib.Core.List.{List}
 use lib.ListN.{length}
 use mathlib.Core.Path.{◌≡◌, refl, ap, ◌∙◌}
 use native.Mathlib.Omega.{arith}
-use Rattle.rules.specs.SmallLaws.{judged-small}
+use Rattle.rules.proofs.SmallLaws.{judged-small}
 use Rattle.exports.specs.Numbers.{verdict-long, report-words, no-room-answer, no-room-report}
 use Rattle.exports.proofs.mizzengrape_check_with_facts.Goals as goal
 
