@@ -2,9 +2,9 @@
 """What docs/MAP.md names is there. usage: tools/map.py  (run in the repository)
 
 Holds that each `name` behind a CRATE/FILE of a line "definition" is defined in that file; that each law of a line "contract or theorem" is (one that has a
-CRATE/FILE in brackets behind it: in that file; one with a hyphen or an underscore in its name: in one of the specs, or it is a function), and that each
-`crate::..::name` there stands in that crate's code; that each edit and attack has its file, and that each vector is a case of vectors/. A mention is not
-enough: a law that is taken away is missing.
+CRATE/FILE in brackets behind it: in that file; one with a hyphen or an underscore in its name: in one file of specs/ or proofs/, or it is a function), and
+that each `crate::..::name` there stands in that crate's code; that each edit and attack has its file, and that each vector is a case of vectors/. A mention
+is not enough: a law that is taken away is missing.
 Prints what is missing; the exit status is then 1."""
 import re
 import sys
@@ -17,7 +17,13 @@ LAW = re.compile(r"`([^`\s]+)`(?: \(([a-z_]+)/([A-Z]\w*)\))?")
 
 
 def specs(crate, file):
-    return Path(f"crates/{crate}/specs/{file}.antt")
+    """The file of definitions and laws; laws that rest on definitions with a must-fail edit stand in proofs/."""
+    return next((path for path in (Path(f"crates/{crate}/{folder}/{file}.antt") for folder in ("specs", "proofs")) if path.exists()),
+                Path(f"crates/{crate}/specs/{file}.antt"))
+
+
+def all_specs():
+    return [path for folder in ("specs", "proofs") for path in Path("crates").glob(f"*/{folder}/*.antt")]
 
 
 def defines(path, name):
@@ -54,7 +60,7 @@ def missing_laws(item):
         elif crate:
             if not defines(specs(crate, file), name):
                 yield f"{specs(crate, file)} does not prove {name}"
-        elif re.search("[-_]", name) and not any(defines(path, name) for path in Path("crates").glob("*/specs/*.antt")) and not in_code(name):
+        elif re.search("[-_]", name) and not any(defines(path, name) for path in all_specs()) and not in_code(name):
             yield f"no specs prove {name}"
 
 
