@@ -66,6 +66,7 @@ pub fn walk(
         report: reported,
     };
     let mut side: Walked;
+    let mut next: FactSet;
     while left > 0 {
         if at >= end {
             break;
@@ -113,7 +114,8 @@ pub fn walk(
                         let answers = answer(now.facts, ask_statement(simple));
                         let plan = plan_statement(sizes, spans, simple, answers);
                         let effect = plan.effect;
-                        now.facts = now.facts.after(plan.change);
+                        next = now.facts.after(plan.change);
+                        now.facts = next;
                         if touches(force.named, pointers, effect) {
                             let verdict = check_effect(force.seen, now.facts, effect, at);
                             let Verdict::Accepted = verdict else {
@@ -138,9 +140,10 @@ pub fn walk(
                 let middle = inner + then_count;
                 let rest = middle + else_count;
                 let answers = answer(now.facts, ask_condition(condition));
+                next = now.facts.after(assume(condition, answers));
                 side = Walked {
                     verdict: Verdict::Accepted,
-                    facts: now.facts.after(assume(condition, answers)),
+                    facts: next,
                     rows,
                     report,
                 };
@@ -154,7 +157,8 @@ pub fn walk(
                 let Verdict::Accepted = then_verdict else {
                     return side;
                 };
-                now.facts = now.facts.after(assume(negated(condition), answers));
+                next = now.facts.after(assume(negated(condition), answers));
+                now.facts = next;
                 now.rows = rows;
                 let then_report = side.report;
                 now.report = then_report;
@@ -188,7 +192,8 @@ pub fn walk(
                         report,
                     };
                 }
-                now.facts = side.facts.join(now.facts, pointers);
+                next = side.facts.join(now.facts, pointers);
+                now.facts = next;
                 if !same_rows(rows, then_rows) {
                     force = force_of(table, sections, then_rows);
                 }
@@ -206,14 +211,17 @@ pub fn walk(
                         report,
                     };
                 };
-                now.facts = lose(table, sections, inner, count, now.facts);
+                next = lose(table, sections, inner, count, now.facts);
+                now.facts = next;
                 if 0 < listed.len() {
-                    now.facts = assume_entries(listed, at, now.facts);
+                    next = assume_entries(listed, at, now.facts);
+                    now.facts = next;
                 }
                 let head = answer(now.facts, ask_condition(condition));
+                next = now.facts.after(assume(condition, head));
                 side = Walked {
                     verdict: Verdict::Accepted,
-                    facts: now.facts.after(assume(condition, head)),
+                    facts: next,
                     rows,
                     report,
                 };
@@ -244,16 +252,17 @@ pub fn walk(
                         report,
                     };
                 }
-                now.facts = now.facts.after(assume(negated(condition), head));
+                let otherwise = assume(negated(condition), head);
+                next = now.facts.after(otherwise);
+                now.facts = next;
                 let body_report = side.report;
                 now.report = body_report;
                 at = rest;
             }
             Statement::Bundle { count } => {
                 let rest = inner + count;
-                now = walk_bundle(
-                    table, sections, frame, force, at, count, now.facts, now.report,
-                );
+                next = now.facts;
+                now = walk_bundle(table, sections, frame, force, at, count, next, now.report);
                 let held_verdict = now.verdict;
                 let Verdict::Accepted = held_verdict else {
                     return now;
@@ -277,7 +286,8 @@ pub fn walk(
                         report,
                     };
                 };
-                now.facts = drop_result(now.facts, call);
+                next = drop_result(now.facts, call);
+                now.facts = next;
                 at = inner;
             }
         }

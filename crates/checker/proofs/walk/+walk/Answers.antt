@@ -102,7 +102,7 @@ check_effect-verdict-requires t c = applied-short
     (environment_of c.args.table.now
     c.args.sections) _ _ (measured-by _ _
     c.requires.1 (carried_from (met t (goal.at.check_effect-verdict-requires t c).Joined-is_access) _ _ _ _ c.ask_statement.ensures
-    c.answer-answers.ensures c.plan_statement-plan.ensures c.after-now.ensures))
+    c.answer-answers.ensures c.plan_statement-plan.ensures c.after-next.ensures))
     c.requires.0 (plain-ranged (arm (turn t (goal.at.check_effect-verdict-requires t c).In-Read)
     c.in-Plain.is))
 
@@ -117,7 +117,7 @@ returns-in_default-verdict-2 t c = plain-refused (arm
     c.ask_statement.ensures
     c.answer-answers.ensures
     c.plan_statement-plan.ensures
-    c.after-now.ensures)) c.check_effect-verdict.ensures refl
+    c.after-next.ensures)) c.check_effect-verdict.ensures refl
     c.in_default-verdict-2.is
 
 pub loop-left-smaller-in-Accepted-verdict : goal.loop-left-smaller-in-Accepted-verdict
@@ -136,7 +136,7 @@ loop-left-preserved-in-Accepted-verdict t c = turn-plain (arm
     c.ask_statement.ensures
     c.answer-answers.ensures
     c.plan_statement-plan.ensures
-    c.after-now.ensures)) c.check_effect-verdict.ensures
+    c.after-next.ensures)) c.check_effect-verdict.ensures
     (elim c.if-is_access.branch [
       | then-is_access w ↦ marked-safe _ _ _ _ _ w.access_safe-safe.ensures (ap (λ (r : Walked). r.report.words) w.now-is ∙ w.mark_if-now.ensures)
       | else-is_access w ↦ unmarked _ _ _ _ _ c.is_access.ensures w.if-is_access.false
@@ -152,7 +152,7 @@ loop-left-preserved-else-touches t c = turn-untouched (arm (turn t (goal.at.loop
     c.declares_of-declares.ensures
     ∙ c.in-NoRow.is) (measured-by _ _
     c.requires.1 (carried_from (met t (goal.at.loop-left-preserved-else-touches t c).Joined-is_access) _ _ _ _ c.ask_statement.ensures
-    c.answer-answers.ensures c.plan_statement-plan.ensures c.after-now.ensures))
+    c.answer-answers.ensures c.plan_statement-plan.ensures c.after-next.ensures))
     (elim c.if-is_access.branch [
       | then-is_access w ↦ marked-safe _ _ _ _ _ w.access_safe-safe.ensures (ap (λ (r : Walked). r.report.words) w.now-is ∙ w.mark_if-now.ensures)
       | else-is_access w ↦ unmarked _ _ _ _ _ c.is_access.ensures w.if-is_access.false
@@ -191,7 +191,7 @@ pub returns-in_default-then_verdict : goal.returns-in_default-then_verdict
 returns-in_default-then_verdict t c = then-refused (arm (turn t (goal.at.returns-in_default-then_verdict t c).In-Read)
     c.in-If.is)
     (assumed _ _ _ c.ask_condition.ensures c.answer-answers-in-If.ensures c.assume.ensures
-    c.after.ensures) {r = c.if-inner-middle.side} (elim c.if-inner-middle.branch [
+    c.after-next-in-If.ensures) {r = c.if-inner-middle.side} (elim c.if-inner-middle.branch [
       | then-inner-middle w ↦ rw w.side-is w.walk-side.ensures
       | else-inner-middle w ↦ rw w.side-is (empty-walks _ _ _ _ _ _ _ _ _ _ _ w.if-inner-middle.false)
     ]) c.in_default-then_verdict.is
@@ -219,7 +219,7 @@ pub returns-in_default-other_verdict : goal.returns-in_default-other_verdict
 returns-in_default-other_verdict t c = else-refused (arm
     (turn t (goal.at.returns-in_default-other_verdict t c).In-Read) c.in-If.is)
     (assumed _ _ _ c.ask_condition.ensures c.answer-answers-in-If.ensures c.assume.ensures
-    c.after.ensures) {r = c.if-inner-middle.side}
+    c.after-next-in-If.ensures) {r = c.if-inner-middle.side}
     (elim c.if-inner-middle.branch [
       | then-inner-middle w ↦ rw w.side-is w.walk-side.ensures
       | else-inner-middle w ↦ rw w.side-is (empty-walks _ _ _ _ _ _ _ _ _ _ _ w.if-inner-middle.false)
@@ -229,7 +229,7 @@ returns-in_default-other_verdict t c = else-refused (arm
     (assumed _ _ _ (negated-asked _ _ c.negated.ensures
     c.ask_condition.ensures)
     c.answer-answers-in-If.ensures
-    c.assume-in-If.ensures c.after-now-in-If.ensures)
+    c.assume-in-If.ensures c.after-next-in-If-2.ensures)
     c.walk-now.ensures c.in_default-other_verdict.is
 
 pub returns-then-not-same_rows : goal.returns-then-not-same_rows
@@ -237,7 +237,7 @@ returns-then-not-same_rows t c = sides-differ (arm
     (turn t (goal.at.returns-then-not-same_rows t c).In-Read) c.in-If.is)
     (assumed _ _ _ c.ask_condition.ensures c.answer-answers-in-If.ensures
     c.assume.ensures
-    c.after.ensures) {r = c.if-inner-middle.side}
+    c.after-next-in-If.ensures) {r = c.if-inner-middle.side}
     (elim c.if-inner-middle.branch [
       | then-inner-middle w ↦ rw w.side-is w.walk-side.ensures
       | else-inner-middle w ↦ rw w.side-is (empty-walks _ _ _ _ _ _ _ _ _ _ _ w.if-inner-middle.false)
@@ -246,7 +246,7 @@ returns-then-not-same_rows t c = sides-differ (arm
     (negated-asked _ _ c.negated.ensures
     c.ask_condition.ensures)
     c.answer-answers-in-If.ensures
-    c.assume-in-If.ensures c.after-now-in-If.ensures)
+    c.assume-in-If.ensures c.after-next-in-If-2.ensures)
     {o = settled
     c.if-middle-rest.now}
     (elim c.if-middle-rest.branch [
@@ -264,7 +264,7 @@ loop-left-smaller-then-not-same_rows-2 t c = omega (
 pub loop-left-preserved-then-not-same_rows-2 : goal.loop-left-preserved-then-not-same_rows-2
 loop-left-preserved-then-not-same_rows-2 t c = turn-if (arm (turn t (goal.at.loop-left-preserved-then-not-same_rows-2 t c).In-Read) c.in-If.is)
     (assumed _ _ _ c.ask_condition.ensures
-    c.answer-answers-in-If.ensures c.assume.ensures c.after.ensures) {r = c.if-inner-middle.side}
+    c.answer-answers-in-If.ensures c.assume.ensures c.after-next-in-If.ensures) {r = c.if-inner-middle.side}
     (elim c.if-inner-middle.branch [
       | then-inner-middle w ↦ rw w.side-is w.walk-side.ensures
       | else-inner-middle w ↦ rw w.side-is (empty-walks _ _ _ _ _ _ _ _ _ _ _ w.if-inner-middle.false)
@@ -274,7 +274,7 @@ loop-left-preserved-then-not-same_rows-2 t c = turn-if (arm (turn t (goal.at.loo
     (assumed _ _ _ (negated-asked _ _ c.negated.ensures
     c.ask_condition.ensures) c.answer-answers-in-If.ensures
     c.assume-in-If.ensures
-    c.after-now-in-If.ensures) {o = settled
+    c.after-next-in-If-2.ensures) {o = settled
     c.if-middle-rest.now}
     (elim c.if-middle-rest.branch [
       | then-middle-rest+in-Accepted-other_verdict w ↦ rw w.now-is (settled-walks w.walk-now.ensures w.in-Accepted-other_verdict.is)
@@ -282,7 +282,7 @@ loop-left-preserved-then-not-same_rows-2 t c = turn-if (arm (turn t (goal.at.loo
     ]) refl
     c.same_rows.ensures (c.if-not-same_rows.false)
     c.requires.1.pointers
-    c.join-now.ensures c.force_of-force.ensures
+    c.join-next.ensures c.force_of-force.ensures
 
 pub loop-left-smaller-else-not-same_rows-2 : goal.loop-left-smaller-else-not-same_rows-2
 loop-left-smaller-else-not-same_rows-2 t c = omega (
@@ -295,7 +295,7 @@ loop-left-preserved-else-not-same_rows-2 t c = turn-if (arm (turn t (goal.at.loo
     (assumed _ _ _ c.ask_condition.ensures
     c.answer-answers-in-If.ensures
     c.assume.ensures
-    c.after.ensures)
+    c.after-next-in-If.ensures)
     {r = c.if-inner-middle.side}
     (elim c.if-inner-middle.branch [
       | then-inner-middle w ↦ rw w.side-is w.walk-side.ensures
@@ -304,14 +304,14 @@ loop-left-preserved-else-not-same_rows-2 t c = turn-if (arm (turn t (goal.at.loo
     c.in-Accepted-then_verdict.is c.negated.ensures
     (assumed _ _ _ (negated-asked _ _ c.negated.ensures
     c.ask_condition.ensures) c.answer-answers-in-If.ensures c.assume-in-If.ensures
-    c.after-now-in-If.ensures)
+    c.after-next-in-If-2.ensures)
     {o = settled c.if-middle-rest.now}
     (elim c.if-middle-rest.branch [
       | then-middle-rest+in-Accepted-other_verdict w ↦ rw w.now-is (settled-walks w.walk-now.ensures w.in-Accepted-other_verdict.is)
       | else-middle-rest w ↦ rw w.now-is (empty-walks _ _ _ _ _ _ _ _ _ _ _ w.if-middle-rest.false)
     ]) refl c.same_rows.ensures
     (c.if-not-same_rows.false)
-    c.requires.1.pointers c.join-now.ensures
+    c.requires.1.pointers c.join-next.ensures
     (same-force (turn t (goal.at.loop-left-preserved-else-not-same_rows-2 t c).In-Read).so_far.forced c.same_rows-in-If.ensures (c.if-not-same_rows-2.false))
 
 pub overflow_add-rest-in-While : goal.overflow_add-rest-in-While
@@ -328,16 +328,16 @@ returns-in_default-before t c = before-refused (arm (turn t (goal.at.returns-in_
     c.in-While.is) c.check_entries-before.ensures refl
     c.in_default-before.is
 
-pub lose-now-requires : goal.lose-now-requires
-lose-now-requires t c = let u = (arm (turn t (goal.at.lose-now-requires t c).In-Read) c.in-While.is) in omega
+pub lose-next-requires : goal.lose-next-requires
+lose-next-requires t c = let u = (arm (turn t (goal.at.lose-next-requires t c).In-Read) c.in-While.is) in omega
     (arith, placed u, while-count u)
 
-pub assume_entries-now-requires : goal.assume_entries-now-requires
-assume_entries-now-requires t c = (
+pub assume_entries-next-requires : goal.assume_entries-next-requires
+assume_entries-next-requires t c = (
   c.requires.4,
   omega (
     arith,
-    placed (turn t (goal.at.assume_entries-now-requires t c).In-Read),
+    placed (turn t (goal.at.assume_entries-next-requires t c).In-Read),
   ),
 )
 
@@ -370,11 +370,11 @@ returns-in_default-body_verdict t c = body_refused (arm (turn t (goal.at.returns
     c.in-While.is)
     c.check_entries-before.ensures
     c.in-Accepted-before.is
-    c.lose-now.ensures (elim c.if-listed-gt0.branch [
-      | then-listed-gt0 w ↦ ap (λ (r : Walked). r.facts) w.now-is ∙ w.assume_entries-now.ensures
+    c.lose-next.ensures (elim c.if-listed-gt0.branch [
+      | then-listed-gt0 w ↦ ap (λ (r : Walked). r.facts) w.now-is ∙ w.assume_entries-next.ensures
       | else-listed-gt0 w ↦ ap (λ (r : Walked). r.facts) w.now-is ∙ no-entries _ _ _ w.if-listed-gt0.false
     ]) (assumed _ _ _ c.ask_condition-in-While.ensures c.answer-head.ensures c.assume-in-While.ensures
-    c.after-in-While.ensures) c.walk-side-in-While.ensures c.in_default-body_verdict.is
+    c.after-next-in-While.ensures) c.walk-side-in-While.ensures c.in_default-body_verdict.is
 
 pub check_entries-again-requires : goal.check_entries-again-requires
 check_entries-again-requires t c = (
@@ -390,16 +390,16 @@ returns-in_default-again t c = again-refused (arm
     (turn t (goal.at.returns-in_default-again t c).In-Read) c.in-While.is)
     c.check_entries-before.ensures
     c.in-Accepted-before.is
-    c.lose-now.ensures
+    c.lose-next.ensures
     (elim c.if-listed-gt0.branch [
-      | then-listed-gt0 w ↦ ap (λ (r : Walked). r.facts) w.now-is ∙ w.assume_entries-now.ensures
+      | then-listed-gt0 w ↦ ap (λ (r : Walked). r.facts) w.now-is ∙ w.assume_entries-next.ensures
       | else-listed-gt0 w ↦ ap (λ (r : Walked). r.facts)
           w.now-is ∙ no-entries _ _ _ w.if-listed-gt0.false
     ])
     (assumed _ _ _ c.ask_condition-in-While.ensures
     c.answer-head.ensures
     c.assume-in-While.ensures
-    c.after-in-While.ensures)
+    c.after-next-in-While.ensures)
     c.walk-side-in-While.ensures c.in-Accepted-body_verdict.is
     c.check_entries-again.ensures refl c.in_default-again.is
 
@@ -408,24 +408,24 @@ returns-then-not-same_rows-3 t c = ends-differ (arm
     (turn t (goal.at.returns-then-not-same_rows-3 t c).In-Read) c.in-While.is)
     c.check_entries-before.ensures
     c.in-Accepted-before.is
-    c.lose-now.ensures
+    c.lose-next.ensures
     (elim c.if-listed-gt0.branch [
-      | then-listed-gt0 w ↦ ap (λ (r : Walked). r.facts) w.now-is ∙ w.assume_entries-now.ensures
+      | then-listed-gt0 w ↦ ap (λ (r : Walked). r.facts) w.now-is ∙ w.assume_entries-next.ensures
       | else-listed-gt0 w ↦ ap (λ (r : Walked). r.facts) w.now-is ∙ no-entries _ _ _ w.if-listed-gt0.false
     ])
     (assumed _ _ _ c.ask_condition-in-While.ensures
     c.answer-head.ensures
     c.assume-in-While.ensures
-    c.after-in-While.ensures)
+    c.after-next-in-While.ensures)
     c.walk-side-in-While.ensures
     c.in-Accepted-body_verdict.is c.check_entries-again.ensures
     c.in-Accepted-again.is c.same_rows-in-While.ensures (not-true _
     c.if-not-same_rows-3.true-raw) refl
 
-pub assume-requires-in-While-2 : goal.assume-requires-in-While-2
-assume-requires-in-While-2 t c = negated-offset _ _ c.negated-in-While.ensures
+pub assume-otherwise-requires : goal.assume-otherwise-requires
+assume-otherwise-requires t c = negated-offset _ _ c.negated-in-While.ensures
     (while-offset (arm
-    (turn t (goal.at.assume-requires-in-While-2 t c).In-Read)
+    (turn t (goal.at.assume-otherwise-requires t c).In-Read)
     c.in-While.is))
 
 pub loop-left-smaller-in-While : goal.loop-left-smaller-in-While
@@ -438,21 +438,21 @@ pub loop-left-preserved-in-While : goal.loop-left-preserved-in-While
 loop-left-preserved-in-While t c = turn-while (arm
     (turn t (goal.at.loop-left-preserved-in-While t c).In-Read) c.in-While.is)
     c.check_entries-before.ensures
-    c.in-Accepted-before.is c.lose-now.ensures
+    c.in-Accepted-before.is c.lose-next.ensures
     (elim c.if-listed-gt0.branch [
-      | then-listed-gt0 w ↦ ap (λ (r : Walked). r.facts) w.now-is ∙ w.assume_entries-now.ensures
+      | then-listed-gt0 w ↦ ap (λ (r : Walked). r.facts) w.now-is ∙ w.assume_entries-next.ensures
       | else-listed-gt0 w ↦ ap (λ (r : Walked). r.facts) w.now-is ∙ no-entries _ _ _ w.if-listed-gt0.false
     ])
     (assumed _ _ _ c.ask_condition-in-While.ensures c.answer-head.ensures
     c.assume-in-While.ensures
-    c.after-in-While.ensures) c.walk-side-in-While.ensures
+    c.after-next-in-While.ensures) c.walk-side-in-While.ensures
     c.in-Accepted-body_verdict.is
     c.check_entries-again.ensures c.in-Accepted-again.is
     c.same_rows-in-While.ensures (c.if-not-same_rows-3.false)
     c.negated-in-While.ensures
     (assumed _ _ _ (negated-asked _ _ c.negated-in-While.ensures
     c.ask_condition-in-While.ensures)
-    c.answer-head.ensures c.assume-in-While-2.ensures c.after-now-in-While.ensures)
+    c.answer-head.ensures c.assume-otherwise.ensures c.after-next-in-While-2.ensures)
 
 pub overflow_add-rest-in-Bundle : goal.overflow_add-rest-in-Bundle
 overflow_add-rest-in-Bundle t c = let u = (arm (turn t (goal.at.overflow_add-rest-in-Bundle t c).In-Read) c.in-Bundle.is)
@@ -499,7 +499,7 @@ loop-left-smaller t c = omega (arith, (turn t (goal.at.loop-left-smaller t c).In
 
 pub loop-left-preserved : goal.loop-left-preserved
 loop-left-preserved t c = turn-call (arm (turn t (goal.at.loop-left-preserved t c).In-Read) c.in-Call.is)
-    c.check_call-verdict.ensures c.in-Accepted-verdict-2.is c.drop_result-now.ensures
+    c.check_call-verdict.ensures c.in-Accepted-verdict-2.is c.drop_result-next.ensures
 
 pub returns : goal.returns
 returns t c = elim c.loop-left-test.branch [
