@@ -1,9 +1,9 @@
 // The walk over the statements.
-ghost use Rattle.std.specs.Prelude.{◌≤◌, length};
+ghost use Rattle.std.specs.Prelude.{◌≤◌, ◌<◌, length};
 ghost use Rattle.blocks.specs.Tree.{parse};
 ghost use Rattle.rules.specs.Verdict.{environment_of};
 ghost use Rattle.rules.specs.Ranges.{Measured};
-ghost use Rattle.declared.specs.Force.{state_of, Framed, Forced};
+ghost use Rattle.declared.specs.Force.{state_of, Framed, Forced, DeclaresRow};
 ghost use Rattle.declared.specs.Callee.{callees_in};
 ghost use Rattle.checker.specs.Walk.{InPlace, Walks};
 
@@ -25,6 +25,25 @@ use reports::{Report, mark_if};
 use rules::Verdict;
 use statements::{Statement, StatementRead};
 use words::sections::Sections;
+
+// `declare_row` with what is in force changed in place, so that its answer, which is large, does not stand on the stack once for each depth of the walk.
+#[inline(never)]
+fn declare_here(
+    table: &[i32],
+    sections: Sections,
+    force: &mut Force,
+    facts: FactSet,
+    pointer: usize,
+    row: usize,
+    at: usize,
+) -> Verdict
+    requires { Forced (environment_of table.now sections) force.old.rows.each force.old × (pointer < 16) × (row < 64) }
+    ensures { DeclaresRow (environment_of table.now sections) facts force.old.rows.each pointer row at (record { verdict = result; force = force.new }) }
+{
+    let declared = declare_row(table, sections, *force, facts, pointer, row, at);
+    *force = declared.force;
+    declared.verdict
+}
 
 // The block of `first` to `end` - 1, which cause 6 does not refuse, from the facts `given`, what is in force, `begun`, and the report so far. `listed` is the
 // list of loop facts. `allowed` is at least the number of the block's statements; it falls at each. `callees` are the lengths of the tables that
@@ -52,8 +71,6 @@ pub fn walk(
     ensures { Walks (environment_of table.now sections) listed.now (callees_in words.now callees.now)
         (parse allowed table.now sections first end) (state_of given begun.rows.each) reported.words result }
 {
-    let sizes = frame.sizes;
-    let spans = frame.spans;
     let pointers = frame.pointers;
     let mut at = first;
     let mut left = allowed;
@@ -90,10 +107,9 @@ pub fn walk(
                 let declares = declares_of(simple);
                 match declares {
                     Declares::Row { pointer, row } => {
-                        let declared = declare_row(
-                            table, sections, force, now.facts, pointer, row, at,
+                        let verdict = declare_here(
+                            table, sections, &mut force, now.facts, pointer, row, at,
                         );
-                        let verdict = declared.verdict;
                         let Verdict::Accepted = verdict else {
                             let facts = now.facts;
                             return Walked {
@@ -103,7 +119,6 @@ pub fn walk(
                                 report,
                             };
                         };
-                        force = declared.force;
                         at = inner;
                     }
                     Declares::NoRow => {
@@ -112,7 +127,7 @@ pub fn walk(
                             now.report = mark_if(now.report, at, safe);
                         }
                         let answers = answer(now.facts, ask_statement(simple));
-                        let plan = plan_statement(sizes, spans, simple, answers);
+                        let plan = plan_statement(frame.sizes, frame.spans, simple, answers);
                         let effect = plan.effect;
                         next = now.facts.after(plan.change);
                         now.facts = next;

@@ -74,7 +74,8 @@ pub fn seen_in(table: &[i32], sections: Sections, rows: Rows) -> Seen
     }
 }
 
-// What the rows put in force.
+// What the rows put in force. Not inlined: its temporaries would stand on the stack below each caller's calls.
+#[inline(never)]
 pub fn force_of(table: &[i32], sections: Sections, rows: Rows) -> Force
     ensures { Forced (environment_of table.now sections) rows.each result }
 {

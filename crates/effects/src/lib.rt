@@ -70,6 +70,8 @@ fn fact_if(told: bool, x: usize, y: usize, k: u64) -> Fact
 }
 
 // The facts that a condition gives: left RELATION right + offset; the answers tell whether left <= right + offset and right + offset <= left are shown.
+// Not inlined: the checker's walk would hold its temporaries once for each depth.
+#[inline(never)]
 pub fn assume(condition: Condition, answers: Answers) -> Change
     requires { condition.offset < 2 ^ 32 }
     ensures { Assumes condition answers result }

@@ -55,11 +55,11 @@ returns-in_default t c = kept-unread c.loop-left.invariant
 pub overflow_add-inner : goal.overflow_add-inner
 overflow_add-inner t c = omega (arith, placed (turn t (goal.at.overflow_add-inner t c).In-Read))
 
-pub declare_row-declared-requires : goal.declare_row-declared-requires
-declare_row-declared-requires t c = let l = row-named-within
-    (arm (turn t (goal.at.declare_row-declared-requires t c).In-Read) c.in-Plain.is)
+pub declare_here-verdict-requires : goal.declare_here-verdict-requires
+declare_here-verdict-requires t c = let l = row-named-within
+    (arm (turn t (goal.at.declare_here-verdict-requires t c).In-Read) c.in-Plain.is)
     (sym c.declares_of-declares.ensures ∙ c.in-Row.is) in (
-      (turn t (goal.at.declare_row-declared-requires t c).In-Read).so_far.forced,
+      (turn t (goal.at.declare_here-verdict-requires t c).In-Read).so_far.forced,
       l.0,
       omega (arith, l.0, l.1),
     )
@@ -68,7 +68,7 @@ pub returns-in_default-verdict : goal.returns-in_default-verdict
 returns-in_default-verdict t c = row-refused (arm (turn t (goal.at.returns-in_default-verdict t c).In-Read)
     c.in-Plain.is) (sym
     c.declares_of-declares.ensures ∙ c.in-Row.is)
-    c.declare_row-declared.ensures refl c.in_default-verdict.is
+    c.declare_here-verdict.ensures refl c.in_default-verdict.is
 
 pub loop-left-smaller-in-Row : goal.loop-left-smaller-in-Row
 loop-left-smaller-in-Row t c = omega (arith, (turn t (goal.at.loop-left-smaller-in-Row t c).In-Read).some)
@@ -77,7 +77,7 @@ pub loop-left-preserved-in-Row : goal.loop-left-preserved-in-Row
 loop-left-preserved-in-Row t c = turn-row (arm (turn t (goal.at.loop-left-preserved-in-Row t c).In-Read)
     c.in-Plain.is) (sym
     c.declares_of-declares.ensures ∙ c.in-Row.is)
-    c.declare_row-declared.ensures c.in-Accepted.is
+    c.declare_here-verdict.ensures c.in-Accepted.is
 
 pub access_safe-safe-requires : goal.access_safe-safe-requires
 access_safe-safe-requires t c = plain-ranged
