@@ -1,8 +1,10 @@
 // The walk over the statements.
-ghost use Rattle.std.specs.Prelude.{◌≤◌, ◌<◌, length};
+ghost use Rattle.std.specs.Prelude.{◌≤◌, ◌<◌, ◌≡◌, ◌^◌, length};
 ghost use Rattle.blocks.specs.Tree.{parse};
 ghost use Rattle.rules.specs.Verdict.{environment_of};
+ghost use Rattle.listed.specs.Entries.{entries_of};
 ghost use Rattle.rules.specs.Ranges.{Measured};
+ghost use Rattle.rules.specs.Stored.{entry_facts};
 ghost use Rattle.declared.specs.Force.{state_of, Framed, Forced, DeclaresRow};
 ghost use Rattle.declared.specs.Callee.{callees_in};
 ghost use Rattle.checker.specs.Walk.{InPlace, Walks};
@@ -23,6 +25,7 @@ use facts::FactSet;
 use reader::read_due;
 use reports::{Report, mark_if};
 use rules::Verdict;
+use rules::lookups::Rows;
 use statements::{Statement, StatementRead};
 use words::sections::Sections;
 
@@ -43,6 +46,23 @@ fn declare_here(
     let declared = declare_row(table, sections, *force, facts, pointer, row, at);
     *force = declared.force;
     declared.verdict
+}
+
+// `force_of` in place.
+#[inline(never)]
+fn put_in_force(table: &[i32], sections: Sections, rows: Rows, force: &mut Force)
+    ensures { Forced (environment_of table.now sections) rows.each force.new }
+{
+    *force = force_of(table, sections, rows);
+}
+
+// `assume_entries` in place.
+#[inline(never)]
+fn assume_here(listed: &[i32], at: usize, facts: &mut FactSet)
+    requires { (length listed.now ≤ 1024) × (at < 2 ^ 40) }
+    ensures { facts.new ≡ entry_facts (entries_of listed.now at) facts.old }
+{
+    *facts = assume_entries(listed, at, *facts);
 }
 
 // The block of `first` to `end` - 1, which cause 6 does not refuse, from the facts `given`, what is in force, `begun`, and the report so far. `listed` is the
@@ -124,7 +144,7 @@ pub fn walk(
                     Declares::NoRow => {
                         if is_access(simple) {
                             let safe = access_safe(force.seen, now.facts, simple);
-                            now.report = mark_if(now.report, at, safe);
+                            now.report = mark_if(report, at, safe);
                         }
                         let answers = answer(now.facts, ask_statement(simple));
                         let plan = plan_statement(frame.sizes, frame.spans, simple, answers);
@@ -210,7 +230,7 @@ pub fn walk(
                 next = side.facts.join(now.facts, pointers);
                 now.facts = next;
                 if !same_rows(rows, then_rows) {
-                    force = force_of(table, sections, then_rows);
+                    put_in_force(table, sections, then_rows, &mut force);
                 }
                 at = rest;
             }
@@ -229,8 +249,7 @@ pub fn walk(
                 next = lose(table, sections, inner, count, now.facts);
                 now.facts = next;
                 if 0 < listed.len() {
-                    next = assume_entries(listed, at, now.facts);
-                    now.facts = next;
+                    assume_here(listed, at, &mut now.facts);
                 }
                 let head = answer(now.facts, ask_condition(condition));
                 next = now.facts.after(assume(condition, head));
@@ -277,14 +296,14 @@ pub fn walk(
             Statement::Bundle { count } => {
                 let rest = inner + count;
                 next = now.facts;
-                now = walk_bundle(table, sections, frame, force, at, count, next, now.report);
+                now = walk_bundle(table, sections, frame, force, at, count, next, report);
                 let held_verdict = now.verdict;
                 let Verdict::Accepted = held_verdict else {
                     return now;
                 };
                 let held_rows = now.rows;
                 if !same_rows(rows, held_rows) {
-                    force = force_of(table, sections, held_rows);
+                    put_in_force(table, sections, held_rows, &mut force);
                 }
                 at = rest;
             }
