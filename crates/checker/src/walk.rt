@@ -56,13 +56,13 @@ fn put_in_force(table: &[i32], sections: Sections, rows: Rows, force: &mut Force
     *force = force_of(table, sections, rows);
 }
 
-// `assume_entries` in place.
+// `assume_entries` on the facts of `now`: a local is handed over where it stands, and a part of it as a copy.
 #[inline(never)]
-fn assume_here(listed: &[i32], at: usize, facts: &mut FactSet)
+fn assume_within(listed: &[i32], at: usize, now: Walked) -> FactSet
     requires { (length listed.now ≤ 1024) × (at < 2 ^ 40) }
-    ensures { facts.new ≡ entry_facts (entries_of listed.now at) facts.old }
+    ensures { result ≡ entry_facts (entries_of listed.now at) now.facts }
 {
-    *facts = assume_entries(listed, at, *facts);
+    assume_entries(listed, at, now.facts)
 }
 
 // The block of `first` to `end` - 1, which cause 6 does not refuse, from the facts `given`, what is in force, `begun`, and the report so far. `listed` is the
@@ -249,7 +249,8 @@ pub fn walk(
                 next = lose(table, sections, inner, count, now.facts);
                 now.facts = next;
                 if 0 < listed.len() {
-                    assume_here(listed, at, &mut now.facts);
+                    next = assume_within(listed, at, now);
+                    now.facts = next;
                 }
                 let head = answer(now.facts, ask_condition(condition));
                 next = now.facts.after(assume(condition, head));

@@ -332,12 +332,12 @@ pub lose-next-requires : goal.lose-next-requires
 lose-next-requires t c = let u = (arm (turn t (goal.at.lose-next-requires t c).In-Read) c.in-While.is) in omega
     (arith, placed u, while-count u)
 
-pub assume_here-requires : goal.assume_here-requires
-assume_here-requires t c = (
+pub assume_within-next-requires : goal.assume_within-next-requires
+assume_within-next-requires t c = (
   c.requires.4,
   omega (
     arith,
-    placed (turn t (goal.at.assume_here-requires t c).In-Read),
+    placed (turn t (goal.at.assume_within-next-requires t c).In-Read),
   ),
 )
 
@@ -371,7 +371,7 @@ returns-in_default-body_verdict t c = body_refused (arm (turn t (goal.at.returns
     c.check_entries-before.ensures
     c.in-Accepted-before.is
     c.lose-next.ensures (elim c.if-listed-gt0.branch [
-      | then-listed-gt0 w ↦ ap (λ (r : Walked). r.facts) w.now-is ∙ w.assume_here.ensures
+      | then-listed-gt0 w ↦ ap (λ (r : Walked). r.facts) w.now-is ∙ w.assume_within-next.ensures
       | else-listed-gt0 w ↦ ap (λ (r : Walked). r.facts) w.now-is ∙ no-entries _ _ _ w.if-listed-gt0.false
     ]) (assumed _ _ _ c.ask_condition-in-While.ensures c.answer-head.ensures c.assume-in-While.ensures
     c.after-next-in-While.ensures) c.walk-side-in-While.ensures c.in_default-body_verdict.is
@@ -392,7 +392,7 @@ returns-in_default-again t c = again-refused (arm
     c.in-Accepted-before.is
     c.lose-next.ensures
     (elim c.if-listed-gt0.branch [
-      | then-listed-gt0 w ↦ ap (λ (r : Walked). r.facts) w.now-is ∙ w.assume_here.ensures
+      | then-listed-gt0 w ↦ ap (λ (r : Walked). r.facts) w.now-is ∙ w.assume_within-next.ensures
       | else-listed-gt0 w ↦ ap (λ (r : Walked). r.facts)
           w.now-is ∙ no-entries _ _ _ w.if-listed-gt0.false
     ])
@@ -410,7 +410,7 @@ returns-then-not-same_rows-3 t c = ends-differ (arm
     c.in-Accepted-before.is
     c.lose-next.ensures
     (elim c.if-listed-gt0.branch [
-      | then-listed-gt0 w ↦ ap (λ (r : Walked). r.facts) w.now-is ∙ w.assume_here.ensures
+      | then-listed-gt0 w ↦ ap (λ (r : Walked). r.facts) w.now-is ∙ w.assume_within-next.ensures
       | else-listed-gt0 w ↦ ap (λ (r : Walked). r.facts) w.now-is ∙ no-entries _ _ _ w.if-listed-gt0.false
     ])
     (assumed _ _ _ c.ask_condition-in-While.ensures
@@ -440,7 +440,7 @@ loop-left-preserved-in-While t c = turn-while (arm
     c.check_entries-before.ensures
     c.in-Accepted-before.is c.lose-next.ensures
     (elim c.if-listed-gt0.branch [
-      | then-listed-gt0 w ↦ ap (λ (r : Walked). r.facts) w.now-is ∙ w.assume_here.ensures
+      | then-listed-gt0 w ↦ ap (λ (r : Walked). r.facts) w.now-is ∙ w.assume_within-next.ensures
       | else-listed-gt0 w ↦ ap (λ (r : Walked). r.facts) w.now-is ∙ no-entries _ _ _ w.if-listed-gt0.false
     ])
     (assumed _ _ _ c.ask_condition-in-While.ensures c.answer-head.ensures
