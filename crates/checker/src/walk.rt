@@ -69,8 +69,9 @@ fn assume_within(listed: &[i32], at: usize, now: Walked) -> FactSet
 // list of loop facts. `allowed` is at least the number of the block's statements; it falls at each. `callees` are the lengths of the tables that
 // may be called: they stand in `words`, one after the other.
 // The fact set is changed in place by its own methods alone: a function in between would copy it in and out. Its frame stands on the stack once for each depth,
-// and each local has a place of its own there: `now` is the state of this block, `side` what a nested one is walked from and then what it leaves; nothing else
-// is large. What would be copied for nothing is left out: `side` has no value before the first nested block, and an empty block is not walked.
+// and each local has a place of its own there: `now` is the state of this block, `side` what a nested one is walked from and then what it leaves, `next`
+// the facts that a call answers; nothing else but `force` is large. What would be copied for nothing is left out: `side` has no value before the first
+// nested block, and an empty block is not walked.
 pub fn walk(
     table: &[i32],
     sections: Sections,
