@@ -95,6 +95,8 @@ fn prepare_sections(
 }
 
 // Of an accepted table. (Its form is right, so the first arm is never taken; it answers what it would mean.)
+// Not inlined: its locals would stand on the stack below the check.
+#[inline(never)]
 fn prepare_accepted(
     table: &[i32],
     listed: &[i32],
