@@ -1,7 +1,7 @@
 #!/usr/bin/env python3
 """Turns this repository's own definitions and lemmas to the spelling of today's Rattle: words in snake case, facts in camel case.
 
-usage: tools/port-names.py        at the top, once, after /opt/rattle/port/port.py
+usage: tools/port-names.py        at the top, once, after the port.py of the kit
 
 A definition in lower camel case (leastSum) is written least_sum, wherever it stands: specs/, proofs/, the clauses and comments of src/, must-fail/, attacks,
 the documents. A definition that yields a type is a fact, and begins with a capital. A lemma keeps its dashes; some that port.py gave an underscore, since a
