@@ -20,7 +20,7 @@ def listed(commit):
         text = git("show", f"{commit}:docs/DEFINITIONS.txt")
     except subprocess.CalledProcessError:
         return set()
-    return {line.strip() for line in text.splitlines() if line.strip() and not line.startswith("#")}
+    return {line.split()[0] for line in text.splitlines() if line.strip() and not line.startswith("#")}
 
 
 def group(path, line, definitions):

@@ -3,7 +3,7 @@ ghost use Rattle.std.specs.Prelude.{◌≡◌};
 ghost use Rattle.answers.specs.Refusals.{number, place, pointer};
 
 // The causes of refusal, each with its place.
-#[derive(Clone, Copy)]
+#[derive(Clone, Copy, Debug, PartialEq, Eq)]
 pub enum Refusal {
     Length,
     Directory,
@@ -26,90 +26,65 @@ pub enum Refusal {
     Arguments(usize),
 }
 
-pub fn refusal_number(r: Refusal) -> u32
-    ensures { result ≡ number r }
-{
-    match r {
-        Refusal::Length => 1,
-        Refusal::Directory => 2,
-        Refusal::ObjectLength(_) => 3,
-        Refusal::VariableRecord(_) => 4,
-        Refusal::StatementRecord(_) => 5,
-        Refusal::BlockLayout(_) => 6,
-        Refusal::BoundsNotShown {
-            statement: _,
-            pointer: _,
-        } => 8,
-        Refusal::BundleAccess(_) => 9,
-        Refusal::MemorySize => 10,
-        Refusal::DirectoryPair(_) => 10,
-        Refusal::EntryLengths => 11,
-        Refusal::EntryValue(_) => 12,
-        Refusal::RowsDiffer(_) => 13,
-        Refusal::LastCell(_) => 16,
-        Refusal::LoopFact(_) => 17,
-        Refusal::EditPosition(_) => 18,
-        Refusal::RoutineCount => 15,
-        Refusal::Callee(_) => 19,
-        Refusal::Arguments(_) => 20,
+impl Refusal {
+    pub fn number(self) -> u32
+        ensures { result ≡ number self }
+    {
+        match self {
+            Refusal::Length => 1,
+            Refusal::Directory => 2,
+            Refusal::ObjectLength(_) => 3,
+            Refusal::VariableRecord(_) => 4,
+            Refusal::StatementRecord(_) => 5,
+            Refusal::BlockLayout(_) => 6,
+            Refusal::BoundsNotShown { .. } => 8,
+            Refusal::BundleAccess(_) => 9,
+            Refusal::MemorySize | Refusal::DirectoryPair(_) => 10,
+            Refusal::EntryLengths => 11,
+            Refusal::EntryValue(_) => 12,
+            Refusal::RowsDiffer(_) => 13,
+            Refusal::LastCell(_) => 16,
+            Refusal::LoopFact(_) => 17,
+            Refusal::EditPosition(_) => 18,
+            Refusal::RoutineCount => 15,
+            Refusal::Callee(_) => 19,
+            Refusal::Arguments(_) => 20,
+        }
     }
-}
 
-pub fn refusal_place(r: Refusal) -> usize
-    ensures { result ≡ place r }
-{
-    match r {
-        Refusal::Length => 0,
-        Refusal::Directory => 0,
-        Refusal::ObjectLength(o) => o,
-        Refusal::VariableRecord(v) => v,
-        Refusal::StatementRecord(a) => a,
-        Refusal::BlockLayout(a) => a,
-        Refusal::BoundsNotShown {
-            statement,
-            pointer: _,
-        } => statement,
-        Refusal::BundleAccess(a) => a,
-        Refusal::MemorySize => 0,
-        Refusal::DirectoryPair(i) => i,
-        Refusal::EntryLengths => 0,
-        Refusal::EntryValue(v) => v,
-        Refusal::RowsDiffer(a) => a,
-        Refusal::LastCell(o) => o,
-        Refusal::LoopFact(e) => e,
-        Refusal::EditPosition(a) => a,
-        Refusal::RoutineCount => 0,
-        Refusal::Callee(a) => a,
-        Refusal::Arguments(a) => a,
+    pub fn place(self) -> usize
+        ensures { result ≡ place self }
+    {
+        match self {
+            Refusal::Length
+            | Refusal::Directory
+            | Refusal::MemorySize
+            | Refusal::EntryLengths
+            | Refusal::RoutineCount => 0,
+            Refusal::ObjectLength(at)
+            | Refusal::VariableRecord(at)
+            | Refusal::StatementRecord(at)
+            | Refusal::BlockLayout(at)
+            | Refusal::BoundsNotShown { statement: at, .. }
+            | Refusal::BundleAccess(at)
+            | Refusal::DirectoryPair(at)
+            | Refusal::EntryValue(at)
+            | Refusal::RowsDiffer(at)
+            | Refusal::LastCell(at)
+            | Refusal::LoopFact(at)
+            | Refusal::EditPosition(at)
+            | Refusal::Callee(at)
+            | Refusal::Arguments(at) => at,
+        }
     }
-}
 
-// The pointer of refusal 8; of any other refusal 0.
-pub fn refusal_pointer(r: Refusal) -> usize
-    ensures { result ≡ pointer r }
-{
-    match r {
-        Refusal::Length => 0,
-        Refusal::Directory => 0,
-        Refusal::ObjectLength(_) => 0,
-        Refusal::VariableRecord(_) => 0,
-        Refusal::StatementRecord(_) => 0,
-        Refusal::BlockLayout(_) => 0,
-        Refusal::BoundsNotShown {
-            statement: _,
-            pointer,
-        } => pointer,
-        Refusal::BundleAccess(_) => 0,
-        Refusal::MemorySize => 0,
-        Refusal::DirectoryPair(_) => 0,
-        Refusal::EntryLengths => 0,
-        Refusal::EntryValue(_) => 0,
-        Refusal::RowsDiffer(_) => 0,
-        Refusal::LastCell(_) => 0,
-        Refusal::LoopFact(_) => 0,
-        Refusal::EditPosition(_) => 0,
-        Refusal::RoutineCount => 0,
-        Refusal::Callee(_) => 0,
-        Refusal::Arguments(_) => 0,
+    // The pointer of refusal 8; of any other refusal 0.
+    pub fn pointer(self) -> usize
+        ensures { result ≡ pointer self }
+    {
+        match self {
+            Refusal::BoundsNotShown { pointer, .. } => pointer,
+            _ => 0,
+        }
     }
 }

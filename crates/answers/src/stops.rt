@@ -4,7 +4,7 @@ ghost use Rattle.answers.specs.Answers.{check_number, check_statement};
 
 use crate::refusals::Refusal;
 
-#[derive(Clone, Copy)]
+#[derive(Clone, Copy, Debug, PartialEq, Eq)]
 pub enum Check {
     ConditionFalse(usize),
     NullAccess(usize),
@@ -15,7 +15,7 @@ pub enum Check {
 }
 
 // A run's answer: refused, done, spent, or stopped, with the check that failed.
-#[derive(Clone, Copy)]
+#[derive(Clone, Copy, Debug, PartialEq, Eq)]
 pub enum Outcome {
     Refused(Refusal),
     Done { steps: u32 },
@@ -23,29 +23,31 @@ pub enum Outcome {
     Stopped { steps: u32, check: Check },
 }
 
-pub fn check_number(check: Check) -> u32
-    ensures { result ≡ check_number check }
-{
-    match check {
-        Check::ConditionFalse(_) => 1,
-        Check::NullAccess(_) => 2,
-        Check::OutOfBounds(_) => 3,
-        Check::NullArithmetic(_) => 4,
-        Check::AddressRange(_) => 5,
-        Check::Terminator(_) => 6,
+impl Check {
+    pub fn number(self) -> u32
+        ensures { result ≡ check_number self }
+    {
+        match self {
+            Check::ConditionFalse(_) => 1,
+            Check::NullAccess(_) => 2,
+            Check::OutOfBounds(_) => 3,
+            Check::NullArithmetic(_) => 4,
+            Check::AddressRange(_) => 5,
+            Check::Terminator(_) => 6,
+        }
     }
-}
 
-// The statement at which the check fails.
-pub fn check_statement(check: Check) -> usize
-    ensures { result ≡ check_statement check }
-{
-    match check {
-        Check::ConditionFalse(a) => a,
-        Check::NullAccess(a) => a,
-        Check::OutOfBounds(a) => a,
-        Check::NullArithmetic(a) => a,
-        Check::AddressRange(a) => a,
-        Check::Terminator(a) => a,
+    // The statement at which the check fails.
+    pub fn statement(self) -> usize
+        ensures { result ≡ check_statement self }
+    {
+        match self {
+            Check::ConditionFalse(statement)
+            | Check::NullAccess(statement)
+            | Check::OutOfBounds(statement)
+            | Check::NullArithmetic(statement)
+            | Check::AddressRange(statement)
+            | Check::Terminator(statement) => statement,
+        }
     }
 }

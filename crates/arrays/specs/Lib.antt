@@ -2,3 +2,5 @@ pub mod Choice
 pub mod Tabulate
 pub mod TabulateLaws
 pub mod Overwritten
+pub mod Lowest
+pub mod FromFn

@@ -1,6 +1,8 @@
 -- Part of a list written over: what a loop, `for i in 0..n { list[at + i] = v(i); }`, leaves of a lent slice.
 use Rattle.std.specs.Prelude.{ℕ, zero, suc, ◌+◌, ◌-◌, ◌≤◌, ◌<◌, ◌≡◌, refl, Bool, true, false, List, ltb, length, get_or, set}
-use Rattle.std.proofs.Common.{sym, ◌∙◌, ap, ⊎_elim, eq-or-lt_of_le, arith, ltb-true, ltb-false, length-set, get_or-set_same, get_or-set_other}
+use Rattle.std.proofs.Common.{sym, ◌∙◌, ap, ⊎_elim, eq-or-lt_of_le, arith, ltb-true, ltb-false, length-set, get_or-set_same, get_or-set_other, rules}
+use Rattle.std.proofs.lemmas.List.{places}
+use borrow.Rule.Slice.PartMut.{put_mid}
 
 -- The n elements from `at` on are those of v, every other one is what it was.
 pub record Overwritten {A : Type 0} (d : A) (old : List A) (at n : ℕ) (v : ℕ → A) (new : List A) : Type 0 where
@@ -23,6 +25,16 @@ module _ {A : Type 0} {d : A} where
         (eq-or-lt_of_le (omega arith));
     below = λ i r. get_or-set_other new (at + n) i a d (λ z. omega arith) ∙ p.below i r;
     behind = λ i r. get_or-set_other new (at + n) i a d (λ z. omega arith) ∙ p.behind i (omega arith);
+  }
+
+  -- A part written at once, by `list[at..at + n].copy_from_slice(..)`.
+  pub over-part : (old part : List A) (at n k : ℕ) {v : ℕ → A} → length part ≡ n → k ≡ n → at + n ≤ length old
+      → ((i : ℕ) → i < n → get_or part i d ≡ v i) → Overwritten d old at n v (put_mid at k old part)
+  over-part old part at n k {v} p q r e = record {
+    long = search (rules, places);
+    inside = λ i l. (search (rules, places)) ∙ e i l;
+    below = λ i l. search (rules, places);
+    behind = λ i l. search (rules, places);
   }
 
   -- One part behind the other.

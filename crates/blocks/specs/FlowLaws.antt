@@ -1,5 +1,5 @@
 -- The flow, one statement at a time, as the code meets it.
-use Rattle.std.specs.Prelude.{ℕ, zero, suc, ◌+◌, ◌-◌, ◌*◌, ◌<◌, ◌≤◌, ◌≡◌, refl, Bool, true, false, List, [], ◌∷◌, ◌++◌, ℤ, length, ltb}
+use Rattle.std.specs.Prelude.{ℕ, zero, suc, ◌+◌, ◌-◌, ◌*◌, ◌<◌, ◌≤◌, ◌≡◌, refl, Bool, true, false, List, [], ◌∷◌, ◌++◌, ℤ, length, ltb, None, Option, Some}
 use Rattle.std.proofs.Math.Path.{sym}
 use Rattle.std.proofs.Common.{◌∙◌, ap, arith, sub-one, ltb-true, ltb-false, le-leb, length-set}
 use Rattle.std.proofs.lemmas.Bool.{lt-leb}
@@ -9,8 +9,6 @@ use Rattle.statements.specs.declared.CallSite.{CallSite}
 use Rattle.statements.specs.declared.Simple.{Simple}
 use Rattle.statements.specs.declared.Statement.{Statement}
 use Rattle.statements.specs.declared.Statement.TheVariants.{Plain, If, While, Bundle, Call}
-use Rattle.statements.specs.declared.StatementRead.{StatementRead}
-use Rattle.statements.specs.declared.StatementRead.TheVariants.{Read, Unread}
 use Rattle.statements.specs.Statements.{statement_at}
 use Rattle.statements.specs.StatementLaws.{read-within}
 use Rattle.blocks.specs.Tree.{Block, plain, branch, loop, bundle, call, simples, simples_from, node, parse, tree}
@@ -24,14 +22,14 @@ unfolding entry parse
 begins zero T h a b k = k.none (omega arith)
 begins (suc l) T h a b {after} {r} k = go (ltb a b) (statement_at T h a) refl
   where
-    go : (x : Bool) (s : StatementRead) → ltb a b ≡ x → r ≡ entry (node x s (λ x y. parse l T h x y) T h a b) after
+    go : (x : Bool) (s : Option Statement) → ltb a b ≡ x → r ≡ entry (node x s (λ x y. parse l T h x y) T h a b) after
     go false s e = k.end (ltb-false a b e)
-    go true Unread e = k.some (omega arith) (ltb-true a b e)
-    go true (Read (Plain s)) e = k.some (omega arith) (ltb-true a b e)
-    go true (Read (If c n m)) e = k.some (omega arith) (ltb-true a b e)
-    go true (Read (While c n)) e = k.some (omega arith) (ltb-true a b e)
-    go true (Read (Bundle n)) e = k.some (omega arith) (ltb-true a b e)
-    go true (Read (Call c)) e = k.some (omega arith) (ltb-true a b e)
+    go true None e = k.some (omega arith) (ltb-true a b e)
+    go true (Some (Plain s)) e = k.some (omega arith) (ltb-true a b e)
+    go true (Some (If c n m)) e = k.some (omega arith) (ltb-true a b e)
+    go true (Some (While c n)) e = k.some (omega arith) (ltb-true a b e)
+    go true (Some (Bundle n)) e = k.some (omega arith) (ltb-true a b e)
+    go true (Some (Call c)) e = k.some (omega arith) (ltb-true a b e)
 
 -- Lists of successors.
 pub written-append : (xs ys : List Successors) (w : List ℕ) → written (xs ++ ys) w ≡ written ys (written xs w)
@@ -76,22 +74,22 @@ unfolding simples
 simples-none zero T h a p e = omega arith
 simples-none (suc n) T h a p e = absurd (omega arith)
 
-pub simples-some : (n : ℕ) (T : List ℤ) (h : Sections) (a : ℕ) (s : StatementRead) → 0 < n → statement_at T h a ≡ s
+pub simples-some : (n : ℕ) (T : List ℤ) (h : Sections) (a : ℕ) (s : Option Statement) → 0 < n → statement_at T h a ≡ s
     → simples n T h a ≡ simples_from s (simples (n - 1) T h (a + 1))
 unfolding simples
 simples-some zero T h a s p e = absurd (omega arith)
 simples-some (suc n) T h a s p e = rw (e, sub-one)
 
 module _ (n : ℕ) (T : List ℤ) (h : Sections) (a : ℕ) (some : 0 < n) where
-  pub simples-unread : statement_at T h a ≡ Unread → length (simples n T h a) ≡ 0
+  pub simples-unread : statement_at T h a ≡ None → length (simples n T h a) ≡ 0
   simples-unread e = ap length (simples-some n T h a _ some e)
 
-  pub simples-plain : (s : Simple) → statement_at T h a ≡ Read (Plain s) → length (simples n T h a) ≡ 1 + length (simples (n - 1) T h (a + 1))
+  pub simples-plain : (s : Simple) → statement_at T h a ≡ Some (Plain s) → length (simples n T h a) ≡ 1 + length (simples (n - 1) T h (a + 1))
   simples-plain s e =
       let q : length (simples n T h a) ≡ suc (length (simples (n - 1) T h (a + 1))) = ap length (simples-some n T h a _ some e) in
       omega arith
 
-  pub simples-other : (s : Statement) → ((p : Simple) → s ≡ Plain p → ⊥) → statement_at T h a ≡ Read s → length (simples n T h a) ≡ 0
+  pub simples-other : (s : Statement) → ((p : Simple) → s ≡ Plain p → ⊥) → statement_at T h a ≡ Some s → length (simples n T h a) ≡ 0
   simples-other (Plain p) q e = absurd (q p refl)
   simples-other (If c k m) q e = ap length (simples-some n T h a _ some e)
   simples-other (While c k) q e = ap length (simples-some n T h a _ some e)
@@ -104,14 +102,14 @@ unfolding simples
 simples-within zero T h a p = omega arith
 simples-within (suc n) T h a p = go (statement_at T h a) refl (λ q. simples-within n T h (a + 1) q)
   where
-    go : (s : StatementRead) → statement_at T h a ≡ s → (a + 1 ≤ h.statements → a + 1 + length (simples n T h (a + 1)) ≤ h.statements)
+    go : (s : Option Statement) → statement_at T h a ≡ s → (a + 1 ≤ h.statements → a + 1 + length (simples n T h (a + 1)) ≤ h.statements)
         → a + length (simples_from s (simples n T h (a + 1))) ≤ h.statements
-    go Unread e i = omega arith
-    go (Read (Plain s)) e i = let q : a + 1 ≤ h.statements = omega (arith, read-within T h a _ e) in omega (arith, i q)
-    go (Read (If c k m)) e i = omega arith
-    go (Read (While c k)) e i = omega arith
-    go (Read (Bundle k)) e i = omega arith
-    go (Read (Call k)) e i = omega arith
+    go None e i = omega arith
+    go (Some (Plain s)) e i = let q : a + 1 ≤ h.statements = omega (arith, read-within T h a _ e) in omega (arith, i q)
+    go (Some (If c k m)) e i = omega arith
+    go (Some (While c k)) e i = omega arith
+    go (Some (Bundle k)) e i = omega arith
+    go (Some (Call k)) e i = omega arith
 
 -- One statement's node, by what the code has at hand.
 module _ (r : Block) (a after : ℕ) (w : List ℕ) where
@@ -161,7 +159,7 @@ module _ {T : List ℤ} {h : Sections} {end allowed after : ℕ} {v : List ℕ} 
   unfolding flow written
   link-end p = sym (k.same ∙ rw (parse-end left T h at end p))
 
-  pub link-unread : 0 < left → at < end → statement_at T h at ≡ Unread → w ≡ v
+  pub link-unread : 0 < left → at < end → statement_at T h at ≡ None → w ≡ v
   unfolding flow written
   link-unread some within e = sym (k.same ∙ rw (parse-some left T h at end _ some within e))
 
@@ -170,7 +168,7 @@ pub record Turn (T : List ℤ) (h : Sections) (end allowed after : ℕ) (v : Lis
   pub so_far : Kept T h end allowed after v n at left w
   pub some : 0 < left
   pub within : at < end
-  pub read : statement_at T h at ≡ Read s
+  pub read : statement_at T h at ≡ Some s
   pub room : 2 * h.statements ≤ n
 
 module _ {T : List ℤ} {h : Sections} {end allowed after : ℕ} {v : List ℕ} {n at left : ℕ} {w : List ℕ} where
@@ -185,7 +183,7 @@ module _ {T : List ℤ} {h : Sections} {end allowed after : ℕ} {v : List ℕ} 
   falls u e = omega (arith, u.some, u.so_far.less)
 
   here : (s : Statement) → Turn T h end allowed after v n at left w s
-      → v ≡ written (flow (node true (Read s) (λ x y. parse (left - 1) T h x y) T h at end) after) w
+      → v ≡ written (flow (node true (Some s) (λ x y. parse (left - 1) T h x y) T h at end) after) w
   here s u =
       u.so_far.same
       ∙ ap (λ (b : Block). written (flow b after) w) (parse-some left T h at end _ u.some u.within u.read)

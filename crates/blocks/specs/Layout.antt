@@ -1,12 +1,10 @@
 -- Cause 6 (document 01, "Causes of refusal"): the layout of blocks and bundles, in table order.
-use Rattle.std.specs.Prelude.{ℕ, zero, suc, ◌+◌, Bool, true, false, ◌||◌, List, [], ◌∷◌, ℤ, ltb, eqb}
+use Rattle.std.specs.Prelude.{ℕ, zero, suc, ◌+◌, Bool, true, false, ◌||◌, List, [], ◌∷◌, ℤ, ltb, eqb, None, Option, Some}
 use Rattle.answers.specs.declared.refusals.Refusal.{Refusal}
 use Rattle.answers.specs.declared.refusals.Refusal.TheVariants.{StatementRecord, BlockLayout}
 use Rattle.words.specs.declared.sections.Sections.{Sections}
 use Rattle.statements.specs.declared.Statement.{Statement}
 use Rattle.statements.specs.declared.Statement.TheVariants.{Plain, If, While, Bundle, Call}
-use Rattle.statements.specs.declared.StatementRead.{StatementRead}
-use Rattle.statements.specs.declared.StatementRead.TheVariants.{Read, Unread}
 use Rattle.statements.specs.Statements.{statement_at}
 
 -- "a block may hold blocks, to a depth" of 6 "(top statements have depth 0)". Point 8: "The limit becomes 6; depth 7 is refusal 6."
@@ -28,13 +26,13 @@ when false r = []
 
 -- "A bundle holds kinds 1 to 10 only", and 14 (point 2): another kind among its n statements from x on is refused at its head a. A record that does not read is
 -- cause 5.
-abbrev pub contents_from : StatementRead → ℕ → ℕ → List Refusal → List Refusal
-contents_from Unread a x rest = StatementRecord x ∷ []
-contents_from (Read (Plain s)) a x rest = rest
-contents_from (Read (If c n m)) a x rest = BlockLayout a ∷ []
-contents_from (Read (While c n)) a x rest = BlockLayout a ∷ []
-contents_from (Read (Bundle n)) a x rest = BlockLayout a ∷ []
-contents_from (Read (Call c)) a x rest = BlockLayout a ∷ []
+abbrev pub contents_from : Option Statement → ℕ → ℕ → List Refusal → List Refusal
+contents_from None a x rest = StatementRecord x ∷ []
+contents_from (Some (Plain s)) a x rest = rest
+contents_from (Some (If c n m)) a x rest = BlockLayout a ∷ []
+contents_from (Some (While c n)) a x rest = BlockLayout a ∷ []
+contents_from (Some (Bundle n)) a x rest = BlockLayout a ∷ []
+contents_from (Some (Call c)) a x rest = BlockLayout a ∷ []
 
 unfoldable pub contents : ℕ → List ℤ → Sections → ℕ → ℕ → List Refusal
 contents zero T h a x = []
@@ -58,10 +56,10 @@ kind_layout (While c n) rec T h d a b =
 kind_layout (Bundle n) rec T h d a b = also (bundle_layout T h a n b) (rec d (a + 1 + n) b)
 kind_layout (Call c) rec T h d a b = rec d (a + 1) b
 
-abbrev pub node_layout : Bool → StatementRead → (ℕ → ℕ → ℕ → List Refusal) → List ℤ → Sections → ℕ → ℕ → ℕ → List Refusal
+abbrev pub node_layout : Bool → Option Statement → (ℕ → ℕ → ℕ → List Refusal) → List ℤ → Sections → ℕ → ℕ → ℕ → List Refusal
 node_layout false s rec T h d a b = []
-node_layout true Unread rec T h d a b = StatementRecord a ∷ []
-node_layout true (Read s) rec T h d a b = also (when (ltb max_depth d) (BlockLayout a)) (kind_layout s rec T h d a b)
+node_layout true None rec T h d a b = StatementRecord a ∷ []
+node_layout true (Some s) rec T h d a b = also (when (ltb max_depth d) (BlockLayout a)) (kind_layout s rec T h d a b)
 
 -- The block of a to b - 1 at the depth d; the fuel is the number of statements left, as in `parse`, and it is enough (`laid` in blocks/specs/ShapeLaws).
 unfoldable pub block_layout : ℕ → List ℤ → Sections → ℕ → ℕ → ℕ → List Refusal

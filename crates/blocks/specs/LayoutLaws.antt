@@ -1,5 +1,6 @@
 -- The layout, one statement at a time, as the code meets it.
 use Rattle.std.specs.Prelude.{ℕ, zero, suc, ◌+◌, ◌-◌, ◌<◌, ◌≤◌, ◌≡◌, refl, Bool, true, false, ◌||◌, List, [], ◌∷◌, ℤ, ltb, eqb}
+use Rattle.std.specs.Prelude.{Err, None, Ok, Option, Result, Some}
 use Rattle.std.proofs.Math.Path.{sym, ap}
 use Rattle.std.proofs.Common.{◌∙◌, arith, sub-one, pos_of_ne-zero}
 use borrow.Author.Tests.{lt-ltb, le-ltb, ne_eqb, eqb-false, ltb-false}
@@ -9,11 +10,7 @@ use Rattle.words.specs.declared.sections.Sections.{Sections}
 use Rattle.statements.specs.declared.Simple.{Simple}
 use Rattle.statements.specs.declared.Statement.{Statement}
 use Rattle.statements.specs.declared.Statement.TheVariants.{Plain, If, While, Bundle, Call}
-use Rattle.statements.specs.declared.StatementRead.{StatementRead}
-use Rattle.statements.specs.declared.StatementRead.TheVariants.{Read, Unread}
 use Rattle.statements.specs.Statements.{statement_at}
-use Rattle.blocks.specs.declared.Layout.{Layout}
-use Rattle.blocks.specs.declared.Layout.TheVariants.{LaidOut, Refused}
 use Rattle.blocks.specs.declared.Parts.{Parts}
 use Rattle.blocks.specs.declared.Parts.TheVariants as parts
 use Rattle.blocks.specs.Parts.{verdict, Leads, Parted}
@@ -21,11 +18,11 @@ use Rattle.blocks.specs.Layout.{max_depth, max_bundle, also, when, contents, con
 
 -- Lists of refusals.
 
-pub laid_out : (xs : List Refusal) → xs ≡ [] → LaidOut ≡ verdict xs
+pub laid_out : (xs : List Refusal) → xs ≡ [] → Ok tt ≡ verdict xs
 unfolding verdict
 laid_out xs e = rw e
 
-pub none-refused : (xs : List Refusal) (r : Layout) → r ≡ verdict xs → r ≡ LaidOut → xs ≡ []
+pub none-refused : (xs : List Refusal) (r : Result (Unit {0}) Refusal) → r ≡ verdict xs → r ≡ Ok tt → xs ≡ []
 unfolding verdict
 none-refused [] r e p = refl
 none-refused (x ∷ xs) r e p = cc
@@ -40,13 +37,13 @@ unfolding also
 pass xs ys e = rw e
 
 -- A test that refuses is the answer, and so is a part that is refused.
-pub refuse : (b : Bool) (r : Refusal) (ys : List Refusal) → b ≡ true → Refused r ≡ verdict (also (when b r) ys)
+pub refuse : (b : Bool) (r : Refusal) (ys : List Refusal) → b ≡ true → Err r ≡ verdict (also (when b r) ys)
 unfolding also when verdict
 refuse b r ys e = rw e
 
-pub refuse-part : (xs ys : List Refusal) (l : Layout) (r : Refusal) → l ≡ verdict xs → l ≡ Refused r → l ≡ verdict (also xs ys)
+pub refuse-part : (xs ys : List Refusal) (l : Result (Unit {0}) Refusal) (r : Refusal) → l ≡ verdict xs → l ≡ Err r → l ≡ verdict (also xs ys)
 unfolding also verdict
-refuse-part [] ys l r e p = let z : LaidOut ≡ Refused r = sym e ∙ p in let o : ◌≡◌ {A = ℕ} 0 1 = cc in absurd (omega arith)
+refuse-part [] ys l r e p = let z : Ok tt ≡ Err r = sym e ∙ p in let o : ◌≡◌ {A = ℕ} 0 1 = cc in absurd (omega arith)
 refuse-part (x ∷ xs) ys l r e p = e
 
 -- Where nothing is refused, no part is.
@@ -72,21 +69,22 @@ unfolding contents
 contents-none zero T h a x p = refl
 contents-none (suc n) T h a x p = absurd (omega arith)
 
-pub contents-some : (n : ℕ) (T : List ℤ) (h : Sections) (a x : ℕ) (s : StatementRead) → 0 < n → statement_at T h x ≡ s
+pub contents-some : (n : ℕ) (T : List ℤ) (h : Sections) (a x : ℕ) (s : Option Statement) → 0 < n → statement_at T h x ≡ s
     → contents n T h a x ≡ contents_from s a x (contents (n - 1) T h a (x + 1))
 unfolding contents
 contents-some zero T h a x s p e = absurd (omega arith)
 contents-some (suc n) T h a x s p e = rw (e, sub-one)
 
 module _ (n : ℕ) (T : List ℤ) (h : Sections) (a x : ℕ) (some : 0 < n) where
-  pub contents-unread : statement_at T h x ≡ Unread → Refused (StatementRecord x) ≡ verdict (contents n T h a x)
+  pub contents-unread : statement_at T h x ≡ None → Err (StatementRecord x) ≡ verdict (contents n T h a x)
   unfolding verdict
   contents-unread e = rw (contents-some n T h a x _ some e)
 
-  pub contents-plain : (s : Simple) → statement_at T h x ≡ Read (Plain s) → contents n T h a x ≡ contents (n - 1) T h a (x + 1)
+  pub contents-plain : (s : Simple) → statement_at T h x ≡ Some (Plain s) → contents n T h a x ≡ contents (n - 1) T h a (x + 1)
   contents-plain s e = contents-some n T h a x _ some e
 
-  pub contents-other : (s : Statement) (r : Layout) → ((p : Simple) → s ≡ Plain p → ⊥) → statement_at T h x ≡ Read s → r ≡ Refused (BlockLayout a)
+  pub contents-other : (s : Statement) (r : Result (Unit {0}) Refusal) → ((p : Simple) → s ≡ Plain p → ⊥) → statement_at T h x ≡ Some s
+      → r ≡ Err (BlockLayout a)
       → r ≡ verdict (contents n T h a x)
   unfolding verdict
   contents-other (Plain p) r q e w = absurd (q p refl)
@@ -106,11 +104,11 @@ or-rest true q e = cc
 or-rest false q e = e
 
 module _ (T : List ℤ) (h : Sections) (a n b : ℕ) where
-  pub bundle-zero : n ≡ 0 → Refused (BlockLayout a) ≡ verdict (bundle_layout T h a n b)
+  pub bundle-zero : n ≡ 0 → Err (BlockLayout a) ≡ verdict (bundle_layout T h a n b)
   unfolding bundle_layout
   bundle-zero p = refuse _ _ _ (rw p)
 
-  pub bundle-great : (n ≡ 0 → ⊥) → max_bundle < n → Refused (BlockLayout a) ≡ verdict (bundle_layout T h a n b)
+  pub bundle-great : (n ≡ 0 → ⊥) → max_bundle < n → Err (BlockLayout a) ≡ verdict (bundle_layout T h a n b)
   unfolding bundle_layout
   bundle-great p q = refuse _ _ _ (rw (ne_eqb n 0 p, lt-ltb max_bundle n q))
 
@@ -118,7 +116,7 @@ module _ (T : List ℤ) (h : Sections) (a n b : ℕ) where
     counted : (eqb n 0 || ltb max_bundle n) ≡ false
     counted = rw (ne_eqb n 0 some, le-ltb max_bundle n few)
 
-    pub bundle-past : b < a + 1 + n → Refused (BlockLayout a) ≡ verdict (bundle_layout T h a n b)
+    pub bundle-past : b < a + 1 + n → Err (BlockLayout a) ≡ verdict (bundle_layout T h a n b)
     unfolding bundle_layout
     bundle-past q = refuse _ _ _ (lt-ltb _ _ q) ∙ ap verdict (sym (skip _ _ _ counted))
 
@@ -155,7 +153,7 @@ unfolding block_layout
 block-end zero T h d a b p = refl
 block-end (suc l) T h d a b p = rw (le-ltb _ _ p)
 
-pub block-some : (l : ℕ) (T : List ℤ) (h : Sections) (d a b : ℕ) (s : StatementRead) → 0 < l → a < b → statement_at T h a ≡ s
+pub block-some : (l : ℕ) (T : List ℤ) (h : Sections) (d a b : ℕ) (s : Option Statement) → 0 < l → a < b → statement_at T h a ≡ s
     → block_layout l T h d a b ≡ node_layout true s (λ e x y. block_layout (l - 1) T h e x y) T h d a b
 unfolding block_layout
 block-some zero T h d a b s p q e = absurd (omega arith)
@@ -167,10 +165,10 @@ pub record Kept (T : List ℤ) (h : Sections) (d end allowed : ℕ) (xs : List R
   pub less : left ≤ allowed
 
 module _ {T : List ℤ} {h : Sections} {d end allowed : ℕ} {xs : List Refusal} {at left : ℕ} (k : Kept T h d end allowed xs at left) where
-  pub turn-none : left ≤ 0 → LaidOut ≡ verdict xs
+  pub turn-none : left ≤ 0 → Ok tt ≡ verdict xs
   turn-none p = laid_out xs (k.same ∙ block_none left T h d at end p)
 
-  pub turn_end : end ≤ at → LaidOut ≡ verdict xs
+  pub turn_end : end ≤ at → Ok tt ≡ verdict xs
   turn_end p = laid_out xs (k.same ∙ block-end left T h d at end p)
 
   pub fewer : left - 1 ≤ allowed
@@ -179,30 +177,30 @@ module _ {T : List ℤ} {h : Sections} {d end allowed : ℕ} {xs : List Refusal}
   pub falls : {t : ℕ} → 0 < left → allowed ≡ t → left - 1 < t
   falls some e = omega (arith, some, k.less)
 
-  module _ (some : 0 < left) {r : Parts} (p : Parted T h d at end r) where
-    pub turn-refused : {v : Refusal} → r ≡ parts.Refused v → Refused v ≡ verdict xs
+  module _ (some : 0 < left) {r : Result Parts Refusal} (p : Parted T h d at end r) where
+    pub turn-refused : {v : Refusal} → r ≡ Err v → Err v ≡ verdict xs
     turn-refused e = (rw e at (p.leads left some)) ∙ ap verdict (sym k.same)
 
-    pub turn-next : {x : ℕ} → r ≡ parts.Next x → Kept T h d end allowed xs x (left - 1)
+    pub turn-next : {x : ℕ} → r ≡ Ok (parts.Next x) → Kept T h d end allowed xs x (left - 1)
     turn-next e = record { same = k.same ∙ (rw e at (p.leads left some)); less = fewer }
 
-    module _ {x y : ℕ} (e : r ≡ parts.Blocks x y) where
-      blocks : Leads (parts.Blocks x y) T h d at end left
+    module _ {x y : ℕ} (e : r ≡ Ok (parts.Blocks x y)) where
+      blocks : Leads (Ok (parts.Blocks x y)) T h d at end left
       blocks = rw e at (p.leads left some)
 
       pub shallow : d ≤ max_depth
       shallow = blocks.0
 
-      module _ {o : Layout} (w : o ≡ verdict (block_layout (left - 1) T h (d + 1) (at + 1) x)) where
-        pub then-refused : {v : Refusal} → o ≡ Refused v → o ≡ verdict xs
+      module _ {o : Result (Unit {0}) Refusal} (w : o ≡ verdict (block_layout (left - 1) T h (d + 1) (at + 1) x)) where
+        pub then-refused : {v : Refusal} → o ≡ Err v → o ≡ verdict xs
         then-refused q = refuse-part _ _ o _ w q ∙ ap verdict (sym (k.same ∙ blocks.1))
 
-        module _ (q : o ≡ LaidOut) {z : Layout} (u : z ≡ verdict (block_layout (left - 1) T h (d + 1) x y)) where
+        module _ (q : o ≡ Ok tt) {z : Result (Unit {0}) Refusal} (u : z ≡ verdict (block_layout (left - 1) T h (d + 1) x y)) where
           past-then : xs ≡ also (block_layout (left - 1) T h (d + 1) x y) (block_layout (left - 1) T h d y end)
           past-then = k.same ∙ (blocks.1 ∙ pass _ _ (none-refused _ o w q))
 
-          pub else-refused : {v : Refusal} → z ≡ Refused v → z ≡ verdict xs
+          pub else-refused : {v : Refusal} → z ≡ Err v → z ≡ verdict xs
           else-refused f = refuse-part _ _ z _ u f ∙ ap verdict (sym past-then)
 
-          pub turn-blocks : z ≡ LaidOut → Kept T h d end allowed xs y (left - 1)
+          pub turn-blocks : z ≡ Ok tt → Kept T h d end allowed xs y (left - 1)
           turn-blocks f = record { same = past-then ∙ pass _ _ (none-refused _ z u f); less = fewer }

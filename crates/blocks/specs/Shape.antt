@@ -1,9 +1,8 @@
 -- The terms in which the laws of the tree, the layout and the flow are stated.
-use Rattle.std.specs.Prelude.{ℕ, ◌+◌, ◌*◌, ◌≤◌, ◌≡◌, List, [], ◌∷◌, ℤ, length, get_or}
+use Rattle.std.specs.Prelude.{ℕ, ◌+◌, ◌*◌, ◌≤◌, ◌≡◌, List, [], ◌∷◌, ℤ, length, get_or, Some}
 use Rattle.words.specs.declared.sections.Sections.{Sections}
 use Rattle.statements.specs.declared.Simple.{Simple}
 use Rattle.statements.specs.declared.Statement.TheVariants.{Plain, If, While, Bundle, Call}
-use Rattle.statements.specs.declared.StatementRead.TheVariants.{Read}
 use Rattle.statements.specs.Statements.{statement_at}
 use Rattle.blocks.specs.Tree.{Block, nil, plain, call, branch, loop, bundle, unread}
 use Rattle.blocks.specs.Layout.{max_depth, max_bundle}
@@ -42,15 +41,15 @@ Formed d (unread a) = ⊥
 -- Each node is what the record at its number says, its blocks and its bundle as long as the counts there.
 abbrev pub ReadsLine : List ℤ → Sections → ℕ → List Simple → Type 0
 ReadsLine T h a [] = Unit
-ReadsLine T h a (s ∷ ss) = (statement_at T h a ≡ Read (Plain s)) × ReadsLine T h (a + 1) ss
+ReadsLine T h a (s ∷ ss) = (statement_at T h a ≡ Some (Plain s)) × ReadsLine T h (a + 1) ss
 
 abbrev pub Reads : List ℤ → Sections → Block → Type 0
 Reads T h nil = Unit
-Reads T h (plain a s r) = (statement_at T h a ≡ Read (Plain s)) × Reads T h r
-Reads T h (call a s r) = (statement_at T h a ≡ Read (Call s)) × Reads T h r
-Reads T h (branch a c t e r) = (statement_at T h a ≡ Read (If c (size t) (size e))) × Reads T h t × Reads T h e × Reads T h r
-Reads T h (loop a c t r) = (statement_at T h a ≡ Read (While c (size t))) × Reads T h t × Reads T h r
-Reads T h (bundle a ss r) = (statement_at T h a ≡ Read (Bundle (length ss))) × ReadsLine T h (a + 1) ss × Reads T h r
+Reads T h (plain a s r) = (statement_at T h a ≡ Some (Plain s)) × Reads T h r
+Reads T h (call a s r) = (statement_at T h a ≡ Some (Call s)) × Reads T h r
+Reads T h (branch a c t e r) = (statement_at T h a ≡ Some (If c (size t) (size e))) × Reads T h t × Reads T h e × Reads T h r
+Reads T h (loop a c t r) = (statement_at T h a ≡ Some (While c (size t))) × Reads T h t × Reads T h r
+Reads T h (bundle a ss r) = (statement_at T h a ≡ Some (Bundle (length ss))) × ReadsLine T h (a + 1) ss × Reads T h r
 Reads T h (unread a) = ⊥
 
 -- The block of a to b - 1, at the depth d.

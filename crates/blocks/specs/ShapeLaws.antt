@@ -1,5 +1,5 @@
 -- A table whose layout has no refusal is a tree with every statement in its place.
-use Rattle.std.specs.Prelude.{ℕ, zero, suc, ◌+◌, ◌<◌, ◌≤◌, refl, Bool, List, [], ℤ, ltb}
+use Rattle.std.specs.Prelude.{ℕ, zero, suc, ◌+◌, ◌<◌, ◌≤◌, refl, Bool, List, [], ℤ, ltb, None, Option, Some}
 use Rattle.std.proofs.Math.Path.{◌≡◌}
 use Rattle.std.proofs.Common.{ap, arith}
 use Rattle.std.proofs.Math.Bool.{true, false}
@@ -9,8 +9,6 @@ use Rattle.words.specs.declared.sections.Sections.{Sections}
 use Rattle.statements.specs.declared.Simple.{Simple}
 use Rattle.statements.specs.declared.Statement.{Statement}
 use Rattle.statements.specs.declared.Statement.TheVariants.{Plain, If, While, Bundle, Call}
-use Rattle.statements.specs.declared.StatementRead.{StatementRead}
-use Rattle.statements.specs.declared.StatementRead.TheVariants.{Read, Unread}
 use Rattle.statements.specs.Statements.{statement_at}
 use Rattle.blocks.specs.Tree.{simples, simples_from, node, parse, tree}
 use Rattle.blocks.specs.Layout.{max_depth, contents, contents_from, kind_layout, node_layout, block_layout, layout}
@@ -27,22 +25,22 @@ unfolding contents simples
 held zero T h a x e = record { all = refl; line = tt }
 held (suc n) T h a x e = go (statement_at T h x) refl e (λ p. held n T h a (x + 1) p)
   where
-    go : (s : StatementRead) → statement_at T h x ≡ s → contents_from s a x (contents n T h a (x + 1)) ≡ []
+    go : (s : Option Statement) → statement_at T h x ≡ s → contents_from s a x (contents n T h a (x + 1)) ≡ []
         → (contents n T h a (x + 1) ≡ [] → Held T h n (x + 1) (simples n T h (x + 1)))
         → Held T h (suc n) x (simples_from s (simples n T h (x + 1)))
-    go Unread q p i = let o : ◌≡◌ {A = ℕ} 0 1 = cc in absurd (omega arith)
-    go (Read (Plain s)) q p i = record { all = ap suc (i p).all; line = (q, (i p).line) }
-    go (Read (If c k m)) q p i = let o : ◌≡◌ {A = ℕ} 0 1 = cc in absurd (omega arith)
-    go (Read (While c k)) q p i = let o : ◌≡◌ {A = ℕ} 0 1 = cc in absurd (omega arith)
-    go (Read (Bundle k)) q p i = let o : ◌≡◌ {A = ℕ} 0 1 = cc in absurd (omega arith)
-    go (Read (Call k)) q p i = let o : ◌≡◌ {A = ℕ} 0 1 = cc in absurd (omega arith)
+    go None q p i = let o : ◌≡◌ {A = ℕ} 0 1 = cc in absurd (omega arith)
+    go (Some (Plain s)) q p i = record { all = ap suc (i p).all; line = (q, (i p).line) }
+    go (Some (If c k m)) q p i = let o : ◌≡◌ {A = ℕ} 0 1 = cc in absurd (omega arith)
+    go (Some (While c k)) q p i = let o : ◌≡◌ {A = ℕ} 0 1 = cc in absurd (omega arith)
+    go (Some (Bundle k)) q p i = let o : ◌≡◌ {A = ℕ} 0 1 = cc in absurd (omega arith)
+    go (Some (Call k)) q p i = let o : ◌≡◌ {A = ℕ} 0 1 = cc in absurd (omega arith)
 
 -- One statement and the rest of its block, given the same of the blocks that start later.
 module _ (l : ℕ) (T : List ℤ) (h : Sections)
     (ih : (d a b : ℕ) → a ≤ b → b ≤ a + l → block_layout l T h d a b ≡ [] → Laid T h d a b (parse l T h a b)) where
-  kind-laid : (d a b : ℕ) (s : Statement) → a < b → b ≤ a + suc l → statement_at T h a ≡ Read s → d ≤ max_depth
+  kind-laid : (d a b : ℕ) (s : Statement) → a < b → b ≤ a + suc l → statement_at T h a ≡ Some s → d ≤ max_depth
       → kind_layout s (λ e x y. block_layout l T h e x y) T h d a b ≡ []
-      → Laid T h d a b (node true (Read s) (λ x y. parse l T h x y) T h a b)
+      → Laid T h d a b (node true (Some s) (λ x y. parse l T h x y) T h a b)
   unfolding size
   kind-laid d a b (Plain s) p q r w e =
       let i = ih d (a + 1) b (omega arith) (omega arith) e in
@@ -91,13 +89,13 @@ module _ (l : ℕ) (T : List ℤ) (h : Sections)
       let i = ih d (a + 1) b (omega arith) (omega arith) e in
       record { ends = omega (arith, i.ends); numbered = (refl, i.numbered); formed = (w, i.formed); reads = (r, i.reads) }
 
-  node-laid : (d a b : ℕ) (x : Bool) (s : StatementRead) → a ≤ b → b ≤ a + suc l → ltb a b ≡ x → statement_at T h a ≡ s
+  node-laid : (d a b : ℕ) (x : Bool) (s : Option Statement) → a ≤ b → b ≤ a + suc l → ltb a b ≡ x → statement_at T h a ≡ s
       → node_layout x s (λ e y z. block_layout l T h e y z) T h d a b ≡ []
       → Laid T h d a b (node x s (λ y z. parse l T h y z) T h a b)
   unfolding size
   node-laid d a b false s p q g r e = let u = ltb-false a b g in record { ends = omega arith; numbered = tt; formed = tt; reads = tt }
-  node-laid d a b true Unread p q g r e = let o : ◌≡◌ {A = ℕ} 0 1 = cc in absurd (omega arith)
-  node-laid d a b true (Read s) p q g r e =
+  node-laid d a b true None p q g r e = let o : ◌≡◌ {A = ℕ} 0 1 = cc in absurd (omega arith)
+  node-laid d a b true (Some s) p q g r e =
       kind-laid d a b s (ltb-true a b g) q r (ltb-false _ _ (passed _ _ (no-first _ _ e))) (no-rest _ _ e)
 
 pub laid : (l : ℕ) (T : List ℤ) (h : Sections) (d a b : ℕ) → a ≤ b → b ≤ a + l → block_layout l T h d a b ≡ [] → Laid T h d a b (parse l T h a b)

@@ -1,5 +1,6 @@
 -- The tree of blocks that the statements of a table are (document 01, "The routine table").
-use Rattle.std.specs.Prelude.{ℕ, zero, suc, ◌+◌, Bool, true, false, cond, List, [], ◌∷◌, ◌++◌, ℤ, ltb, eqb}
+use Rattle.statements.specs.declared.Statement.{Statement}
+use Rattle.std.specs.Prelude.{ℕ, zero, suc, ◌+◌, Bool, true, false, cond, List, [], ◌∷◌, ◌++◌, ℤ, ltb, eqb, None, Option, Some}
 use Rattle.sums.specs.Numbers.{zero_var}
 use Rattle.words.specs.declared.sections.Sections.{Sections}
 use Rattle.conditions.specs.declared.Condition.{Condition}
@@ -8,8 +9,6 @@ use Rattle.statements.specs.declared.Simple.{Simple}
 use Rattle.statements.specs.declared.Simple.TheVariants.{Literal, AddConstant, Arithmetic, Null, Address}
 use Rattle.statements.specs.declared.Simple.TheVariants.{PointerOffset, PointerIndex, Load, Store, Check, Declare}
 use Rattle.statements.specs.declared.Statement.TheVariants.{Plain, If, While, Bundle, Call}
-use Rattle.statements.specs.declared.StatementRead.{StatementRead}
-use Rattle.statements.specs.declared.StatementRead.TheVariants.{Read, Unread}
 use Rattle.statements.specs.Statements.{statement_at}
 
 -- A block is its first statement, with that statement's own number and blocks, and the rest of the block.
@@ -24,13 +23,13 @@ pub data Block : Type 0 where
   unread : ℕ → Block
 
 -- "A bundle holds kinds 1 to 10 only", and 14: the n statements from a on, cut short at the first that is of another kind or does not read.
-abbrev pub simples_from : StatementRead → List Simple → List Simple
-simples_from Unread ss = []
-simples_from (Read (Plain s)) ss = s ∷ ss
-simples_from (Read (If c n m)) ss = []
-simples_from (Read (While c n)) ss = []
-simples_from (Read (Bundle n)) ss = []
-simples_from (Read (Call c)) ss = []
+abbrev pub simples_from : Option Statement → List Simple → List Simple
+simples_from None ss = []
+simples_from (Some (Plain s)) ss = s ∷ ss
+simples_from (Some (If c n m)) ss = []
+simples_from (Some (While c n)) ss = []
+simples_from (Some (Bundle n)) ss = []
+simples_from (Some (Call c)) ss = []
 
 unfoldable pub simples : ℕ → List ℤ → Sections → ℕ → List Simple
 simples zero T h a = []
@@ -38,15 +37,15 @@ simples (suc n) T h a = simples_from (statement_at T h a) (simples n T h (a + 1)
 
 -- "Counts take in nested statements; blocks follow their head directly and may be empty": the block of the statements a to b - 1, by its first statement.
 -- `rec x y` is the block of x to y - 1.
-abbrev pub node : Bool → StatementRead → (ℕ → ℕ → Block) → List ℤ → Sections → ℕ → ℕ → Block
+abbrev pub node : Bool → Option Statement → (ℕ → ℕ → Block) → List ℤ → Sections → ℕ → ℕ → Block
 node false s rec T h a b = nil
-node true Unread rec T h a b = unread a
-node true (Read (Plain s)) rec T h a b = plain a s (rec (a + 1) b)
-node true (Read (If c n m)) rec T h a b =
+node true None rec T h a b = unread a
+node true (Some (Plain s)) rec T h a b = plain a s (rec (a + 1) b)
+node true (Some (If c n m)) rec T h a b =
     branch a c (rec (a + 1) (a + 1 + n)) (rec (a + 1 + n) (a + 1 + n + m)) (rec (a + 1 + n + m) b)
-node true (Read (While c n)) rec T h a b = loop a c (rec (a + 1) (a + 1 + n)) (rec (a + 1 + n) b)
-node true (Read (Bundle n)) rec T h a b = bundle a (simples n T h (a + 1)) (rec (a + 1 + n) b)
-node true (Read (Call c)) rec T h a b = call a c (rec (a + 1) b)
+node true (Some (While c n)) rec T h a b = loop a c (rec (a + 1) (a + 1 + n)) (rec (a + 1 + n) b)
+node true (Some (Bundle n)) rec T h a b = bundle a (simples n T h (a + 1)) (rec (a + 1 + n) b)
+node true (Some (Call c)) rec T h a b = call a c (rec (a + 1) b)
 
 -- The fuel is the number of statements left; it falls at each statement.
 unfoldable pub parse : ℕ → List ℤ → Sections → ℕ → ℕ → Block

@@ -1,10 +1,10 @@
 // The flow of a routine table: what is due after each statement, written once for a whole table.
-ghost use Rattle.std.specs.Prelude.{◌≡◌, ◌+◌, ◌*◌, ◌<◌, ◌≤◌, length};
+ghost use Rattle.std.specs.Prelude.{◌≡◌, ◌+◌, ◌*◌, ◌^◌, ◌<◌, ◌≤◌, length};
 ghost use Rattle.blocks.specs.Tree.{simples, parse};
 ghost use Rattle.blocks.specs.Flow.{successors, lead, line, flow};
 ghost use Rattle.blocks.specs.Written.{FirstDue, put, written, Written};
 
-use statements::{Statement, StatementRead, read_statement};
+use statements::{Statement, read_statement};
 use words::sections::Sections;
 
 // What is due where the block of `first` to `end` - 1 begins, with `left` statements left; `after` where it is empty.
@@ -26,20 +26,17 @@ fn first_simple(first: usize, count: usize, after: usize) -> usize
 
 // How many of the `count` statements from `first` on are of kinds 1 to 10 and 14, before one that is not.
 fn count_simple(table: &[i32], sections: Sections, first: usize, count: usize) -> usize
+    requires { first + count < 2 ^ 64 }
     ensures { result ≡ length (simples count table.now sections first) }
 {
-    let mut at = first;
-    let mut left = count;
-    while left > 0 {
+    for at in first..first + count {
         let got = read_statement(table, sections, at);
-        let StatementRead::Read(s) = got else {
-            return count - left;
+        let Some(s) = got else {
+            return at - first;
         };
         let Statement::Plain(_) = s else {
-            return count - left;
+            return at - first;
         };
-        at += 1;
-        left -= 1;
     }
     count
 }
@@ -58,17 +55,16 @@ fn link_bundle(first: usize, count: usize, after: usize, entries: &mut [u32])
     requires { 2 * (first + count) ≤ length entries.old }
     ensures { entries.new ≡ written (line first count after) entries.old }
 {
-    let mut at = first;
-    let mut left = count;
-    while left > 0 {
-        left -= 1;
-        let next = first_simple(at + 1, left, after);
+    let end = first + count;
+    for at in first..end {
+        let inner = at + 1;
+        let next = first_simple(inner, end - inner, after);
         put_successors(entries, at, next, next);
-        at += 1;
     }
 }
 
 // The block of `first` to `end` - 1, where `after` is due when it ends. `allowed` is at least the number of its statements; it falls at each.
+// No `for`: `at` goes on behind a statement's blocks.
 fn link_block(
     table: &[i32],
     sections: Sections,
@@ -89,7 +85,7 @@ fn link_block(
         }
         left -= 1;
         let got = read_statement(table, sections, at);
-        let StatementRead::Read(s) = got else {
+        let Some(s) = got else {
             return;
         };
         let inner = at + 1;

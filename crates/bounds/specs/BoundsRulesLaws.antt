@@ -1,5 +1,6 @@
 -- Laws of known bounds after an effect, as the code meets them.
-use Rattle.std.specs.Prelude.{ℕ, ◌+◌, ◌<◌, ◌≡◌, refl, Bool, true, false, not, ◌&&◌, cond, List, eqb, length, set}
+use Rattle.table.specs.declared.variables.End.{End}
+use Rattle.std.specs.Prelude.{ℕ, ◌+◌, ◌<◌, ◌≡◌, refl, Bool, true, false, not, ◌&&◌, cond, List, eqb, length, set, None, Option, Some}
 use Rattle.std.proofs.Common.{sym, ap, ◌∙◌, arith, ext_get_or}
 use Rattle.std.proofs.lemmas.Bool.{false≢true, not-true}
 use Rattle.facts.specs.Store.{in_range}
@@ -14,8 +15,6 @@ use Rattle.statements.specs.declared.Simple.TheVariants.{PointerOffset, PointerI
 use Rattle.rules.specs.BoundsRules.{nothing_known, known, names, forget_end, forget_bounds, object_bounds, weight}
 use Rattle.rules.specs.Stored.{effect, shift_constant, shift_end, shift_bounds, effect_on, bounds_after}
 use Rattle.rules.specs.Ranges.{InRange, Measured, Short}
-use Rattle.rules.specs.declared.KnownEnd.{KnownEnd}
-use Rattle.rules.specs.declared.KnownEnd.TheVariants.{Known, Unknown}
 use Rattle.rules.specs.declared.Bounds.{Bounds}
 use Rattle.rules.specs.declared.Environment.{Environment}
 use Rattle.rules.specs.declared.Effect.{Effect}
@@ -56,18 +55,18 @@ effect-short E f (Declare p r) m l = tt
 
 -- ---- bounds that an effect makes the same again, or leaves as they are
 
-record Same (v : ℕ) (e : KnownEnd) : Type 0 where
+record Same (v : ℕ) (e : Option End) : Type 0 where
   forgotten : forget_end v e ≡ e
   moved : (s k : ℕ) → shift_end s v k e ≡ e
 
-end-same : (v : ℕ) (e : KnownEnd) → end_same v e ≡ true → Same v e
+end-same : (v : ℕ) (e : Option End) → end_same v e ≡ true → Same v e
 unfolding end_same forget_end bounds_rules.shift_end
-end-same v Unknown h = record { forgotten = refl; moved = λ s k. refl }
-end-same v (Known e) h =
+end-same v None h = record { forgotten = refl; moved = λ s k. refl }
+end-same v (Some e) h =
     let n : names e v ≡ false = not-true (names e v) h in
     record {
-      forgotten = ap (λ (b : Bool). cond b Unknown (Known e)) n;
-      moved = λ s k. ap (λ (b : Bool). cond b (shift_constant (weight s v e) k e) (Known e)) n;
+      forgotten = ap (λ (b : Bool). cond b None (Some e)) n;
+      moved = λ s k. ap (λ (b : Bool). cond b (shift_constant (weight s v e) k e) (Some e)) n;
     }
 
 module _ (v : ℕ) (b : Bounds) (h : bounds_same v b ≡ true) where
@@ -101,10 +100,10 @@ made-same (Object v z n) p own source h =
     ap (λ (b : Bool). cond b (object_bounds v z n) (forget_bounds v own)) (not-true (eqb p v) t.0) ∙ same-forgotten v own t.1
 
 -- An end that stays is known, and the same.
-end-stays : (v : ℕ) (e : KnownEnd) → end_stays v e ≡ true → end_same v e ≡ true
+end-stays : (v : ℕ) (e : Option End) → end_stays v e ≡ true → end_same v e ≡ true
 unfolding end_stays end_same
-end-stays v Unknown h = refl
-end-stays v (Known e) h = h
+end-stays v None h = refl
+end-stays v (Some e) h = h
 
 bounds-stay : (v : ℕ) (b : Bounds) → bounds_stay v b ≡ true → bounds_same v b ≡ true
 unfolding bounds_stay bounds_same

@@ -1,16 +1,15 @@
 -- Bounds that an effect leaves as they are.
-use Rattle.std.specs.Prelude.{ℕ, Bool, true, false, not, ◌&&◌, eqb}
+use Rattle.table.specs.declared.variables.End.{End}
+use Rattle.std.specs.Prelude.{ℕ, Bool, true, false, not, ◌&&◌, eqb, None, Option, Some}
 use Rattle.rules.specs.BoundsRules.{names}
-use Rattle.rules.specs.declared.KnownEnd.{KnownEnd}
-use Rattle.rules.specs.declared.KnownEnd.TheVariants.{Known, Unknown}
 use Rattle.rules.specs.declared.Bounds.{Bounds}
 use Rattle.rules.specs.declared.Effect.{Effect}
 use Rattle.rules.specs.declared.Effect.TheVariants.{Keep, Forget, Shift, Copy, Object}
 
 -- An end that is known and does not name v.
-unfoldable pub end_stays : ℕ → KnownEnd → Bool
-end_stays v Unknown = false
-end_stays v (Known e) = not (names e v)
+unfoldable pub end_stays : ℕ → Option End → Bool
+end_stays v None = false
+end_stays v (Some e) = not (names e v)
 
 unfoldable pub bounds_stay : ℕ → Bounds → Bool
 bounds_stay v b = end_stays v b.lower && end_stays v b.upper
@@ -43,9 +42,9 @@ unfoldable pub left_alone : ℕ → ℕ → ℕ → Bounds → Bool
 left_alone changed replaced p b = not (eqb p replaced) && bounds_stay changed b
 
 -- Bounds that an effect makes the same again: besides those that it leaves as they are, ends that are not known.
-unfoldable pub end_same : ℕ → KnownEnd → Bool
-end_same v Unknown = true
-end_same v (Known e) = not (names e v)
+unfoldable pub end_same : ℕ → Option End → Bool
+end_same v None = true
+end_same v (Some e) = not (names e v)
 
 unfoldable pub bounds_same : ℕ → Bounds → Bool
 bounds_same v b = end_same v b.lower && end_same v b.upper

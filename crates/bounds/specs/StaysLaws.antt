@@ -1,9 +1,8 @@
 -- Laws of bounds that an effect leaves as they are, as the code meets them.
-use Rattle.std.specs.Prelude.{ℕ, ◌<◌, ◌≡◌, refl, Bool, not, ◌&&◌, List, length, get_or}
+use Rattle.std.specs.Prelude.{ℕ, ◌<◌, ◌≡◌, refl, Bool, not, ◌&&◌, List, length, get_or, None}
 use Rattle.std.proofs.Common.{ap, ◌∙◌, arith, ne_eqb}
 use Rattle.arrays.specs.TabulateLaws.{any-default}
 use Rattle.rules.specs.BoundsRules.{known}
-use Rattle.rules.specs.declared.KnownEnd.TheVariants.{Known}
 use Rattle.rules.specs.declared.Bounds.{Bounds}
 use Rattle.rules.specs.declared.Effect.{Effect}
 use Rattle.rules.specs.declared.Effect.TheVariants.{Keep, Forget, Shift, Copy, Object}
@@ -11,8 +10,7 @@ use Rattle.bounds.specs.Stays.{bounds_stay, stays, changed_by, replaced_by, left
 
 -- What the code reads at an index of an array of bounds; past the array's end, which it never reads, this stands.
 abbrev blank : Bounds
-blank =
-    record { size = 0; lower = Known (record { pointer = 0; integer = 0; constant = 0 }); upper = Known (record { pointer = 0; integer = 0; constant = 0 }) }
+blank = record { size = 0; lower = None; upper = None }
 
 abbrev pub stored : List Bounds → ℕ → Bounds
 stored K p = get_or K p blank

@@ -24,23 +24,7 @@ pub struct KnownBounds {
 fn keeps_all(effect: Effect) -> bool
     ensures { result ≡ keeps_all effect }
 {
-    match effect {
-        Effect::Keep => true,
-        Effect::Forget { target: _ } => false,
-        Effect::Shift {
-            target: _,
-            constant: _,
-        } => false,
-        Effect::Copy {
-            target: _,
-            source: _,
-        } => false,
-        Effect::Object {
-            target: _,
-            size: _,
-            length: _,
-        } => false,
-    }
+    matches!(effect, Effect::Keep)
 }
 
 pub fn bounds_after(effect: Effect, known: KnownBounds) -> KnownBounds

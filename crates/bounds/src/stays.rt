@@ -3,7 +3,7 @@ ghost use Rattle.std.specs.Prelude.{◌≡◌};
 ghost use Rattle.rules.specs.BoundsRules.{names};
 ghost use Rattle.bounds.specs.Stays.{end_stays, bounds_stay, left_alone, changed_by, replaced_by, end_same, bounds_same, made_same};
 
-use rules::{Bounds, Effect, KnownEnd};
+use rules::{Bounds, Effect};
 use table::variables::End;
 
 pub(crate) fn end_names(end: End, v: usize) -> bool
@@ -13,10 +13,10 @@ pub(crate) fn end_names(end: End, v: usize) -> bool
 }
 
 // An end that is known and does not name v.
-fn end_stays(v: usize, end: KnownEnd) -> bool
+fn end_stays(v: usize, end: Option<End>) -> bool
     ensures { result ≡ end_stays v end }
 {
-    let KnownEnd::Known(e) = end else {
+    let Some(e) = end else {
         return false;
     };
     !end_names(e, v)
@@ -25,9 +25,7 @@ fn end_stays(v: usize, end: KnownEnd) -> bool
 fn bounds_stay(v: usize, b: Bounds) -> bool
     ensures { result ≡ bounds_stay v b }
 {
-    let lower = b.lower;
-    let upper = b.upper;
-    end_stays(v, lower) & end_stays(v, upper)
+    end_stays(v, b.lower) & end_stays(v, b.upper)
 }
 
 // The variable that an effect changes: an end that names it has to be looked at again. No variable has the number 17.
@@ -36,17 +34,10 @@ pub(crate) fn changed_by(effect: Effect) -> usize
 {
     match effect {
         Effect::Keep => 17,
-        Effect::Forget { target } => target,
-        Effect::Shift {
-            target,
-            constant: _,
-        } => target,
-        Effect::Copy { target, source: _ } => target,
-        Effect::Object {
-            target: pointer,
-            size: _,
-            length: _,
-        } => pointer,
+        Effect::Forget { target }
+        | Effect::Shift { target, .. }
+        | Effect::Copy { target, .. }
+        | Effect::Object { target, .. } => target,
     }
 }
 
@@ -55,18 +46,8 @@ pub(crate) fn replaced_by(effect: Effect) -> usize
     ensures { result ≡ replaced_by effect }
 {
     match effect {
-        Effect::Keep => 17,
-        Effect::Forget { target: _ } => 17,
-        Effect::Shift {
-            target: _,
-            constant: _,
-        } => 17,
-        Effect::Copy { target, source: _ } => target,
-        Effect::Object {
-            target: pointer,
-            size: _,
-            length: _,
-        } => pointer,
+        Effect::Copy { target, .. } | Effect::Object { target, .. } => target,
+        _ => 17,
     }
 }
 
@@ -78,10 +59,10 @@ pub(crate) fn left_alone(changed: usize, replaced: usize, p: usize, own: Bounds)
 }
 
 // An end that is the same after a change of v: it does not name v, or is not known.
-fn end_same(v: usize, end: KnownEnd) -> bool
+fn end_same(v: usize, end: Option<End>) -> bool
     ensures { result ≡ end_same v end }
 {
-    let KnownEnd::Known(e) = end else {
+    let Some(e) = end else {
         return true;
     };
     !end_names(e, v)
@@ -90,9 +71,7 @@ fn end_same(v: usize, end: KnownEnd) -> bool
 fn bounds_same(v: usize, b: Bounds) -> bool
     ensures { result ≡ bounds_same v b }
 {
-    let lower = b.lower;
-    let upper = b.upper;
-    end_same(v, lower) & end_same(v, upper)
+    end_same(v, b.lower) & end_same(v, b.upper)
 }
 
 // An effect with these two numbers makes the bounds `own` of p the same again: it leaves them as they are, or nothing is known of an end.

@@ -4,8 +4,10 @@ ghost use Rattle.bounds.specs.Stays.{changed_by, replaced_by, left_alone};
 ghost use Rattle.bounds.specs.Touched.{seen_as, touched, named_in, touches};
 
 use crate::stays::{changed_by, left_alone, replaced_by};
-use rules::lookups::is_pointer;
+use arrays::lowest;
+use rules::lookups::element_or;
 use rules::{Bounds, Effect};
+use std::array;
 
 // What is asked for each statement: which variables are pointers, and the declared bounds in force. An environment, with its 64 rows, is large to pass.
 #[derive(Clone, Copy)]
@@ -33,39 +35,23 @@ fn spoils(environment: Seen, effect: Effect) -> bool
 {
     let changed = changed_by(effect);
     let replaced = replaced_by(effect);
-    let mut p = 0;
-    while p < 16 {
-        if environment.pointers[p] & !left_alone(changed, replaced, p, environment.declared[p]) {
-            return true;
-        }
-        p += 1;
-    }
-    false
+    let spoilt = |p: usize| environment.pointers[p]
+        & !left_alone(changed, replaced, p, environment.declared[p]);
+    lowest(16, spoilt) < 16
 }
 
 pub fn named_in(environment: Seen) -> Named
     ensures { result.each ≡ named_in (seen_as environment) }
 {
-    let mut named = Named { each: [false; 18] };
-    for v in 0..18 {
-        named.each[v] = spoils(environment, Effect::Forget { target: v });
+    Named {
+        each: array::from_fn(|v| spoils(environment, Effect::Forget { target: v })),
     }
-    named
-}
-
-// Whether the declared bounds of some pointer name v, or perhaps do.
-fn may_be_named(named: Named, v: usize) -> bool
-    ensures { result ≡ get_or named.each v true }
-{
-    if v < 18 {
-        return named.each[v];
-    }
-    true
 }
 
 // Some pointer's declared bounds have to be shown again after the effect: they name what it changes, or it replaces them.
 pub fn touches(named: Named, pointers: [bool; 17], effect: Effect) -> bool
     ensures { result ≡ touches named.each pointers effect }
 {
-    may_be_named(named, changed_by(effect)) | is_pointer(pointers, replaced_by(effect))
+    element_or(named.each, changed_by(effect), true)
+        | element_or(pointers, replaced_by(effect), false)
 }

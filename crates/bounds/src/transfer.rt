@@ -6,18 +6,18 @@ ghost use Rattle.rules.specs.Ranges.{Short};
 ghost use Rattle.bounds.specs.Transfer.{source_of, effect_on_one};
 
 use crate::stays::end_names;
-use rules::{Bounds, Effect, KnownEnd};
+use rules::{Bounds, Effect};
 use sums::{BIAS, LIMIT, ZERO};
 use table::variables::End;
 
-fn forget_end(v: usize, end: KnownEnd) -> KnownEnd
+fn forget_end(v: usize, end: Option<End>) -> Option<End>
     ensures { result ≡ forget_end v end }
 {
-    let KnownEnd::Known(e) = end else {
-        return KnownEnd::Unknown;
+    let Some(e) = end else {
+        return None;
     };
     if end_names(e, v) {
-        return KnownEnd::Unknown;
+        return None;
     }
     end
 }
@@ -33,35 +33,35 @@ fn weight_of(size: u64, v: usize, end: End) -> u64
 }
 
 // The end with its constant lowered by `weight` times k.
-fn shift_constant(weight: u64, k: u64, end: End) -> KnownEnd
+fn shift_constant(weight: u64, k: u64, end: End) -> Option<End>
     ensures { result ≡ shift_constant weight k end }
 {
     if weight > 8 {
-        return KnownEnd::Unknown;
+        return None;
     }
     if k >= LIMIT {
-        return KnownEnd::Unknown;
+        return None;
     }
     if end.constant >= LIMIT {
-        return KnownEnd::Unknown;
+        return None;
     }
     let moved = weight * k;
     let raised = end.constant + weight * BIAS;
     if moved > raised {
-        return KnownEnd::Unknown;
+        return None;
     }
-    KnownEnd::Known(End {
+    Some(End {
         pointer: end.pointer,
         integer: end.integer,
         constant: raised - moved,
     })
 }
 
-fn shift_end(size: u64, v: usize, k: u64, end: KnownEnd) -> KnownEnd
+fn shift_end(size: u64, v: usize, k: u64, end: Option<End>) -> Option<End>
     ensures { result ≡ shift_end size v k end }
 {
-    let KnownEnd::Known(e) = end else {
-        return KnownEnd::Unknown;
+    let Some(e) = end else {
+        return None;
     };
     if end_names(e, v) {
         return shift_constant(weight_of(size, v, e), k, e);
@@ -72,26 +72,20 @@ fn shift_end(size: u64, v: usize, k: u64, end: KnownEnd) -> KnownEnd
 fn forget_bounds(v: usize, b: Bounds) -> Bounds
     ensures { result ≡ forget_bounds v b }
 {
-    let lower = b.lower;
-    let upper = b.upper;
-    let size = b.size;
     Bounds {
-        size,
-        lower: forget_end(v, lower),
-        upper: forget_end(v, upper),
+        size: b.size,
+        lower: forget_end(v, b.lower),
+        upper: forget_end(v, b.upper),
     }
 }
 
 fn shift_bounds(v: usize, k: u64, b: Bounds) -> Bounds
     ensures { result ≡ shift_bounds v k b }
 {
-    let lower = b.lower;
-    let upper = b.upper;
-    let size = b.size;
     Bounds {
-        size,
-        lower: shift_end(size, v, k, lower),
-        upper: shift_end(size, v, k, upper),
+        size: b.size,
+        lower: shift_end(b.size, v, k, b.lower),
+        upper: shift_end(b.size, v, k, b.upper),
     }
 }
 
@@ -101,12 +95,12 @@ fn object_bounds(p: usize, size: u64, length: u64) -> Bounds
 {
     Bounds {
         size,
-        lower: KnownEnd::Known(End {
+        lower: Some(End {
             pointer: p,
             integer: ZERO,
             constant: BIAS,
         }),
-        upper: KnownEnd::Known(End {
+        upper: Some(End {
             pointer: p,
             integer: ZERO,
             constant: BIAS + length,
@@ -119,18 +113,8 @@ pub fn source_of(effect: Effect) -> usize
     ensures { result ≡ source_of effect }
 {
     match effect {
-        Effect::Keep => 0,
-        Effect::Forget { target: _ } => 0,
-        Effect::Shift {
-            target: _,
-            constant: _,
-        } => 0,
-        Effect::Copy { target: _, source } => source,
-        Effect::Object {
-            target: _,
-            size: _,
-            length: _,
-        } => 0,
+        Effect::Copy { source, .. } => source,
+        _ => 0,
     }
 }
 
@@ -143,7 +127,7 @@ pub fn effect_on(effect: Effect, p: usize, own: Bounds, source: Bounds) -> Bound
         Effect::Keep => own,
         Effect::Forget { target } => forget_bounds(target, own),
         Effect::Shift { target, constant } => shift_bounds(target, constant, own),
-        Effect::Copy { target, source: _ } => {
+        Effect::Copy { target, .. } => {
             if p == target {
                 return forget_bounds(target, source);
             }

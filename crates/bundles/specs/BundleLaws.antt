@@ -1,5 +1,5 @@
 -- Faults in order, and the walk over a bundle, one statement at a time, as the code meets it.
-use Rattle.std.specs.Prelude.{ℕ, zero, suc, ◌+◌, ◌-◌, ◌<◌, ◌≤◌, ◌≡◌, refl, Bool, true, false, List, [], ◌∷◌, ℤ, set}
+use Rattle.std.specs.Prelude.{ℕ, zero, suc, ◌+◌, ◌-◌, ◌<◌, ◌≤◌, ◌≡◌, refl, Bool, true, false, List, [], ◌∷◌, ℤ, set, Err, None, Ok, Result, Some}
 use Rattle.std.proofs.Common.{sym, ◌∙◌, ap₂, arith}
 use Rattle.std.proofs.Math.Path.{ap}
 use Rattle.facts.specs.declared.FactSet.{FactSet}
@@ -10,7 +10,6 @@ use Rattle.statements.specs.declared.Simple.{Simple}
 use Rattle.statements.specs.declared.Simple.TheVariants.{Declare}
 use Rattle.statements.specs.declared.Statement.{Statement}
 use Rattle.statements.specs.declared.Statement.TheVariants.{Plain, If, While, Bundle, Call}
-use Rattle.statements.specs.declared.StatementRead.TheVariants.{Read, Unread}
 use Rattle.statements.specs.Statements.{statement_at}
 use Rattle.statements.specs.StatementLaws.{read-typed, read-limits}
 use Rattle.blocks.specs.Tree.{simples, simples_from}
@@ -25,11 +24,10 @@ use Rattle.rules.specs.Rules.{access_at, bounds_at}
 use Rattle.rules.specs.Verdict.{verdict_of}
 use Rattle.rules.specs.Ranges.{InRange, Measured, Short}
 use Rattle.effects.specs.Applied.{Applied, applied}
-use Rattle.declared.specs.Shown.{declares_of, is_access}
+use Rattle.declared.specs.Shown.{declares_of, is_access, declaration}
 use Rattle.bounds.specs.Touched.{seen_as, seen_of}
 use Rattle.bounds.specs.declared.touched.Seen.{Seen}
 use Rattle.declared.specs.ShownLaws.{row_named, rows_stay, no-row-asked, seen-unshown, seen-access, seen-safe, unneeded, unreported}
-use Rattle.declared.specs.declared.Declares.TheVariants.{Row, NoRow}
 use Rattle.declared.specs.Force.{Framed, state_of}
 use Rattle.declared.specs.ForceLaws.{none-refused, pass, refuse-part}
 use Rattle.declared.specs.declared.force.Frame.{Frame}
@@ -40,8 +38,6 @@ use Rattle.rules.specs.declared.Bounds.{Bounds}
 use Rattle.rules.specs.declared.Environment.{Environment}
 use Rattle.rules.specs.declared.Effect.{Effect}
 use Rattle.rules.specs.declared.Effect.TheVariants.{Keep}
-use Rattle.rules.specs.declared.Verdict.{Verdict}
-use Rattle.rules.specs.declared.Verdict.TheVariants.{Accepted, Refused}
 use Rattle.bundles.specs.declared.Walked.{Walked}
 use Rattle.rules.specs.Rules as walk_rules
 use Rattle.rules.specs.FactRules as fact_rules
@@ -50,12 +46,12 @@ use Rattle.rules.specs.BoundsRules as bounds_rules
 -- ---- faults in order
 
 pub stops : {zs : List Refusal} (xs ys : List Refusal) {g : State FactSet} {M : List ℕ} {w : Walked} {r : Refusal} → zs ≡ also xs ys
-    → w.verdict ≡ verdict_of xs → w.verdict ≡ Refused r → Passes zs g M w
+    → w.verdict ≡ verdict_of xs → w.verdict ≡ Err r → Passes zs g M w
 stops xs ys z e p =
     let h = refuse-part xs ys e p in
     record { said = h.0 ∙ ap verdict_of (sym z); kept = λ q. absurd (h.1 (sym z ∙ q)); marked = λ q. absurd (h.1 (sym z ∙ q)) }
 
-access-verdict : (b : Bool) (a : ℕ) → b ≡ false → Refused (BundleAccess a) ≡ verdict_of (access_at b a)
+access-verdict : (b : Bool) (a : ℕ) → b ≡ false → Err (BundleAccess a) ≡ verdict_of (access_at b a)
 unfolding access_at verdict_of
 access-verdict b a e = rw e
 
@@ -63,7 +59,7 @@ access-pass : (b : Bool) (a : ℕ) → b ≡ true → access_at b a ≡ []
 unfolding access_at
 access-pass b a e = rw e
 
-pub ends : {xs : List Refusal} {g : State FactSet} {M : List ℕ} {w : Walked} → xs ≡ [] → w.verdict ≡ Accepted → state_of w.facts w.rows.each ≡ g
+pub ends : {xs : List Refusal} {g : State FactSet} {M : List ℕ} {w : Walked} → xs ≡ [] → w.verdict ≡ Ok tt → state_of w.facts w.rows.each ≡ g
     → w.report.words ≡ M → Passes xs g M w
 unfolding verdict_of
 ends e p q v = record { said = p ∙ ap verdict_of (sym e); kept = λ z. q; marked = λ z. v }
@@ -88,11 +84,11 @@ pub measured-by : (f : FactSet) (s : Simple) {E : Environment} {r : Frame} {d : 
 measured-by f s m e = e ∙ ap₂ (λ (x y : List ℕ). applied x y f s) m.sizes m.spans
 
 -- A kind 14 names a pointer and a row of the table.
-pub row-limits : (T : List ℤ) (h : Sections) (a : ℕ) {s : Statement} {p : Simple} {y r : ℕ} → statement_at T h a ≡ Read s → s ≡ Plain p → declares_of p
-    ≡ Row y r
+pub row-limits : (T : List ℤ) (h : Sections) (a : ℕ) {s : Statement} {p : Simple} {y r : ℕ} → statement_at T h a ≡ Some s → s ≡ Plain p → declares_of p
+    ≡ Some (declaration y r)
     → (y < 16) × (r < 64)
 row-limits T h a {s} {p} {y} {r} e d n =
-    let q : statement_at T h a ≡ Read (Plain (Declare y r)) = e ∙ ap Read (d ∙ ap Plain (row_named p y r n)) in
+    let q : statement_at T h a ≡ Some (Plain (Declare y r)) = e ∙ ap Some (d ∙ ap Plain (row_named p y r n)) in
     let t = read-typed T h a (Plain (Declare y r)) q in
     let l = read-limits T h a _ q in
     (omega (arith, t.pointer.below, l.0.variables), omega (arith, t.row, l.0.rows))
@@ -203,7 +199,7 @@ unfolding bounds_rules.effect
 declare-keeps E f p r = refl
 
 -- Any other asks for no row.
-pub nothing-asked : (E : Environment) (f : FactSet) (K : List Bounds) (s : Simple) (a : ℕ) → declares_of s ≡ NoRow → bounds_at a (row_unshown E f K s) ≡ []
+pub nothing-asked : (E : Environment) (f : FactSet) (K : List Bounds) (s : Simple) (a : ℕ) → declares_of s ≡ None → bounds_at a (row_unshown E f K s) ≡ []
 unfolding bounds_at
 nothing-asked E f K s a n = rw (no-row-asked E f K s n) refl
 
@@ -228,25 +224,25 @@ module _ {T : List ℤ} {h : Sections} {E : Environment} {head count : ℕ} {w�
   held-done z p = held-end (simples-none left T h at z) p
 
   module _ (some : 0 < left) where
-    pub held-unread : {w : Walked} → statement_at T h at ≡ Unread → Passes (bounds_at head (unshown (seen_as I) f K)) (state_of f R) M w
+    pub held-unread : {w : Walked} → statement_at T h at ≡ None → Passes (bounds_at head (unshown (seen_as I) f K)) (state_of f R) M w
         → WalksBundle E head (simples count T h (head + 1)) w₀ K₀ M₀ w
     held-unread e p = held-end (simples-some left T h at _ some e) p
 
-    cut : (s : Statement) → ((p : Simple) → s ≡ Plain p → ⊥) → (ss : List Simple) → simples_from (Read s) ss ≡ []
+    cut : (s : Statement) → ((p : Simple) → s ≡ Plain p → ⊥) → (ss : List Simple) → simples_from (Some s) ss ≡ []
     cut (Plain p) n ss = absurd (n p refl)
     cut (If c i j) n ss = refl
     cut (While c i) n ss = refl
     cut (Bundle i) n ss = refl
     cut (Call i) n ss = refl
 
-    pub held-other : {w : Walked} {s : Statement} → statement_at T h at ≡ Read s → ((p : Simple) → s ≡ Plain p → ⊥)
+    pub held-other : {w : Walked} {s : Statement} → statement_at T h at ≡ Some s → ((p : Simple) → s ≡ Plain p → ⊥)
         → Passes (bounds_at head (unshown (seen_as I) f K)) (state_of f R) M w
         → WalksBundle E head (simples count T h (head + 1)) w₀ K₀ M₀ w
     held-other {w} {s} e n p = held-end (simples-some left T h at _ some e ∙ cut s n (simples (left - 1) T h (at + 1))) p
 
-    module _ {s : Statement} {p : Simple} (e : statement_at T h at ≡ Read s) (d : s ≡ Plain p) where
+    module _ {s : Statement} {p : Simple} (e : statement_at T h at ≡ Some s) (d : s ≡ Plain p) where
       line : simples left T h at ≡ p ∷ simples (left - 1) T h (at + 1)
-      line = simples-some left T h at _ some (e ∙ ap Read d)
+      line = simples-some left T h at _ some (e ∙ ap Some d)
 
       line-here : line_faults E head (head + 1) (simples count T h (head + 1)) w₀ K₀ ≡ also (access_at (access_in E (state_of f R) K p) at)
           (also (bounds_at at (row_unshown E f K p))
@@ -267,11 +263,11 @@ module _ {T : List ℤ} {h : Sections} {E : Environment} {head count : ℕ} {w�
       access-here a = a ∙ (ap (λ (x : Seen). access_shown (seen_as x) f K p) k.inside ∙ seen-access (in_force E R) f K p)
 
       -- Any kind but 14.
-      pub held-access : {w : Walked} {b : Bool} → b ≡ access_shown (seen_as I) f K p → b ≡ false → w.verdict ≡ Refused (BundleAccess at)
+      pub held-access : {w : Walked} {b : Bool} → b ≡ access_shown (seen_as I) f K p → b ≡ false → w.verdict ≡ Err (BundleAccess at)
           → WalksBundle E head (simples count T h (head + 1)) w₀ K₀ M₀ w
       held-access a t v = stops _ _ line-here (v ∙ access-verdict (access_in E (state_of f R) K p) at (sym (access-here a) ∙ t)) v
 
-      pub held_more : {g : FactSet} {L : List Bounds} {x : Effect} {W : List ℕ} → declares_of p ≡ NoRow → AccessAsked (seen_as I) f K p at M W
+      pub held_more : {g : FactSet} {L : List Bounds} {x : Effect} {W : List ℕ} → declares_of p ≡ None → AccessAsked (seen_as I) f K p at M W
           → g ≡ facts_after p f → x ≡ effect E f p → L ≡ bounds_after x K
           → Held T h E head count w₀ K₀ M₀ (at + 1) (left - 1) g R I L W
       held_more {g} {L} {W = W} n a q x l =
@@ -289,7 +285,8 @@ module _ {T : List ℤ} {h : Sections} {E : Environment} {head count : ℕ} {w�
           }
 
       -- Kind 14.
-      module _ {y r : ℕ} (n : declares_of p ≡ Row y r) {v : Verdict} (z : v ≡ verdict_of (bounds_at at (row_unshown E f K (Declare y r)))) where
+      module _ {y r : ℕ} (n : declares_of p ≡ Some (declaration y r)) {v : Result (Unit {0}) Refusal} (z : v ≡ verdict_of (bounds_at at (row_unshown E f K
+          (Declare y r)))) where
         row_here : line_faults E head (head + 1) (simples count T h (head + 1)) w₀ K₀ ≡ also (bounds_at at (row_unshown E f K (Declare y r)))
             (line_faults E head (at + 1) (simples (left - 1) T h (at + 1)) (state_of f (set R y (r + 1))) (bounds_after Keep K))
         row_here =
@@ -300,10 +297,10 @@ module _ {T : List ℤ} {h : Sections} {E : Environment} {head count : ℕ} {w�
             also (bounds_at at (row_unshown E f K (Declare y r))) (line_faults E head (at + 1) (simples (left - 1) T h (at + 1)) w (bounds_after x K)))
             (declare-after y r f R) (declare-keeps E f y r)))
 
-        pub held-missed : {w : Walked} {x : Refusal} → v ≡ Refused x → w.verdict ≡ v → WalksBundle E head (simples count T h (head + 1)) w₀ K₀ M₀ w
+        pub held-missed : {w : Walked} {x : Refusal} → v ≡ Err x → w.verdict ≡ v → WalksBundle E head (simples count T h (head + 1)) w₀ K₀ M₀ w
         held-missed t q = stops _ _ row_here (q ∙ z) (q ∙ t)
 
-        pub held-row : {Q : List ℕ} {J : Seen} {L : List Bounds} → v ≡ Accepted → L ≡ bounds_after Keep K → Q ≡ set R y (r + 1) → J ≡ seen_of (in_force E Q)
+        pub held-row : {Q : List ℕ} {J : Seen} {L : List Bounds} → v ≡ Ok tt → L ≡ bounds_after Keep K → Q ≡ set R y (r + 1) → J ≡ seen_of (in_force E Q)
             → Held T h E head count w₀ K₀ M₀ (at + 1) (left - 1) f Q J L M
         held-row {Q} {J} {L} t l q j =
             let o : state_after p (state_of f R) ≡ state_of f Q = ap (λ (x : Simple). state_after x (state_of f R)) (row_named p y r n)

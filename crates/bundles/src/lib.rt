@@ -18,22 +18,22 @@ use bounds::{KnownBounds, bounds_after};
 use chains::shown::answer;
 use declared::force::{Force, Frame, seen_in, with_row};
 use declared::{
-    Declares, access_safe, access_shown, check_known, check_row, declares_of, is_access,
+    Declaration, access_safe, access_shown, check_known, check_row, declares_of, is_access,
 };
 use effects::asked::ask_statement;
 use effects::plan_statement;
 use facts::FactSet;
 use reader::read_due;
 use reports::{Report, mark_if};
+use rules::Effect;
 use rules::lookups::Rows;
-use rules::{Effect, Verdict};
-use statements::{Statement, StatementRead};
+use statements::Statement;
 use words::sections::Sections;
 
 // The verdict on a block or a bundle; where nothing is refused, the facts and rows in force after it and the report so far.
 #[derive(Clone, Copy)]
 pub struct Walked {
-    pub verdict: Verdict,
+    pub verdict: Result<(), Refusal>,
     pub facts: FactSet,
     pub rows: Rows,
     pub report: Report,
@@ -87,7 +87,7 @@ pub fn walk_bundle(
     let mut left = count;
     while left > 0 {
         let got = read_due(table, sections, at);
-        let StatementRead::Read(statement) = got else {
+        let Some(statement) = got else {
             break;
         };
         let Statement::Plain(simple) = statement else {
@@ -97,9 +97,9 @@ pub fn walk_bundle(
         let fewer = left - 1;
         let declares = declares_of(simple);
         match declares {
-            Declares::Row { pointer, row } => {
+            Some(Declaration { pointer, row }) => {
                 let verdict = check_row(table, sections, facts, known, pointer, row, at);
-                let Verdict::Accepted = verdict else {
+                let Ok(()) = verdict else {
                     return Walked {
                         verdict,
                         facts,
@@ -114,11 +114,11 @@ pub fn walk_bundle(
                 at = next;
                 left = fewer;
             }
-            Declares::NoRow => {
+            None => {
                 if is_access(simple) {
                     if !access_shown(seen, facts, known, simple) {
                         return Walked {
-                            verdict: Verdict::Refused(Refusal::BundleAccess(at)),
+                            verdict: Err(Refusal::BundleAccess(at)),
                             facts,
                             rows,
                             report,

@@ -8,7 +8,7 @@ ghost use Rattle.changes.specs.Changes.{no_fact, adding, ranging, shifting, equa
 use sums::{BIAS, MAX_SUM, ZERO, negate};
 
 // A fact x <= y + k; where x or y is neither a variable nor zero it says nothing.
-#[derive(Clone, Copy)]
+#[derive(Clone, Copy, Debug, PartialEq, Eq)]
 pub struct Fact {
     pub x: usize,
     pub y: usize,
@@ -79,8 +79,8 @@ pub fn ranging(x: usize, low: u32, high: u32) -> Change
     Change {
         target: x,
         base: ZERO,
-        up: BIAS + (high as u64),
-        down: BIAS - (low as u64),
+        up: BIAS + u64::from(high),
+        down: BIAS - u64::from(low),
         facts: [none, none, none],
     }
 }

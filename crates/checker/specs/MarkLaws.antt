@@ -1,6 +1,7 @@
 -- The words of the report after a walk: each statement's bit says whether it is an access that is shown safe in the state before it.
+use Rattle.statements.specs.declared.Statement.{Statement}
 use Prim.Native.Nat.{ℕ, ◌+◌, ◌/◌, ◌≤◌, ◌<◌}
-use Rattle.std.specs.Prelude.{◌≡◌, ◌≢◌, ◌⊎◌, Bool, cond, ltb, ℤ}
+use Rattle.std.specs.Prelude.{◌≡◌, ◌≢◌, ◌⊎◌, Bool, cond, ltb, ℤ, Option}
 use Rattle.std.proofs.Math.Path.{refl, sym}
 use Rattle.std.proofs.Common.{ap, ◌∙◌, inl, inr, arith, eq-or-lt_of_le}
 use Rattle.std.proofs.Math.Logic.{⊎_elim}
@@ -14,8 +15,6 @@ use Rattle.words.specs.declared.sections.Sections.{Sections}
 use Rattle.conditions.specs.Conditions.{negated_of}
 use Rattle.statements.specs.Statements.{statement_at}
 use Rattle.statements.specs.declared.Simple.{Simple}
-use Rattle.statements.specs.declared.StatementRead.{StatementRead}
-use Rattle.statements.specs.declared.StatementRead.TheVariants.{Read}
 use Rattle.statements.specs.declared.Statement.TheVariants.{Plain}
 use Rattle.blocks.specs.Tree.{Block, nil, plain, branch, loop, bundle, call, unread, assigned}
 use Rattle.blocks.specs.Shape.{size, Numbered, ReadsLine, Reads}
@@ -101,7 +100,8 @@ module _ (T : List ℤ) (h : Sections) (E : Environment) where
           let f : reported M a ≡ false = rw q at z in
           line-outside (a + 1) ss (state_after s w) (marked_if (safe_in E w s) M a) (marked-long M l a (omega arith) (safe_in E w s)) (omega arith) d (under
           (omega arith))
-          ∙ (rw q (marked-same M l a (omega arith) (safe_in E w s) f) ∙ sym (ap (λ (k : StatementRead). read_safe store E k w) (ap (statement_at T h) q ∙ r.0)))
+          ∙ (rw q (marked-same M l a (omega arith) (safe_in E w s) f)
+          ∙ sym (ap (λ (k : Option Statement). read_safe store E k w) (ap (statement_at T h) q ∙ r.0)))
       go false e ih =
           let q : d ≢ a = eqb-false d a e in
           let less : a < d = ⊎_elim (λ (i : a ≡ d). absurd (q (sym i))) (λ (i : a < d). i) (eq-or-lt_of_le x) in
@@ -155,9 +155,9 @@ module _ (T : List ℤ) (h : Sections) (E : Environment) (L : List ℤ) where
   block-outside (unread a) lo w M n l k d o = refl
 
   -- A head of a block, or a call, is no access.
-  head-unsafe : (d a : ℕ) (k : StatementRead) (w : State FactSet) → d ≡ a → statement_at T h a ≡ k → read_safe store E k w ≡ false
+  head-unsafe : (d a : ℕ) (k : Option Statement) (w : State FactSet) → d ≡ a → statement_at T h a ≡ k → read_safe store E k w ≡ false
       → read_safe store E (statement_at T h d) w ≡ false
-  head-unsafe d a k w q r e = ap (λ (x : StatementRead). read_safe store E x w) (ap (statement_at T h) q ∙ r) ∙ e
+  head-unsafe d a k w q r e = ap (λ (x : Option Statement). read_safe store E x w) (ap (statement_at T h) q ∙ r) ∙ e
 
   abbrev Inside : Block → State FactSet → List ℕ → ℕ → Type 0
   Inside b w M d = reported (block_marks E L b w M) d ≡ read_safe store E (statement_at T h d) (state_before store E L b w d)
@@ -181,7 +181,7 @@ module _ (T : List ℤ) (h : Sections) (E : Environment) (L : List ℤ) where
           let f : reported M a ≡ false = rw q at z in
           block-outside u (a + 1) _ _ n.1 (marked-long M l a (omega (arith, n.0)) (safe_in E w s)) (omega (arith, n.0)) d (under (omega arith))
           ∙ (rw q (marked-same M l a (omega (arith, n.0)) (safe_in E w s) f)
-          ∙ sym (ap (λ (j : StatementRead). read_safe store E j w) (ap (statement_at T h) q ∙ r.0)))
+          ∙ sym (ap (λ (j : Option Statement). read_safe store E j w) (ap (statement_at T h) q ∙ r.0)))
       go false e ih =
           let q : d ≢ a = eqb-false d a e in
           ih (after-head (omega (arith, n.0)) q) (marked_other M l a (omega (arith, n.0)) (safe_in E w s) d q ∙ z)

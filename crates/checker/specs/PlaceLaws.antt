@@ -1,11 +1,10 @@
 -- The blocks of a block that stands in its place stand in theirs; what a while's body assigns is what its records assign.
-use Rattle.std.specs.Prelude.{ℕ, ◌+◌, ◌≡◌, List, ℤ, length}
+use Rattle.std.specs.Prelude.{ℕ, ◌+◌, ◌≡◌, List, ℤ, length, Some}
 use Rattle.words.specs.declared.sections.Sections.{Sections}
 use Rattle.conditions.specs.declared.Condition.{Condition}
 use Rattle.statements.specs.declared.CallSite.{CallSite}
 use Rattle.statements.specs.declared.Simple.{Simple}
 use Rattle.statements.specs.declared.Statement.TheVariants.{If, While, Bundle}
-use Rattle.statements.specs.declared.StatementRead.TheVariants.{Read}
 use Rattle.statements.specs.Statements.{statement_at}
 use Rattle.blocks.specs.Tree.{Block, plain, branch, loop, bundle, call, assigned}
 use Rattle.blocks.specs.Shape.{size}
@@ -20,7 +19,7 @@ module _ {T : List ℤ} {h : Sections} {a : ℕ} where
   pub after_call : {c : CallSite} {r : Block} → InPlace T h a (call a c r) → InPlace T h (a + 1) r
   after_call p = record { numbered = p.numbered.1; reads = p.reads.1 }
 
-  module _ {c : Condition} {n m : ℕ} {t e r : Block} (q : statement_at T h a ≡ Read (If c n m)) (p : InPlace T h a (branch a c t e r)) where
+  module _ {c : Condition} {n m : ℕ} {t e r : Block} (q : statement_at T h a ≡ Some (If c n m)) (p : InPlace T h a (branch a c t e r)) where
     counts : (n ≡ size t) × (m ≡ size e)
     counts = let i = p.reads.0 in (cc, cc)
 
@@ -33,7 +32,7 @@ module _ {T : List ℤ} {h : Sections} {a : ℕ} where
     pub after-if : InPlace T h (a + 1 + n + m) r
     after-if = let x = counts.0 in let y = counts.1 in record { numbered = rw (x, y) p.numbered.3; reads = p.reads.3 }
 
-  module _ {c : Condition} {n : ℕ} {t r : Block} (q : statement_at T h a ≡ Read (While c n)) (p : InPlace T h a (loop a c t r)) where
+  module _ {c : Condition} {n : ℕ} {t r : Block} (q : statement_at T h a ≡ Some (While c n)) (p : InPlace T h a (loop a c t r)) where
     count : n ≡ size t
     count = let i = p.reads.0 in cc
 
@@ -46,5 +45,5 @@ module _ {T : List ℤ} {h : Sections} {a : ℕ} where
     pub body-assigned : assigned t ≡ targets_from T h (a + 1) n
     body-assigned = rw count (assigned-targets T h t (a + 1) p.numbered.1 p.reads.1)
 
-  pub after-bundle : {n : ℕ} {ss : List Simple} {r : Block} → statement_at T h a ≡ Read (Bundle n) → InPlace T h a (bundle a ss r) → InPlace T h (a + 1 + n) r
+  pub after-bundle : {n : ℕ} {ss : List Simple} {r : Block} → statement_at T h a ≡ Some (Bundle n) → InPlace T h a (bundle a ss r) → InPlace T h (a + 1 + n) r
   after-bundle {n} {ss} q p = let i = p.reads.0 in let x : n ≡ length ss = cc in record { numbered = rw x p.numbered.1; reads = p.reads.2 }

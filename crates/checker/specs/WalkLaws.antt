@@ -1,5 +1,5 @@
 -- The walk over a block, one statement at a time, as the code meets it.
-use Rattle.std.specs.Prelude.{ℕ, ◌+◌, ◌-◌, ◌^◌, ◌<◌, ◌≤◌, ◌≡◌, Bool, true, false, ℤ, length, set, get_or}
+use Rattle.std.specs.Prelude.{ℕ, ◌+◌, ◌-◌, ◌^◌, ◌<◌, ◌≤◌, ◌≡◌, Bool, true, false, ℤ, length, set, get_or, Err, None, Ok, Result, Some}
 use Rattle.std.proofs.Math.Path.{refl, sym, ap}
 use Rattle.std.proofs.Common.{◌∙◌, ap₂, arith}
 use mathlib.Core.List.{List, []}
@@ -15,7 +15,6 @@ use Rattle.statements.specs.declared.Simple.{Simple}
 use Rattle.statements.specs.declared.Simple.TheVariants.{Declare}
 use Rattle.statements.specs.declared.Statement.{Statement}
 use Rattle.statements.specs.declared.Statement.TheVariants.{Plain, If, While, Bundle, Call}
-use Rattle.statements.specs.declared.StatementRead.TheVariants.{Read, Unread}
 use Rattle.statements.specs.Statements.{statement_at}
 use Rattle.statements.specs.StatementLaws.{read-typed, read-limits, read-counts-if, read-counts-while, read-counts-bundle}
 use Rattle.blocks.specs.Tree.{Block, nil, unread, simples, node, parse, assigned}
@@ -49,12 +48,9 @@ use Rattle.rules.specs.declared.Environment.{Environment}
 use Rattle.rules.specs.declared.lookups.Rows.{Rows}
 use Rattle.rules.specs.declared.Effect.{Effect}
 use Rattle.rules.specs.declared.Effect.TheVariants.{Keep}
-use Rattle.rules.specs.declared.Verdict.{Verdict}
-use Rattle.rules.specs.declared.Verdict.TheVariants.{Accepted, Refused}
 use Rattle.bundles.specs.declared.Walked.{Walked}
-use Rattle.declared.specs.Shown.{declares_of}
+use Rattle.declared.specs.Shown.{declares_of, declaration}
 use Rattle.declared.specs.ShownLaws.{row_named, rows_stay, seen-unshown, seen-safe}
-use Rattle.declared.specs.declared.Declares.TheVariants.{Row, NoRow}
 use Rattle.declared.specs.Force.{state_of, Forced, DeclaresRow}
 use Rattle.declared.specs.ForceLaws.{pass, none-refused}
 use Rattle.declared.specs.declared.force.Force.{Force}
@@ -97,7 +93,7 @@ kept-none T h E L rs first end allowed f F M o p = record {
   in_place = p;
 }
 
-nil-passes : (E : Environment) (L : List ℤ) (rs : List Routine) (b : Block) (v : State FactSet) (M : List ℕ) {w : Walked} → b ≡ nil → w.verdict ≡ Accepted
+nil-passes : (E : Environment) (L : List ℤ) (rs : List Routine) (b : Block) (v : State FactSet) (M : List ℕ) {w : Walked} → b ≡ nil → w.verdict ≡ Ok tt
     → state_of w.facts w.rows.each ≡ v → w.report.words ≡ M → Walks E L rs b v M w
 unfolding walk_rules.block_faults walk_rules.block_after block_marks
 nil-passes E L rs b v M e p q r = rw e (ends refl p q r)
@@ -105,14 +101,14 @@ nil-passes E L rs b v M e p q r = rw e (ends refl p q r)
 -- An empty block leaves what it was given.
 pub empty-walks : (E : Environment) (L : List ℤ) (rs : List Routine) (T : List ℤ) (h : Sections) (left a end : ℕ) (f : FactSet) (R : Rows) (M : Report)
     → end ≤ a
-    → Walks E L rs (parse left T h a end) (state_of f R.each) M.words (record { verdict = Accepted; facts = f; rows = R; report = M })
+    → Walks E L rs (parse left T h a end) (state_of f R.each) M.words (record { verdict = Ok tt; facts = f; rows = R; report = M })
 empty-walks E L rs T h left a end f R M z = nil-passes E L rs _ _ _ (parse-end left T h a end z) refl refl refl
 
 -- What a walk leaves that refuses nothing.
 abbrev pub settled : Walked → Walked
-settled w = record { verdict = Accepted; facts = w.facts; rows = w.rows; report = w.report }
+settled w = record { verdict = Ok tt; facts = w.facts; rows = w.rows; report = w.report }
 
-pub settled-walks : {xs : List Refusal} {g : State FactSet} {M : List ℕ} {w : Walked} → Passes xs g M w → w.verdict ≡ Accepted → Passes xs g M (settled w)
+pub settled-walks : {xs : List Refusal} {g : State FactSet} {M : List ℕ} {w : Walked} → Passes xs g M w → w.verdict ≡ Ok tt → Passes xs g M (settled w)
 settled-walks p x = record { said = sym x ∙ p.said; kept = p.kept; marked = p.marked }
 
 -- An empty list has no entries.
@@ -123,7 +119,7 @@ no-entries L a f h =
     ap (λ (k : ℕ). entry_facts (entries_from L a 0 k) f) (sym n)
 
 unread-stops : (E : Environment) (L : List ℤ) (rs : List Routine) (b : Block) (v : State FactSet) (M : List ℕ) (a : ℕ) {w : Walked} → b ≡ unread a
-    → w.verdict ≡ Refused (StatementRecord a) → Walks E L rs b v M w
+    → w.verdict ≡ Err (StatementRecord a) → Walks E L rs b v M w
 unfolding walk_rules.block_faults verdict_of
 unread-stops E L rs b v M a e p = rw e (record {
   said = p;
@@ -136,17 +132,17 @@ module _ {T : List ℤ} {h : Sections} {E : Environment} {L : List ℤ} {rs : Li
   walks : {w : Walked} → Walks E L rs (parse left T h at end) (state_of f F.rows.each) M w → Walks E L rs b w₀ M₀ w
   walks p = carry k.same.blamed k.same.left k.same.marks p
 
-  pub kept-done : {w : Walked} → left ≤ 0 → w.verdict ≡ Accepted → w.facts ≡ f → w.rows ≡ F.rows → w.report.words ≡ M
+  pub kept-done : {w : Walked} → left ≤ 0 → w.verdict ≡ Ok tt → w.facts ≡ f → w.rows ≡ F.rows → w.report.words ≡ M
       → Walks E L rs b w₀ M₀ w
   kept-done z p q r v = walks (nil-passes E L rs _ _ _ (parse-none left T h at end z) p (ap₂ (λ (g : FactSet) (x : Rows). state_of g x.each) q r) v)
 
-  pub kept-end : {w : Walked} → end ≤ at → w.verdict ≡ Accepted → w.facts ≡ f → w.rows ≡ F.rows → w.report.words ≡ M
+  pub kept-end : {w : Walked} → end ≤ at → w.verdict ≡ Ok tt → w.facts ≡ f → w.rows ≡ F.rows → w.report.words ≡ M
       → Walks E L rs b w₀ M₀ w
   kept-end z p q r v = walks (nil-passes E L rs _ _ _ (parse-end left T h at end z) p (ap₂ (λ (g : FactSet) (x : Rows). state_of g x.each) q r) v)
 
   module _ (some : 0 < left) (within : at < end) where
-    pub kept-unread : {w : Walked} → statement_at T h at ≡ Unread → w.verdict ≡ Refused (StatementRecord at) → Walks E L rs b w₀ M₀ w
-    kept-unread e p = walks (unread-stops E L rs _ _ _ at (parse-some left T h at end Unread some within e) p)
+    pub kept-unread : {w : Walked} → statement_at T h at ≡ None → w.verdict ≡ Err (StatementRecord at) → Walks E L rs b w₀ M₀ w
+    kept-unread e p = walks (unread-stops E L rs _ _ _ at (parse-some left T h at end None some within e) p)
 
 -- A turn of the loop, once its statement is read.
 pub record Turn (T : List ℤ) (h : Sections) (E : Environment) (L : List ℤ) (rs : List Routine) (end allowed : ℕ) (b : Block) (w₀ : State FactSet) (M₀ : List ℕ)
@@ -154,7 +150,7 @@ pub record Turn (T : List ℤ) (h : Sections) (E : Environment) (L : List ℤ) (
   pub so_far : Kept T h E L rs end allowed b w₀ M₀ at left f F M
   pub some : 0 < left
   pub within : at < end
-  pub read : statement_at T h at ≡ Read s
+  pub read : statement_at T h at ≡ Some s
 
 -- What a statement's faults are, by its kind.
 abbrev rest : List ℤ → Sections → ℕ → ℕ → ℕ → Block
@@ -162,7 +158,7 @@ rest T h left x y = parse (left - 1) T h x y
 
 module _ (T : List ℤ) (h : Sections) (E : Environment) (L : List ℤ) (rs : List Routine) (at left end : ℕ) (w : State FactSet) where
   abbrev at-statement : Statement → Block
-  at-statement s = node true (Read s) (rest T h left) T h at end
+  at-statement s = node true (Some s) (rest T h left) T h at end
 
   abbrev after_then : Condition → ℕ → State FactSet
   after_then c n = block_after E L (rest T h left (at + 1) (at + 1 + n)) (assumed w c)
@@ -243,7 +239,7 @@ module _ (T : List ℤ) (h : Sections) (E : Environment) (L : List ℤ) (rs : Li
   after-here (Call c) = refl
 
 -- 13, where the rows are not the same, and nothing where they are.
-rows-refused : (a : ℕ) (R Q : List ℕ) → same_rows R Q ≡ false → Refused (RowsDiffer a) ≡ verdict_of (rows_at a R Q)
+rows-refused : (a : ℕ) (R Q : List ℕ) → same_rows R Q ≡ false → Err (RowsDiffer a) ≡ verdict_of (rows_at a R Q)
 unfolding rows_at when verdict_of
 rows-refused a R Q e = rw e refl
 
@@ -300,7 +296,8 @@ module _ {T : List ℤ} {h : Sections} {E : Environment} {L : List ℤ} {rs : Li
   pub plain-ranged : {p : Simple} → Turn T h E L rs end allowed b w₀ M₀ at left f F M (Plain p) → InRange p
   plain-ranged {p} u = read-ranged T h at p u.read
 
-  pub row-named-within : {p : Simple} {y r : ℕ} → Turn T h E L rs end allowed b w₀ M₀ at left f F M (Plain p) → declares_of p ≡ Row y r → (y < 16) × (r < 64)
+  pub row-named-within : {p : Simple} {y r : ℕ} → Turn T h E L rs end allowed b w₀ M₀ at left f F M (Plain p) → declares_of p ≡ Some (declaration y r)
+      → (y < 16) × (r < 64)
   row-named-within u n = row-limits T h at u.read refl n
 
   module _ (s : Statement) (u : Turn T h E L rs end allowed b w₀ M₀ at left f F M s) where
@@ -338,9 +335,9 @@ module _ {T : List ℤ} {h : Sections} {E : Environment} {L : List ℤ} {rs : Li
   }
 
   -- Any kind but 14.
-  module _ {p : Simple} (u : Turn T h E L rs end allowed b w₀ M₀ at left f F M (Plain p)) (n : declares_of p ≡ NoRow) {d : Applied}
+  module _ {p : Simple} (u : Turn T h E L rs end allowed b w₀ M₀ at left f F M (Plain p)) (n : declares_of p ≡ None) {d : Applied}
       (e : d ≡ applied E.sizes E.spans f p)
-      {v : Verdict} (z : v ≡ verdict_of (bounds_at at (unshown (seen_as F.seen) d.facts (bounds_after d.effect F.seen.declared)))) where
+      {v : Result (Unit {0}) Refusal} (z : v ≡ verdict_of (bounds_at at (unshown (seen_as F.seen) d.facts (bounds_after d.effect F.seen.declared)))) where
     still : state_after p (state_of f F.rows.each) ≡ state_of (facts_after p f) F.rows.each
     still = ap (state_of (facts_after p f)) (rows_stay p F.rows.each n)
 
@@ -360,7 +357,7 @@ module _ {T : List ℤ} {h : Sections} {E : Environment} {L : List ℤ} {rs : Li
         (block_faults E L rs (rest T h left (at + 1) end) (state_after p (state_of f F.rows.each)))
     plain_here = here (Plain p) u ∙ pass _ _ (nothing-asked E f (declared_in E (state_of f F.rows.each)) p at n)
 
-    pub plain-refused : {w : Walked} {r : Refusal} → w.verdict ≡ v → v ≡ Refused r → Walks E L rs b w₀ M₀ w
+    pub plain-refused : {w : Walked} {r : Refusal} → w.verdict ≡ v → v ≡ Err r → Walks E L rs b w₀ M₀ w
     plain-refused q x = stops _ _ plain_here (q ∙ shown-here) (q ∙ x)
 
     -- The report: the access is shown safe before it.
@@ -370,26 +367,26 @@ module _ {T : List ℤ} {h : Sections} {E : Environment} {L : List ℤ} {rs : Li
         (sym (t ∙ ap (λ (z : Bool). marked_if z M at)
         (ap (λ (z : Seen). access_safe (seen_as z) f p) u.so_far.forced.seen ∙ seen-safe (in_force E F.rows.each) f p)))
 
-    pub turn-plain : {N : List ℕ} → N ≡ marked_if (access_safe (seen_as F.seen) f p) M at → v ≡ Accepted
+    pub turn-plain : {N : List ℕ} → N ≡ marked_if (access_safe (seen_as F.seen) f p) M at → v ≡ Ok tt
         → Kept T h E L rs end allowed b w₀ M₀ (at + 1) (left - 1) d.facts F N
     turn-plain t x =
         next u (plain_here ∙ pass _ _ (none-refused _ shown-here x)) (whole-after (Plain p) u) (marked-here t)
         (ap (λ (g : FactSet). state_of g F.rows.each) (applied-facts E f p e) ∙ sym still) (after-plain (at-node u)) u.so_far.forced
 
   -- Nothing has to be shown again.
-  pub turn-untouched : {p : Simple} → Turn T h E L rs end allowed b w₀ M₀ at left f F M (Plain p) → declares_of p ≡ NoRow → {d : Applied}
+  pub turn-untouched : {p : Simple} → Turn T h E L rs end allowed b w₀ M₀ at left f F M (Plain p) → declares_of p ≡ None → {d : Applied}
       → d ≡ applied E.sizes E.spans f p
       → {N : List ℕ} → N ≡ marked_if (access_safe (seen_as F.seen) f p) M at
       → {P : List Bool} → P ≡ E.pointers → touches F.named.each P d.effect ≡ false
       → Kept T h E L rs end allowed b w₀ M₀ (at + 1) (left - 1) d.facts F N
   unfolding bounds_at verdict_of
   turn-untouched u n {d} e t y x =
-      turn-plain u n e {v = Accepted}
+      turn-plain u n e {v = (Ok tt)}
       (sym (ap (λ (ps : List ℕ). verdict_of (bounds_at at ps)) (unnamed (seen_as F.seen) d.effect u.so_far.forced.named (ap
       (λ (z : List Bool). touches F.named.each z d.effect) (ap (λ (s : Seen). s.pointers) u.so_far.forced.seen ∙ sym y) ∙ x) d.facts))) t refl
 
   -- Kind 14.
-  module _ {p : Simple} (u : Turn T h E L rs end allowed b w₀ M₀ at left f F M (Plain p)) {y r : ℕ} (n : declares_of p ≡ Row y r)
+  module _ {p : Simple} (u : Turn T h E L rs end allowed b w₀ M₀ at left f F M (Plain p)) {y r : ℕ} (n : declares_of p ≡ Some (declaration y r))
       {d : Declared} (z : DeclaresRow E f F.rows.each y r at d) where
     row-after : state_after p (state_of f F.rows.each) ≡ state_of f (set F.rows.each y (r + 1))
     row-after = ap (λ (s : Simple). state_after s (state_of f F.rows.each)) (row_named p y r n) ∙ declare-after y r f F.rows.each
@@ -404,10 +401,10 @@ module _ {T : List ℤ} {h : Sections} {E : Environment} {L : List ℤ} {rs : Li
         (declare-after y r f F.rows.each) (declare-keeps E f y r)
         ∙ sym (also-assoc _ _ _)))
 
-    pub row-refused : {w : Walked} {x : Refusal} → w.verdict ≡ d.verdict → d.verdict ≡ Refused x → Walks E L rs b w₀ M₀ w
+    pub row-refused : {w : Walked} {x : Refusal} → w.verdict ≡ d.verdict → d.verdict ≡ Err x → Walks E L rs b w₀ M₀ w
     row-refused q x = stops _ _ row_here (q ∙ z.said) (q ∙ x)
 
-    pub turn-row : d.verdict ≡ Accepted → Kept T h E L rs end allowed b w₀ M₀ (at + 1) (left - 1) f d.force M
+    pub turn-row : d.verdict ≡ Ok tt → Kept T h E L rs end allowed b w₀ M₀ (at + 1) (left - 1) f d.force M
     turn-row x =
         let o = z.kept x in
         next u (row_here ∙ pass _ _ (none-refused _ z.said x)) (whole-after (Plain p) u ∙ ap (block_after E L (rest T h left (at + 1) end)) row-after)
@@ -421,10 +418,10 @@ module _ {T : List ℤ} {h : Sections} {E : Environment} {L : List ℤ} {rs : Li
     then-walk : Walks E L rs (rest T h left (at + 1) (at + 1 + n)) (assumed (state_of f F.rows.each) c) M r
     then-walk = rw e at w
 
-    pub then-refused : {v : Refusal} → r.verdict ≡ Refused v → Walks E L rs b w₀ M₀ r
+    pub then-refused : {v : Refusal} → r.verdict ≡ Err v → Walks E L rs b w₀ M₀ r
     then-refused x = stops _ _ (here (If c n m) u) then-walk.said x
 
-    module _ (q : r.verdict ≡ Accepted) {i : FactSet} {d : Condition} (j : d ≡ negated_of c) (k : i ≡ condition_facts f d) {o : Walked}
+    module _ (q : r.verdict ≡ Ok tt) {i : FactSet} {d : Condition} (j : d ≡ negated_of c) (k : i ≡ condition_facts f d) {o : Walked}
         (z : Walks E L rs (rest T h left (at + 1 + n) (at + 1 + n + m)) (state_of i F.rows.each) r.report.words o) where
       else-walk : Walks E L rs (rest T h left (at + 1 + n) (at + 1 + n + m)) (assumed (state_of f F.rows.each) (negated_of c)) r.report.words o
       else-walk = rw (k, j) at z
@@ -432,10 +429,10 @@ module _ {T : List ℤ} {h : Sections} {E : Environment} {L : List ℤ} {rs : Li
       then-clear : block_faults E L rs (rest T h left (at + 1) (at + 1 + n)) (assumed (state_of f F.rows.each) c) ≡ []
       then-clear = none-refused _ then-walk.said q
 
-      pub else-refused : {v : Refusal} → o.verdict ≡ Refused v → Walks E L rs b w₀ M₀ o
+      pub else-refused : {v : Refusal} → o.verdict ≡ Err v → Walks E L rs b w₀ M₀ o
       else-refused x = stops _ _ (here (If c n m) u ∙ pass _ _ then-clear) else-walk.said x
 
-      module _ (x : o.verdict ≡ Accepted) {s : Bool} (l : s ≡ same_rows r.rows.each o.rows.each) where
+      module _ (x : o.verdict ≡ Ok tt) {s : Bool} (l : s ≡ same_rows r.rows.each o.rows.each) where
         else-clear : block_faults E L rs (rest T h left (at + 1 + n) (at + 1 + n + m)) (assumed (state_of f F.rows.each) (negated_of c)) ≡ []
         else-clear = none-refused _ else-walk.said x
 
@@ -446,7 +443,7 @@ module _ {T : List ℤ} {h : Sections} {E : Environment} {L : List ℤ} {rs : Li
             ∙ ap₂ (λ (v w : State FactSet). also (rows_at at v.rows w.rows) (block_faults E L rs (rest T h left (at + 1 + n + m) end)
             (sides_joined E v w))) (sym (then-walk.kept then-clear)) (sym (else-walk.kept else-clear))))
 
-        pub sides-differ : {w : Walked} → s ≡ false → w.verdict ≡ Refused (RowsDiffer at) → Walks E L rs b w₀ M₀ w
+        pub sides-differ : {w : Walked} → s ≡ false → w.verdict ≡ Err (RowsDiffer at) → Walks E L rs b w₀ M₀ w
         sides-differ t v = stops _ _ sides-here (v ∙ rows-refused at r.rows.each o.rows.each (sym l ∙ t)) v
 
         sides-marked : kind_marks T h E L rs at left end (state_of f F.rows.each) (If c n m) M ≡ block_marks E L (rest T h left (at + 1 + n + m) end)
@@ -470,11 +467,11 @@ module _ {T : List ℤ} {h : Sections} {E : Environment} {L : List ℤ} {rs : Li
             (forced-own a)
 
   module _ {c : Condition} {n : ℕ} (u : Turn T h E L rs end allowed b w₀ M₀ at left f F M (While c n))
-      {v : Verdict} (asked : v ≡ verdict_of (entries_unshown (entries_of L at) f)) where
-    pub before-refused : {w : Walked} {x : Refusal} → w.verdict ≡ v → v ≡ Refused x → Walks E L rs b w₀ M₀ w
+      {v : Result (Unit {0}) Refusal} (asked : v ≡ verdict_of (entries_unshown (entries_of L at) f)) where
+    pub before-refused : {w : Walked} {x : Refusal} → w.verdict ≡ v → v ≡ Err x → Walks E L rs b w₀ M₀ w
     before-refused q x = stops _ _ (here (While c n) u) (q ∙ asked) (q ∙ x)
 
-    module _ (shown : v ≡ Accepted) {l : FactSet} (y : l ≡ loop_facts (targets_from T h (at + 1) n) f) {k : FactSet}
+    module _ (shown : v ≡ Ok tt) {l : FactSet} (y : l ≡ loop_facts (targets_from T h (at + 1) n) f) {k : FactSet}
         (listed : k ≡ entry_facts (entries_of L at) l)
         {g : FactSet} (e : g ≡ condition_facts k c)
         {r : Walked} (w : Walks E L rs (rest T h left (at + 1) (at + 1 + n)) (state_of g F.rows.each) M r) where
@@ -493,10 +490,10 @@ module _ {T : List ℤ} {h : Sections} {E : Environment} {L : List ℤ} {rs : Li
           (block_faults E L rs (rest T h left (at + 1 + n) end) (assumed (head-state T h E L rs at left end (state_of f F.rows.each) n) (negated_of c)))))
       body-here = here (While c n) u ∙ pass _ _ (none-refused _ asked shown)
 
-      pub body_refused : {x : Refusal} → r.verdict ≡ Refused x → Walks E L rs b w₀ M₀ r
+      pub body_refused : {x : Refusal} → r.verdict ≡ Err x → Walks E L rs b w₀ M₀ r
       body_refused x = stops _ _ body-here body-walk.said x
 
-      module _ (x : r.verdict ≡ Accepted) {a : Verdict} (again : a ≡ verdict_of (entries_unshown (entries_of L at) r.facts)) where
+      module _ (x : r.verdict ≡ Ok tt) {a : Result (Unit {0}) Refusal} (again : a ≡ verdict_of (entries_unshown (entries_of L at) r.facts)) where
         body-clear : block_faults E L rs (rest T h left (at + 1) (at + 1 + n)) (assumed (head-state T h E L rs at left end (state_of f F.rows.each) n) c) ≡ []
         body-clear = none-refused _ body-walk.said x
 
@@ -508,15 +505,15 @@ module _ {T : List ℤ} {h : Sections} {E : Environment} {L : List ℤ} {rs : Li
             (block_faults E L rs (rest T h left (at + 1 + n) end) (assumed (head-state T h E L rs at left end (state_of f F.rows.each) n) (negated_of c)))))
             (sym (body-walk.kept body-clear)))
 
-        pub again-refused : {w : Walked} {z : Refusal} → w.verdict ≡ a → a ≡ Refused z → Walks E L rs b w₀ M₀ w
+        pub again-refused : {w : Walked} {z : Refusal} → w.verdict ≡ a → a ≡ Err z → Walks E L rs b w₀ M₀ w
         again-refused q z = stops _ _ end-here (q ∙ again) (q ∙ z)
 
-        module _ (held : a ≡ Accepted) {s : Bool} (o : s ≡ same_rows F.rows.each r.rows.each) where
+        module _ (held : a ≡ Ok tt) {s : Bool} (o : s ≡ same_rows F.rows.each r.rows.each) where
           loop-here : block_faults E L rs b w₀ ≡ also (rows_at at F.rows.each r.rows.each)
               (block_faults E L rs (rest T h left (at + 1 + n) end) (assumed (head-state T h E L rs at left end (state_of f F.rows.each) n) (negated_of c)))
           loop-here = end-here ∙ pass _ _ (none-refused _ again held)
 
-          pub ends-differ : {w : Walked} → s ≡ false → w.verdict ≡ Refused (RowsDiffer at) → Walks E L rs b w₀ M₀ w
+          pub ends-differ : {w : Walked} → s ≡ false → w.verdict ≡ Err (RowsDiffer at) → Walks E L rs b w₀ M₀ w
           ends-differ t v = stops _ _ loop-here (v ∙ rows-refused at F.rows.each r.rows.each (sym o ∙ t)) v
 
           pub turn-while : {d : Condition} {i : FactSet} → s ≡ true → d ≡ negated_of c → i ≡ condition_facts k d
@@ -533,10 +530,10 @@ module _ {T : List ℤ} {h : Sections} {E : Environment} {L : List ℤ} {rs : Li
         (state_of f F.rows.each))) (block_faults E L rs (rest T h left (at + 1 + n) end) (bundle_after (simples n T h (at + 1)) (state_of f F.rows.each)))
     bundle-here = here (Bundle n) u ∙ sym (also-assoc _ _ _)
 
-    pub bundle-refused : {v : Refusal} → r.verdict ≡ Refused v → Walks E L rs b w₀ M₀ r
+    pub bundle-refused : {v : Refusal} → r.verdict ≡ Err v → Walks E L rs b w₀ M₀ r
     bundle-refused x = stops _ _ bundle-here w.said x
 
-    pub turn-bundle : {G : Force} → r.verdict ≡ Accepted → Forced E r.rows.each G
+    pub turn-bundle : {G : Force} → r.verdict ≡ Ok tt → Forced E r.rows.each G
         → Kept T h E L rs end allowed b w₀ M₀ (at + 1 + n) (left - 1) r.facts G
         r.report.words
     turn-bundle x a =
@@ -548,7 +545,7 @@ module _ {T : List ℤ} {h : Sections} {E : Environment} {L : List ℤ} {rs : Li
 
   -- Kind 15.
   module _ {c : CallSite} (u : Turn T h E L rs end allowed b w₀ M₀ at left f F M (Call c))
-      {v : Verdict} (z : v ≡ verdict_of (call_checked rs E F.seen at c f)) where
+      {v : Result (Unit {0}) Refusal} (z : v ≡ verdict_of (call_checked rs E F.seen at c f)) where
     abbrev set_here : List Refusal
     set_here = bounds_at at (unshown_in E (called_state c (state_of f F.rows.each)) (bounds_after (result_effect c) (declared_in E (state_of f F.rows.each))))
 
@@ -564,10 +561,10 @@ module _ {T : List ℤ} {h : Sections} {E : Environment} {L : List ℤ} {rs : Li
         (seen-unshown (in_force E F.rows.each) (called_state c (state_of f F.rows.each)).facts
         (bounds_after (result_effect c) (declared_in E (state_of f F.rows.each)))))
 
-    pub call-refused : {w : Walked} {r : Refusal} → w.verdict ≡ v → v ≡ Refused r → Walks E L rs b w₀ M₀ w
+    pub call-refused : {w : Walked} {r : Refusal} → w.verdict ≡ v → v ≡ Err r → Walks E L rs b w₀ M₀ w
     call-refused q x = stops _ _ call-here (q ∙ call-shown) (q ∙ x)
 
-    pub turn-call : v ≡ Accepted → {g : FactSet} → g ≡ result_facts store c f → Kept T h E L rs end allowed b w₀ M₀ (at + 1) (left - 1) g F M
+    pub turn-call : v ≡ Ok tt → {g : FactSet} → g ≡ result_facts store c f → Kept T h E L rs end allowed b w₀ M₀ (at + 1) (left - 1) g F M
     turn-call x e =
         next u (call-here ∙ pass _ _ (none-refused _ call-shown x)) (whole-after (Call c) u) (whole-marks (Call c) u)
         (ap (λ (g : FactSet). state_of g F.rows.each) e) (after_call (at-node u)) u.so_far.forced

@@ -6,30 +6,19 @@ pub mod walk; // walk.rt: the walk over the statements
 
 ghost use Rattle.std.specs.Prelude.{[]};
 ghost use Rattle.rules.specs.ByChains.{Judged, Reported};
+ghost use Rattle.checker.specs.Checks.{verdict_in, report_in};
 
+use answers::refusals::Refusal;
 use reports::Report;
-use rules::Verdict;
-use sections::{check_sections, refuse};
-use table::{Form, read_form};
+use sections::check_sections;
+use table::read_form;
 
-// What a check answers: the verdict, and which accesses of an accepted routine are reported. By value: nothing is lent for it, and 1,024 bits are small.
-#[derive(Clone, Copy)]
-pub struct Checked {
-    pub verdict: Verdict,
-    pub report: Report,
-}
-
-// The verdict on a routine table with its list of loop facts, four words an entry (an empty list: none), and the report. A routine by itself may call none.
-pub fn check(table: &[i32], listed: &[i32]) -> Checked
-    ensures { Judged [] table.now listed.now result.verdict × Reported table.now listed.now
-        result.report.words }
+// The check of a routine table with its list of loop facts, four words an entry (an empty list: none): refused, or which of its accesses are reported. The
+// report is given by value: nothing is lent for it, and 1,024 bits are small. A routine by itself may call none.
+pub fn check(table: &[i32], listed: &[i32]) -> Result<Report, Refusal>
+    ensures { Judged [] table.now listed.now (verdict_in result) × Reported table.now listed.now (report_in result) }
 {
-    let form = read_form(table);
-    match form {
-        Form::Refused(refusal) => refuse(refusal),
-        Form::WellFormed(sections) => {
-            let callees = [0u32; 0];
-            check_sections(table, sections, listed, table, &callees)
-        }
-    }
+    let sections = read_form(table)?;
+    let callees = [0u32; 0];
+    check_sections(table, sections, listed, table, &callees)
 }

@@ -4,28 +4,16 @@ ghost use Rattle.table.specs.FormLaws.{Formed};
 ghost use Rattle.blocks.specs.Layout.{layout};
 ghost use Rattle.listed.specs.ListForm.{list_faults};
 ghost use Rattle.declared.specs.Callee.{callees_in};
-ghost use Rattle.checker.specs.Checks.{Refuses, ChecksSections};
+ghost use Rattle.checker.specs.Checks.{ChecksSections};
 
-use crate::Checked;
 use crate::walk::walk;
 use answers::refusals::Refusal;
-use blocks::{Layout, read_layout};
+use blocks::read_layout;
 use declared::force::{frame_of, own_force};
 use facts::FactSet;
-use listed::{ListForm, check_list};
-use reports::no_report;
-use rules::Verdict;
+use listed::check_list;
+use reports::{Report, no_report};
 use words::sections::Sections;
-
-// A refused routine has no report.
-pub(crate) fn refuse(refusal: Refusal) -> Checked
-    ensures { Refuses refusal result }
-{
-    Checked {
-        verdict: Verdict::Refused(refusal),
-        report: no_report(),
-    }
-}
 
 // The walk over the statements, begun with what is always known and each pointer's own bound.
 fn check_statements(
@@ -34,7 +22,7 @@ fn check_statements(
     listed: &[i32],
     words: &[i32],
     callees: &[u32],
-) -> Checked
+) -> Result<Report, Refusal>
     requires { Formed table.now sections × (layout table.now sections ≡ []) × (list_faults table.now sections listed.now ≡ []) }
     ensures { ChecksSections (callees_in words.now callees.now) table.now sections listed.now result }
 {
@@ -53,33 +41,8 @@ fn check_statements(
         words,
         callees,
     );
-    let verdict = walked.verdict;
-    let Verdict::Refused(refusal) = verdict else {
-        let report = walked.report;
-        return Checked {
-            verdict: Verdict::Accepted,
-            report,
-        };
-    };
-    refuse(refusal)
-}
-
-// The form of the list of loop facts, then the walk.
-fn check_listed(
-    table: &[i32],
-    sections: Sections,
-    listed: &[i32],
-    words: &[i32],
-    callees: &[u32],
-) -> Checked
-    requires { Formed table.now sections × (layout table.now sections ≡ []) }
-    ensures { ChecksSections (callees_in words.now callees.now) table.now sections listed.now result }
-{
-    let form = check_list(table, sections, listed);
-    match form {
-        ListForm::Refused(refusal) => refuse(refusal),
-        ListForm::Right => check_statements(table, sections, listed, words, callees),
-    }
+    walked.verdict?;
+    Ok(walked.report)
 }
 
 // Cause 6, then the list and the statements. `callees` are the lengths of the tables that may be called: they stand in `words`, one after
@@ -90,13 +53,11 @@ pub fn check_sections(
     listed: &[i32],
     words: &[i32],
     callees: &[u32],
-) -> Checked
+) -> Result<Report, Refusal>
     requires { Formed table.now sections }
     ensures { ChecksSections (callees_in words.now callees.now) table.now sections listed.now result }
 {
-    let laid = read_layout(table, sections);
-    match laid {
-        Layout::Refused(refusal) => refuse(refusal),
-        Layout::LaidOut => check_listed(table, sections, listed, words, callees),
-    }
+    read_layout(table, sections)?;
+    check_list(table, sections, listed)?;
+    check_statements(table, sections, listed, words, callees)
 }

@@ -16,7 +16,7 @@ use chains::shown::answer;
 use conditions::negated;
 use declared::calls::{check_call, drop_result};
 use declared::force::{Force, Frame, declare_row, force_of, same_rows};
-use declared::{Declares, access_safe, check_effect, declares_of, is_access};
+use declared::{Declaration, access_safe, check_effect, declares_of, is_access};
 use effects::asked::{ask_condition, ask_statement};
 use effects::entries::{assume_entries, check_entries};
 use effects::loops::lose;
@@ -24,9 +24,8 @@ use effects::{assume, plan_statement};
 use facts::FactSet;
 use reader::read_due;
 use reports::{Report, mark_if};
-use rules::Verdict;
 use rules::lookups::Rows;
-use statements::{Statement, StatementRead};
+use statements::Statement;
 use words::sections::Sections;
 
 // `declare_row` with what is in force changed in place, so that its answer, which is large, does not stand on the stack once for each depth of the walk.
@@ -39,7 +38,7 @@ fn declare_here(
     pointer: usize,
     row: usize,
     at: usize,
-) -> Verdict
+) -> Result<(), Refusal>
     requires { Forced (environment_of table.now sections) force.old.rows.each force.old × (pointer < 16) × (row < 64) }
     ensures { DeclaresRow (environment_of table.now sections) facts force.old.rows.each pointer row at (record { verdict = result; force = force.new }) }
 {
@@ -98,7 +97,7 @@ pub fn walk(
     let mut force = begun;
     let begun_rows = begun.rows;
     let mut now = Walked {
-        verdict: Verdict::Accepted,
+        verdict: Ok(()),
         facts: given,
         rows: begun_rows,
         report: reported,
@@ -113,10 +112,10 @@ pub fn walk(
         let rows = force.rows;
         let report = now.report;
         let got = read_due(table, sections, at);
-        let StatementRead::Read(statement) = got else {
+        let Some(statement) = got else {
             let facts = now.facts;
             return Walked {
-                verdict: Verdict::Refused(Refusal::StatementRecord(at)),
+                verdict: Err(Refusal::StatementRecord(at)),
                 facts,
                 rows,
                 report,
@@ -127,11 +126,11 @@ pub fn walk(
             Statement::Plain(simple) => {
                 let declares = declares_of(simple);
                 match declares {
-                    Declares::Row { pointer, row } => {
+                    Some(Declaration { pointer, row }) => {
                         let verdict = declare_here(
                             table, sections, &mut force, now.facts, pointer, row, at,
                         );
-                        let Verdict::Accepted = verdict else {
+                        let Ok(()) = verdict else {
                             let facts = now.facts;
                             return Walked {
                                 verdict,
@@ -142,7 +141,7 @@ pub fn walk(
                         };
                         at = inner;
                     }
-                    Declares::NoRow => {
+                    None => {
                         if is_access(simple) {
                             let safe = access_safe(force.seen, now.facts, simple);
                             now.report = mark_if(report, at, safe);
@@ -154,7 +153,7 @@ pub fn walk(
                         now.facts = next;
                         if touches(force.named, pointers, effect) {
                             let verdict = check_effect(force.seen, now.facts, effect, at);
-                            let Verdict::Accepted = verdict else {
+                            let Ok(()) = verdict else {
                                 let facts = now.facts;
                                 return Walked {
                                     verdict,
@@ -178,7 +177,7 @@ pub fn walk(
                 let answers = answer(now.facts, ask_condition(condition));
                 next = now.facts.after(assume(condition, answers));
                 side = Walked {
-                    verdict: Verdict::Accepted,
+                    verdict: Ok(()),
                     facts: next,
                     rows,
                     report,
@@ -190,7 +189,7 @@ pub fn walk(
                     );
                 }
                 let then_verdict = side.verdict;
-                let Verdict::Accepted = then_verdict else {
+                let Ok(()) = then_verdict else {
                     return side;
                 };
                 next = now.facts.after(assume(negated(condition), answers));
@@ -214,7 +213,7 @@ pub fn walk(
                         callees,
                     );
                     let other_verdict = now.verdict;
-                    let Verdict::Accepted = other_verdict else {
+                    let Ok(()) = other_verdict else {
                         return now;
                     };
                 }
@@ -222,7 +221,7 @@ pub fn walk(
                 if !same_rows(then_rows, now.rows) {
                     let facts = now.facts;
                     return Walked {
-                        verdict: Verdict::Refused(Refusal::RowsDiffer(at)),
+                        verdict: Err(Refusal::RowsDiffer(at)),
                         facts,
                         rows,
                         report,
@@ -238,7 +237,7 @@ pub fn walk(
             Statement::While { condition, count } => {
                 let rest = inner + count;
                 let before = check_entries(listed, at, now.facts);
-                let Verdict::Accepted = before else {
+                let Ok(()) = before else {
                     let facts = now.facts;
                     return Walked {
                         verdict: before,
@@ -256,7 +255,7 @@ pub fn walk(
                 let head = answer(now.facts, ask_condition(condition));
                 next = now.facts.after(assume(condition, head));
                 side = Walked {
-                    verdict: Verdict::Accepted,
+                    verdict: Ok(()),
                     facts: next,
                     rows,
                     report,
@@ -266,11 +265,11 @@ pub fn walk(
                     words, callees,
                 );
                 let body_verdict = side.verdict;
-                let Verdict::Accepted = body_verdict else {
+                let Ok(()) = body_verdict else {
                     return side;
                 };
                 let again = check_entries(listed, at, side.facts);
-                let Verdict::Accepted = again else {
+                let Ok(()) = again else {
                     let facts = now.facts;
                     return Walked {
                         verdict: again,
@@ -282,7 +281,7 @@ pub fn walk(
                 if !same_rows(rows, side.rows) {
                     let facts = now.facts;
                     return Walked {
-                        verdict: Verdict::Refused(Refusal::RowsDiffer(at)),
+                        verdict: Err(Refusal::RowsDiffer(at)),
                         facts,
                         rows,
                         report,
@@ -300,7 +299,7 @@ pub fn walk(
                 next = now.facts;
                 now = walk_bundle(table, sections, frame, force, at, count, next, report);
                 let held_verdict = now.verdict;
-                let Verdict::Accepted = held_verdict else {
+                let Ok(()) = held_verdict else {
                     return now;
                 };
                 let held_rows = now.rows;
@@ -313,7 +312,7 @@ pub fn walk(
                 let verdict = check_call(
                     table, sections, force.seen, now.facts, words, callees, call, at,
                 );
-                let Verdict::Accepted = verdict else {
+                let Ok(()) = verdict else {
                     let facts = now.facts;
                     return Walked {
                         verdict,
@@ -332,7 +331,7 @@ pub fn walk(
     let rows = force.rows;
     let report = now.report;
     Walked {
-        verdict: Verdict::Accepted,
+        verdict: Ok(()),
         facts,
         rows,
         report,

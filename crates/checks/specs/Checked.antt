@@ -1,9 +1,8 @@
 -- What the checks of a run read, and what they say of a step.
-use Rattle.std.specs.Prelude.{ℕ, zero, suc, ◌+◌, ◌*◌, ◌%◌, ◌^◌, ◌<◌, ◌≤◌, Bool, List, [], eqb, length, get_or}
+use Rattle.std.specs.Prelude.{ℕ, zero, suc, ◌+◌, ◌*◌, ◌%◌, ◌^◌, ◌<◌, ◌≤◌, Bool, List, [], eqb, length, get_or, Some}
 use Rattle.arrays.specs.Tabulate.{tabulate}
 use Rattle.conditions.specs.declared.Condition.{Condition}
 use Rattle.table.specs.declared.variables.End.{End}
-use Rattle.rules.specs.declared.KnownEnd.TheVariants.{Known}
 use Rattle.rules.specs.declared.Bounds.{Bounds}
 use Rattle.rules.specs.declared.Environment.{Environment}
 use Rattle.machine.specs.Machine.{Failing, none, fails}
@@ -25,7 +24,7 @@ abbrev pub end_in : List ℕ → ℕ → End
 end_in W i = record { pointer = get_or W i 0; integer = get_or W (i + 1) 0; constant = get_or W (i + 2) 0 }
 
 abbrev pub bounds_in : List ℕ → ℕ → Bounds
-bounds_in W p = record { size = size_in W p; lower = Known (end_in W (6 * p)); upper = Known (end_in W (6 * p + 3)) }
+bounds_in W p = record { size = size_in W p; lower = Some (end_in W (6 * p)); upper = Some (end_in W (6 * p + 3)) }
 
 -- What such a slice declares.
 unfoldable pub declared_in : List ℕ → Environment

@@ -10,7 +10,7 @@ ghost use Rattle.answers.specs.declared.stops.Check.TheVariants.{NullAccess, Out
 
 use answers::stops::Check;
 use conditions::Condition;
-use machine::{scaled, wide};
+use machine::scaled;
 use sums::BIAS;
 
 // What a step says: the statement due after it, the check that fails, or that the statement is a call, which makes another routine run.
@@ -27,7 +27,7 @@ pub fn slot(values: &[u32], x: usize) -> u64
     ensures value { result ≡ get_or values.now x 0 }
     ensures small { result < 2 ^ 32 }
 {
-    wide(values[x])
+    u64::from(values[x])
 }
 
 // Relations in the order of the table.

@@ -11,7 +11,7 @@ use words::field::{is_below, is_zero, literal_value, plain};
 use words::sections::{Sections, names_array, names_integer, names_pointer, names_string};
 
 // left RELATION right + offset. Form 0: right is a variable, offset 0. Form 1: right is 16 (zero), offset the literal.
-#[derive(Clone, Copy)]
+#[derive(Clone, Copy, Debug, PartialEq, Eq)]
 pub struct Condition {
     pub left: usize,
     pub relation: usize,

@@ -1,17 +1,15 @@
 -- What the last arms of the `match` in `access_of` and `declares_of` are told.
-use Rattle.std.specs.Prelude.{◌≡◌, ℕ, refl}
+use Rattle.std.specs.Prelude.{◌≡◌, ℕ, refl, None}
 use Rattle.statements.specs.declared.Simple.{Simple}
 use Rattle.statements.specs.declared.Simple.TheVariants.{Literal, AddConstant, Arithmetic, Null, Address, PointerOffset, PointerIndex, Load, Store, Check}
 use Rattle.statements.specs.declared.Simple.TheVariants.{Declare}
 use Rattle.declared.specs.Shown.{access_of, declares_of}
-use Rattle.declared.specs.declared.Access.TheVariants.{Nothing}
-use Rattle.declared.specs.declared.Declares.TheVariants.{NoRow}
 
 -- Only kinds 8 and 9 are accesses.
 pub no_access : (s : Simple)
     → ((x p i k : ℕ) → s ≡ Load x p i k → ⊥)
     → ((p i k x : ℕ) → s ≡ Store p i k x → ⊥)
-    → Nothing ≡ access_of s
+    → None ≡ access_of s
 no_access (Literal x k) h g = refl
 no_access (AddConstant x y k) h g = refl
 no_access (Arithmetic x y z op) h g = refl
@@ -27,7 +25,7 @@ no_access (Declare p r) h g = refl
 -- Only kind 14 names a row.
 pub no_row : (s : Simple)
     → ((p r : ℕ) → s ≡ Declare p r → ⊥)
-    → NoRow ≡ declares_of s
+    → None ≡ declares_of s
 no_row (Literal x k) h = refl
 no_row (AddConstant x y k) h = refl
 no_row (Arithmetic x y z op) h = refl

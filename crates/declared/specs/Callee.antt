@@ -1,5 +1,5 @@
 -- A callee as the check sees it: its signature; and the rules of calls over the fact store.
-use Rattle.std.specs.Prelude.{ℕ, zero, suc, ◌+◌, ◌-◌, ◌≤◌, ◌<◌, min, ◌≡◌, Bool, true, false, not, ◌&&◌, cond, List, [], ltb, eqb, ℤ, length}
+use Rattle.std.specs.Prelude.{ℕ, zero, suc, ◌+◌, ◌-◌, ◌≤◌, ◌<◌, min, ◌≡◌, Bool, true, false, not, ◌&&◌, cond, List, [], ltb, eqb, ℤ, length, Err, Ok, Result}
 use Rattle.std.proofs.Math.Path.{refl, sym, ap, ap₂}
 use Rattle.std.proofs.Common.{◌∙◌, arith, lt-ltb, le-ltb, ltb-true, ltb-false}
 use Rattle.std.proofs.Math.ListN.{get_or-eq_default}
@@ -25,8 +25,6 @@ use Rattle.rules.specs.Verdict.{verdict_of}
 use Rattle.rules.specs.Ranges.{Short}
 use Rattle.rules.specs.declared.Effect.{Effect}
 use Rattle.rules.specs.declared.Effect.TheVariants.{Keep, Forget}
-use Rattle.rules.specs.declared.Verdict.{Verdict}
-use Rattle.rules.specs.declared.Verdict.TheVariants.{Accepted, Refused}
 use Rattle.declared.specs.ForceLaws.{none-refused, pass, refuse-part}
 use Rattle.rules.specs.declared.Bounds.{Bounds}
 use Rattle.rules.specs.declared.Environment.{Environment}
@@ -89,9 +87,6 @@ argument-past c (suc (suc zero)) p q r s = absurd (r refl)
 argument-past c (suc (suc (suc zero))) p q r s = absurd (s refl)
 argument-past c (suc (suc (suc (suc j)))) p q r s = refl
 
-pub no_last : (n : ℕ) → n ≤ 0 → n - 1 ≡ 0
-no_last n l = omega arith
-
 -- Refusal 20 sees the caller's kinds alone.
 kinds-fit : (E : Environment) (f : FactSet) (K : List Bounds) (r : Routine) (c : CallSite) → arguments_fit (kinds_as (kinds_of E)) f K r c
     ≡ arguments_fit E f K r c
@@ -120,15 +115,15 @@ result-short c h = rw h (go (eqb c.result zero_var))
     go false = tt
 
 module _ (E : Environment) (rs : List Routine) (s : Seen) (a : ℕ) (c : CallSite) (f : FactSet) {K : List Bounds} (k : K ≡ s.declared)
-    {v : Verdict} (e : v ≡ verdict_of (call_faults rs E a c f K)) where
+    {v : Result (Unit {0}) Refusal} (e : v ≡ verdict_of (call_faults rs E a c f K)) where
   own : v ≡ verdict_of (call_faults rs E a c f s.declared)
   own = e ∙ ap (λ (L : List Bounds). verdict_of (call_faults rs E a c f L)) k
 
-  pub checked_refused : {r : Refusal} → v ≡ Refused r → v ≡ verdict_of (call_checked rs E s a c f)
+  pub checked_refused : {r : Refusal} → v ≡ Err r → v ≡ verdict_of (call_checked rs E s a c f)
   unfolding call_checked
   checked_refused q = (refuse-part _ _ own q).0
 
-  pub checked-through : {g : FactSet} {x : Effect} {w : Verdict} → v ≡ Accepted → g ≡ result_facts store c f → x ≡ result_effect c
+  pub checked-through : {g : FactSet} {x : Effect} {w : Result (Unit {0}) Refusal} → v ≡ Ok tt → g ≡ result_facts store c f → x ≡ result_effect c
       → w ≡ verdict_of (bounds_at a (unshown (seen_as s) g (bounds_after x s.declared))) → w ≡ verdict_of (call_checked rs E s a c f)
   unfolding call_checked
   checked-through q g x z =
@@ -150,14 +145,14 @@ module _ (W : List ℤ) (L : List ℕ) where
 
   -- The refusals of a call, as the code finds them.
   module _ (E : Environment) (f : FactSet) (K : List Bounds) (c : CallSite) (a : ℕ) where
-    callee-missing : length (callees_in W L) ≤ c.callee → Refused (Callee a) ≡ verdict_of (call_faults (callees_in W L) E a c f K)
+    callee-missing : length (callees_in W L) ≤ c.callee → Err (Callee a) ≡ verdict_of (call_faults (callees_in W L) E a c f K)
     unfolding calls.call_faults also when verdict_of
     callee-missing l = rw (le-ltb c.callee (length (callees_in W L)) l)
 
-    pub callee-high : 8 ≤ c.callee → Refused (Callee a) ≡ verdict_of (call_faults (callees_in W L) E a c f K)
+    pub callee-high : 8 ≤ c.callee → Err (Callee a) ≡ verdict_of (call_faults (callees_in W L) E a c f K)
     callee-high l = callee-missing (omega (arith, length-callees))
 
-    pub callee-absent : length L ≤ c.callee → Refused (Callee a) ≡ verdict_of (call_faults (callees_in W L) E a c f K)
+    pub callee-absent : length L ≤ c.callee → Err (Callee a) ≡ verdict_of (call_faults (callees_in W L) E a c f K)
     callee-absent l = callee-missing (omega (arith, length-callees))
 
     module _ (below : c.callee < length L) (few : c.callee < 8) {k : Kinds} (h : k ≡ kinds_of E) {y : Signature} {t : Span}
@@ -172,11 +167,11 @@ module _ (W : List ℤ) (L : List ℕ) where
           ∙ ap (λ (U : List ℤ). signature_of (routine_of U)) (between-part L 1 0 c.callee (length W) W refl)))
           ∙ (signature-fits E f K (callee_in W L c.callee) c ∙ ap (λ (r : Routine). arguments_fit E f K r c) (sym (callee_at c.callee below few))))
 
-      pub arguments-refused : b ≡ false → Refused (Arguments a) ≡ verdict_of (call_faults (callees_in W L) E a c f K)
+      pub arguments-refused : b ≡ false → Err (Arguments a) ≡ verdict_of (call_faults (callees_in W L) E a c f K)
       unfolding calls.call_faults also when verdict_of
       arguments-refused q = rw (known, sym fits ∙ q)
 
-      pub call_passes : b ≡ true → Accepted ≡ verdict_of (call_faults (callees_in W L) E a c f K)
+      pub call_passes : b ≡ true → Ok tt ≡ verdict_of (call_faults (callees_in W L) E a c f K)
       unfolding calls.call_faults also when verdict_of
       call_passes q = rw (known, sym fits ∙ q)
 

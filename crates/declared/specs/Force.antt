@@ -1,5 +1,5 @@
 -- What the rows in force put in force, and the answer to a kind 14 outside a bundle, in terms of the rules.
-use Rattle.std.specs.Prelude.{ℕ, ◌+◌, ◌≡◌, List, set}
+use Rattle.std.specs.Prelude.{ℕ, ◌+◌, ◌≡◌, List, set, Ok}
 use Rattle.facts.specs.declared.FactSet.{FactSet}
 use Rattle.statements.specs.declared.Simple.TheVariants.{Declare}
 use Rattle.blocks.specs.Layout.{also}
@@ -10,7 +10,6 @@ use Rattle.rules.specs.Rules.{bounds_at}
 use Rattle.rules.specs.Verdict.{verdict_of}
 use Rattle.rules.specs.declared.Environment.{Environment}
 use Rattle.rules.specs.declared.Effect.TheVariants.{Keep}
-use Rattle.rules.specs.declared.Verdict.TheVariants.{Accepted}
 use Rattle.bounds.specs.Touched.{seen_as, seen_of, named_in}
 use Rattle.declared.specs.declared.force.Force.{Force}
 use Rattle.declared.specs.declared.force.Frame.{Frame}
@@ -35,4 +34,4 @@ pub record Framed (E : Environment) (r : Frame) : Type 0 where
 pub record DeclaresRow (E : Environment) (f : FactSet) (R : List ℕ) (p r a : ℕ) (d : Declared) : Type 0 where
   pub said : d.verdict ≡ verdict_of (also (bounds_at a (row_unshown E f (in_force E R).declared (Declare p r)))
       (bounds_at a (unshown (in_force E (set R p (r + 1))) f (bounds_after Keep (in_force E R).declared))))
-  pub kept : d.verdict ≡ Accepted → Forced E (set R p (r + 1)) d.force
+  pub kept : d.verdict ≡ Ok tt → Forced E (set R p (r + 1)) d.force

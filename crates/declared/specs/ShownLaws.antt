@@ -1,8 +1,9 @@
 -- Laws of declared bounds that are shown, as the code meets them.
-use Rattle.std.specs.Prelude.{ℕ, zero, suc, ◌+◌, ◌-◌, ◌^◌, ◌≤◌, ◌<◌, ◌≡◌, Bool, not, ◌&&◌, ◌||◌, ◌⊎◌, eqb, length}
+use Rattle.table.specs.declared.variables.End.{End}
+use Rattle.std.specs.Prelude.{ℕ, zero, suc, ◌+◌, ◌-◌, ◌^◌, ◌≤◌, ◌<◌, ◌≡◌, Bool, not, ◌&&◌, ◌||◌, ◌⊎◌, eqb, length, Err, None, Ok, Option, Some, is_some}
 use Rattle.std.proofs.Math.Path.{refl, sym, ap}
 use Rattle.std.proofs.Common.{ap₂, ◌∙◌, inl, inr, sub-one, eqb-true, eq-eqb}
-use Rattle.std.proofs.Math.Bool.{true, false}
+use Rattle.std.proofs.Math.Bool.{true, false, and_assoc}
 use Rattle.std.proofs.lemmas.Bool.{false≢true}
 use mathlib.Core.List.{List, []}
 use native.Mathlib.Omega.{arith}
@@ -15,25 +16,26 @@ use Rattle.words.specs.SectionsLaws.{both}
 use Rattle.statements.specs.declared.Simple.{Simple}
 use Rattle.statements.specs.declared.Simple.TheVariants.{Literal, AddConstant, Arithmetic, Null, Address}
 use Rattle.statements.specs.declared.Simple.TheVariants.{PointerOffset, PointerIndex, Load, Store, Check, Declare}
+use Rattle.table.specs.declared.variables.End.{End}
 use Rattle.rules.specs.BoundsRules.{nothing_known, is_pointer, declared, known, cons_if, row_bound, rows_after}
-use Rattle.rules.specs.Stored.{end_at_most, known_at_most, bounds_shown, unshown_from, unshown, access_shown, row_unshown, address_safe, access_safe}
+use Rattle.rules.specs.Stored.{same_end, known_at_most, bounds_shown, unshown_from, unshown, access_shown, row_unshown, address_safe, access_safe}
 use Rattle.rules.specs.Ranges.{InRange}
 use Rattle.rules.specs.Rules.{bounds_at}
 use Rattle.rules.specs.Verdict.{verdict_of}
-use Rattle.rules.specs.declared.KnownEnd.{KnownEnd}
-use Rattle.rules.specs.declared.KnownEnd.TheVariants.{Known, Unknown}
 use Rattle.rules.specs.declared.Bounds.{Bounds}
 use Rattle.rules.specs.declared.Environment.{Environment}
-use Rattle.rules.specs.declared.Verdict.TheVariants.{Accepted, Refused}
 use Rattle.bounds.specs.StaysLaws.{stored, stored-known}
 use Rattle.bounds.specs.Touched.{seen_as, seen_of}
-use Rattle.declared.specs.Shown.{same_known, same_bounds, access_of, is_through, is_access, declares_of}
+use Rattle.declared.specs.Shown.{same_known, same_bounds, access_of, is_access, declares_of, access, declaration}
 use Rattle.declared.specs.declared.Access.{Access}
-use Rattle.declared.specs.declared.Access.TheVariants.{Through, Nothing}
-use Rattle.declared.specs.declared.Declares.TheVariants.{Row, NoRow}
+use Rattle.declared.specs.declared.Declaration.{Declaration}
 use Rattle.rules.specs.BoundsRules as bounds_rules
 
 -- ---- when declared bounds are shown
+
+-- What `==` of ends answers.
+pub ends-equal : (e g : End) → (eqb e.pointer g.pointer && (eqb e.integer g.integer && eqb e.constant g.constant)) ≡ same_end e g
+ends-equal e g = sym (and_assoc (eqb e.pointer g.pointer) (eqb e.integer g.integer) (eqb e.constant g.constant))
 
 -- Declared bounds are shown by both ends, or by a null pointer.
 module _ (f : FactSet) (p : ℕ) (k d : Bounds) where
@@ -60,11 +62,11 @@ module _ (f : FactSet) (p : ℕ) (k d : Bounds) where
       go false true c (inr e) = sym e
 
 -- Bounds that are the same are shown, whatever the facts.
-same-at-most : (f : FactSet) (s t : ℕ) (a b : KnownEnd) → eqb s t ≡ true → same_known a b ≡ true → known_at_most f s a t b ≡ true
+same-at-most : (f : FactSet) (s t : ℕ) (a b : Option End) → eqb s t ≡ true → same_known a b ≡ true → known_at_most f s a t b ≡ true
 unfolding same_known bounds_rules.known_at_most bounds_rules.end_at_most
-same-at-most f s t Unknown b z h = absurd (false≢true h)
-same-at-most f s t (Known e) Unknown z h = absurd (false≢true h)
-same-at-most f s t (Known e) (Known g) z h =
+same-at-most f s t None b z h = absurd (false≢true h)
+same-at-most f s t (Some e) None z h = absurd (false≢true h)
+same-at-most f s t (Some e) (Some g) z h =
     ap₂ (λ (a b : Bool). (a || eqb e.integer zero_var && eqb g.integer zero_var)
     && (b || end_shown f s e.pointer e.integer e.constant g.pointer g.integer g.constant)) z h
 
@@ -108,12 +110,12 @@ module _ {E : Environment} {f : FactSet} {K : List Bounds} {p : ℕ} (q : Passed
             ∙ (ap (λ (b : Bool). cons_if b p (unshown_from E f K (16 - p - 1) (p + 1))) e ∙ ap (λ (m : ℕ). unshown_from E f K m (p + 1)) n));
       }
 
-  pub passed-missed : (a : ℕ) → p < 16 → missed E f K p ≡ true → Refused (BoundsNotShown a p) ≡ verdict_of (bounds_at a (unshown E f K))
+  pub passed-missed : (a : ℕ) → p < 16 → missed E f K p ≡ true → Err (BoundsNotShown a p) ≡ verdict_of (bounds_at a (unshown E f K))
   unfolding verdict_of bounds_at
   passed-missed a h e = sym (ap (λ (ps : List ℕ). verdict_of (bounds_at a ps))
       (q.same ∙ (unshown-some E f K (16 - p) p (omega arith) ∙ ap (λ (b : Bool). cons_if b p (unshown_from E f K (16 - p - 1) (p + 1))) e)))
 
-  pub passed-all : (a : ℕ) → 16 ≤ p → Accepted ≡ verdict_of (bounds_at a (unshown E f K))
+  pub passed-all : (a : ℕ) → 16 ≤ p → Ok tt ≡ verdict_of (bounds_at a (unshown E f K))
   unfolding verdict_of bounds_at bounds_rules.unshown_from
   passed-all a h =
       let n : 16 - p ≡ 0 = omega arith in
@@ -155,9 +157,9 @@ module _ (E : Environment) (f : FactSet) (K : List Bounds) (p : ℕ) (d : p < le
 -- ---- accesses
 
 -- What an access needs.
-abbrev needed : Environment → FactSet → List Bounds → Access → Bool
-needed E f K (Through p i k) = bounds_shown f p (known K p) (declared E p)
-needed E f K Nothing = true
+abbrev needed : Environment → FactSet → List Bounds → Option Access → Bool
+needed E f K (Some a) = bounds_shown f a.pointer (known K a.pointer) (declared E a.pointer)
+needed E f K None = true
 
 access-needs : (E : Environment) (f : FactSet) (K : List Bounds) (s : Simple) → needed E f K (access_of s) ≡ access_shown E f K s
 unfolding bounds_rules.access_shown
@@ -173,18 +175,18 @@ access-needs E f K (Store p i k x) = refl
 access-needs E f K (Check c) = refl
 access-needs E f K (Declare p r) = refl
 
-module _ (E : Environment) (f : FactSet) (K : List Bounds) (s : Simple) {a : Access} (e : a ≡ access_of s) where
-  pub nothing-needed : a ≡ Nothing → true ≡ access_shown E f K s
+module _ (E : Environment) (f : FactSet) (K : List Bounds) (s : Simple) {a : Option Access} (e : a ≡ access_of s) where
+  pub nothing-needed : a ≡ None → true ≡ access_shown E f K s
   nothing-needed n = sym (ap (needed E f K) (sym e ∙ n)) ∙ access-needs E f K s
 
-  pub pointer-needed : {p i k : ℕ} {n d : Bounds} {b : Bool} → a ≡ Through p i k → n ≡ known K p → d ≡ declared E p → b ≡ bounds_shown f p n d
+  pub pointer-needed : {p i k : ℕ} {n d : Bounds} {b : Bool} → a ≡ Some (access p i k) → n ≡ known K p → d ≡ declared E p → b ≡ bounds_shown f p n d
       → b ≡ access_shown E f K s
   pointer-needed t n d b = rw (n, d) at b ∙ (sym (ap (needed E f K) (sym e ∙ t)) ∙ access-needs E f K s)
 
 -- ---- rows
 
 -- A kind 14 is the one statement that names a row.
-pub row_named : (s : Simple) (p r : ℕ) → declares_of s ≡ Row p r → s ≡ Declare p r
+pub row_named : (s : Simple) (p r : ℕ) → declares_of s ≡ Some (declaration p r) → s ≡ Declare p r
 row_named (Literal x k) p' r e = let o : ◌≡◌ {A = ℕ} 0 1 = cc in absurd (omega arith)
 row_named (AddConstant x y k) p' r e = let o : ◌≡◌ {A = ℕ} 0 1 = cc in absurd (omega arith)
 row_named (Arithmetic x y z op) p' r e = let o : ◌≡◌ {A = ℕ} 0 1 = cc in absurd (omega arith)
@@ -195,10 +197,13 @@ row_named (PointerIndex p q i) p' r e = let o : ◌≡◌ {A = ℕ} 0 1 = cc in 
 row_named (Load x p i k) p' r e = let o : ◌≡◌ {A = ℕ} 0 1 = cc in absurd (omega arith)
 row_named (Store p i k x) p' r e = let o : ◌≡◌ {A = ℕ} 0 1 = cc in absurd (omega arith)
 row_named (Check c) p' r e = let o : ◌≡◌ {A = ℕ} 0 1 = cc in absurd (omega arith)
-row_named (Declare q n) p r e = cc
+row_named (Declare q n) p r e =
+    let d : declaration q n ≡ declaration p r = cc in
+    let x : q ≡ p = ap (λ (a : Declaration). a.pointer) d in
+    let y : n ≡ r = ap (λ (a : Declaration). a.row) d in rw (x, y)
 
 -- Any other leaves the rows in force and asks for none.
-pub rows_stay : (s : Simple) (R : List ℕ) → declares_of s ≡ NoRow → rows_after s R ≡ R
+pub rows_stay : (s : Simple) (R : List ℕ) → declares_of s ≡ None → rows_after s R ≡ R
 unfolding rows_after
 rows_stay (Literal x k) R e = refl
 rows_stay (AddConstant x y k) R e = refl
@@ -212,7 +217,7 @@ rows_stay (Store p i k x) R e = refl
 rows_stay (Check c) R e = refl
 rows_stay (Declare p r) R e = let o : ◌≡◌ {A = ℕ} 0 1 = cc in absurd (omega arith)
 
-pub no-row-asked : (E : Environment) (f : FactSet) (K : List Bounds) (s : Simple) → declares_of s ≡ NoRow → row_unshown E f K s ≡ []
+pub no-row-asked : (E : Environment) (f : FactSet) (K : List Bounds) (s : Simple) → declares_of s ≡ None → row_unshown E f K s ≡ []
 unfolding bounds_rules.row_unshown
 no-row-asked E f K (Literal x k) e = refl
 no-row-asked E f K (AddConstant x y k) e = refl
@@ -231,11 +236,11 @@ module _ (E : Environment) (f : FactSet) (K : List Bounds) (p r a : ℕ) {n d : 
   row-asked : b ≡ bounds_shown f p (known K p) (row_bound E (r + 1) p)
   row-asked = rw (i, j) at e
 
-  pub row-shown : b ≡ true → Accepted ≡ verdict_of (bounds_at a (row_unshown E f K (Declare p r)))
+  pub row-shown : b ≡ true → Ok tt ≡ verdict_of (bounds_at a (row_unshown E f K (Declare p r)))
   unfolding bounds_rules.row_unshown bounds_at verdict_of
   row-shown t = sym (ap (λ (x : Bool). verdict_of (bounds_at a (cons_if (not x) p []))) (sym row-asked ∙ t))
 
-  pub row-missed : b ≡ false → Refused (BoundsNotShown a p) ≡ verdict_of (bounds_at a (row_unshown E f K (Declare p r)))
+  pub row-missed : b ≡ false → Err (BoundsNotShown a p) ≡ verdict_of (bounds_at a (row_unshown E f K (Declare p r)))
   unfolding bounds_rules.row_unshown bounds_at verdict_of
   row-missed t = sym (ap (λ (x : Bool). verdict_of (bounds_at a (cons_if (not x) p []))) (sym row-asked ∙ t))
 
@@ -253,15 +258,15 @@ seen-unshown E f K = seen-from E f K 16 0
 pub seen-access : (E : Environment) (f : FactSet) (K : List Bounds) (s : Simple) → access_shown (seen_as (seen_of E)) f K s ≡ access_shown E f K s
 seen-access E f K s = sym (access-needs (seen_as (seen_of E)) f K s) ∙ (go (access_of s) ∙ access-needs E f K s)
   where
-    go : (a : Access) → needed (seen_as (seen_of E)) f K a ≡ needed E f K a
-    go Nothing = refl
-    go (Through p i k) = refl
+    go : (a : Option Access) → needed (seen_as (seen_of E)) f K a ≡ needed E f K a
+    go None = refl
+    go (Some a) = refl
 
 -- ---- point 9: accesses that are shown safe
 
-abbrev safe_by : Environment → FactSet → Access → Bool
-safe_by E f (Through p i k) = address_safe f p i k (declared E p)
-safe_by E f Nothing = false
+abbrev safe_by : Environment → FactSet → Option Access → Bool
+safe_by E f (Some a) = address_safe f a.pointer a.index a.constant (declared E a.pointer)
+safe_by E f None = false
 
 access-safe : (E : Environment) (f : FactSet) (s : Simple) → safe_by E f (access_of s) ≡ access_safe E f s
 unfolding bounds_rules.access_safe
@@ -277,20 +282,19 @@ access-safe E f (Store p i k x) = refl
 access-safe E f (Check c) = refl
 access-safe E f (Declare p r) = refl
 
-module _ (s : Simple) {a : Access} (e : a ≡ access_of s) where
-  pub through-told : {p i k : ℕ} → a ≡ Through p i k → true ≡ is_access s
-  unfolding is_through is_access
-  through-told t = sym (ap is_through (sym e ∙ t))
+module _ (s : Simple) {a : Option Access} (e : a ≡ access_of s) where
+  pub through-told : {p i k : ℕ} → a ≡ Some (access p i k) → true ≡ is_access s
+  unfolding is_access
+  through-told t = sym (ap is_some (sym e ∙ t))
 
-  pub nothing-told : a ≡ Nothing → false ≡ is_access s
-  unfolding is_through is_access
-  nothing-told t = sym (ap is_through (sym e ∙ t))
+  pub nothing-told : a ≡ None → false ≡ is_access s
+  unfolding is_access
+  nothing-told t = sym (ap is_some (sym e ∙ t))
 
 -- What is no access needs no bounds shown, and is not reported.
-pub no_access : (a : Access) → is_through a ≡ false → a ≡ Nothing
-unfolding is_through
-no_access Nothing e = refl
-no_access (Through p i k) e = absurd (false≢true (sym e))
+pub no_access : (a : Option Access) → is_some a ≡ false → a ≡ None
+no_access None e = refl
+no_access (Some a) e = absurd (false≢true (sym e))
 
 pub unneeded : (E : Environment) (f : FactSet) (K : List Bounds) (s : Simple) → is_access s ≡ false → true ≡ access_shown E f K s
 unfolding is_access
@@ -309,7 +313,7 @@ nowhere-safe f p i k = go (shown f zero_var p (bias - 1))
     go false = refl
 
 -- An access in range has a constant in range.
-pub access-short : (s : Simple) {p i k : ℕ} → InRange s → access_of s ≡ Through p i k → k < 2 ^ 34
+pub access-short : (s : Simple) {p i k : ℕ} → InRange s → access_of s ≡ Some (access p i k) → k < 2 ^ 34
 access-short (Literal x j) r e = let z : ◌≡◌ {A = ℕ} 0 1 = cc in absurd (omega arith)
 access-short (AddConstant x y j) r e = let z : ◌≡◌ {A = ℕ} 0 1 = cc in absurd (omega arith)
 access-short (Arithmetic x y z op) r e = let u : ◌≡◌ {A = ℕ} 0 1 = cc in absurd (omega arith)
@@ -317,22 +321,24 @@ access-short (Null q) r e = let z : ◌≡◌ {A = ℕ} 0 1 = cc in absurd (omeg
 access-short (Address q o) r e = let z : ◌≡◌ {A = ℕ} 0 1 = cc in absurd (omega arith)
 access-short (PointerOffset q o j) r e = let z : ◌≡◌ {A = ℕ} 0 1 = cc in absurd (omega arith)
 access-short (PointerIndex q o j) r e = let z : ◌≡◌ {A = ℕ} 0 1 = cc in absurd (omega arith)
-access-short (Load x q j l) {k = k} r e = let z : l ≡ k = cc in omega arith
-access-short (Store q j l x) {k = k} r e = let z : l ≡ k = cc in omega arith
+access-short (Load x q j l) {p} {i} {k} r e =
+    let d : access q j l ≡ access p i k = cc in let z : l ≡ k = ap (λ (a : Access). a.constant) d in omega arith
+access-short (Store q j l x) {p} {i} {k} r e =
+    let d : access q j l ≡ access p i k = cc in let z : l ≡ k = ap (λ (a : Access). a.constant) d in omega arith
 access-short (Check c) r e = let z : ◌≡◌ {A = ℕ} 0 1 = cc in absurd (omega arith)
 access-short (Declare q j) r e = let z : ◌≡◌ {A = ℕ} 0 1 = cc in absurd (omega arith)
 
-module _ (E : Environment) (f : FactSet) (s : Simple) {a : Access} (e : a ≡ access_of s) where
-  pub nothing-safe : a ≡ Nothing → false ≡ access_safe E f s
+module _ (E : Environment) (f : FactSet) (s : Simple) {a : Option Access} (e : a ≡ access_of s) where
+  pub nothing-safe : a ≡ None → false ≡ access_safe E f s
   nothing-safe n = sym (ap (safe_by E f) (sym e ∙ n)) ∙ access-safe E f s
 
   -- No variable has such a number, and no bounds are known of it.
-  pub none-declared : {p i k : ℕ} → a ≡ Through p i k → length E.declared ≡ 16 → 16 ≤ p → false ≡ access_safe E f s
+  pub none-declared : {p i k : ℕ} → a ≡ Some (access p i k) → length E.declared ≡ 16 → 16 ≤ p → false ≡ access_safe E f s
   none-declared {p} {i} {k} t l m =
       let d : declared E p ≡ nothing_known = get_or-eq_default E.declared nothing_known (omega (arith, l)) in
       sym (ap (address_safe f p i k) d ∙ nowhere-safe f p i k) ∙ (sym (ap (safe_by E f) (sym e ∙ t)) ∙ access-safe E f s)
 
-  pub address-asked : {p i k : ℕ} {b : Bool} → a ≡ Through p i k → p < length E.declared → b ≡ address_safe f p i k (stored E.declared p)
+  pub address-asked : {p i k : ℕ} {b : Bool} → a ≡ Some (access p i k) → p < length E.declared → b ≡ address_safe f p i k (stored E.declared p)
       → b ≡ access_safe E f s
   address-asked {p} {i} {k} t l b =
       b ∙ (ap (address_safe f p i k) (stored-known E.declared p l) ∙ (sym (ap (safe_by E f) (sym e ∙ t)) ∙ access-safe E f s))
@@ -340,6 +346,6 @@ module _ (E : Environment) (f : FactSet) (s : Simple) {a : Access} (e : a ≡ ac
 pub seen-safe : (E : Environment) (f : FactSet) (s : Simple) → access_safe (seen_as (seen_of E)) f s ≡ access_safe E f s
 seen-safe E f s = sym (access-safe (seen_as (seen_of E)) f s) ∙ (go (access_of s) ∙ access-safe E f s)
   where
-    go : (a : Access) → safe_by (seen_as (seen_of E)) f a ≡ safe_by E f a
-    go Nothing = refl
-    go (Through p i k) = refl
+    go : (a : Option Access) → safe_by (seen_as (seen_of E)) f a ≡ safe_by E f a
+    go None = refl
+    go (Some a) = refl

@@ -1,6 +1,6 @@
 -- Declared bounds that an effect does not touch stay shown; and the flags of the variables that declared bounds name tell whether an effect touches any.
 use Prim.Native.Nat.{ℕ, zero, suc, ◌+◌, ◌≤◌, ◌<◌}
-use Rattle.std.specs.Prelude.{◌≡◌, Bool, false, not, ◌&&◌, List, [], ◌≢◌, ltb, eqb, length, get_or}
+use Rattle.std.specs.Prelude.{◌≡◌, Bool, false, not, ◌&&◌, List, [], ◌≢◌, ltb, eqb, length, get_or, None, Option, Some}
 use Rattle.std.proofs.Math.Path.{refl, ap}
 use Rattle.std.proofs.Common.{sym, ◌∙◌, arith, eq-eqb, ne_eqb, ltb-true, ltb-false}
 use Rattle.std.proofs.Math.Bool.{true, false≢true}
@@ -14,8 +14,6 @@ use Rattle.rules.specs.BoundsRules.{is_pointer, declared, known, cons_if}
 use Rattle.rules.specs.Stored.{same_end, bounds_shown, unshown_from, unshown, bounds_after}
 use Rattle.rules.specs.BoundsTrue.{known-after}
 use Rattle.rules.specs.FactsTrue.{neither}
-use Rattle.rules.specs.declared.KnownEnd.{KnownEnd}
-use Rattle.rules.specs.declared.KnownEnd.TheVariants.{Known, Unknown}
 use Rattle.rules.specs.declared.Bounds.{Bounds}
 use Rattle.rules.specs.declared.Environment.{Environment}
 use Rattle.rules.specs.declared.Effect.{Effect}
@@ -32,10 +30,10 @@ use Rattle.rules.specs.BoundsRules as bounds_rules
 same_refl : (e : End) → same_end e e ≡ true
 same_refl e = rw (eq-eqb e.pointer e.pointer refl, eq-eqb e.integer e.integer refl, eq-eqb e.constant e.constant refl)
 
-stay-same : (v : ℕ) (e : KnownEnd) → end_stays v e ≡ true → same_known e e ≡ true
+stay-same : (v : ℕ) (e : Option End) → end_stays v e ≡ true → same_known e e ≡ true
 unfolding end_stays same_known
-stay-same v Unknown h = h
-stay-same v (Known e) h = same_refl e
+stay-same v None h = h
+stay-same v (Some e) h = same_refl e
 
 stay-shown : (f : FactSet) (v p : ℕ) (b : Bounds) → bounds_stay v b ≡ true → bounds_shown f p b b ≡ true
 unfolding bounds_stay same_bounds

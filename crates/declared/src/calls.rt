@@ -1,6 +1,6 @@
 // A call: whether its arguments fit the callee (refusal 20).
 ghost use Rattle.std.specs.Prelude.{◌≡◌};
-ghost use Rattle.rules.specs.Calls.{argument, is_parameter, in_order, alike, kind_fits, end_fits, argument_end, argument_bounds, last_integer, result_effect};
+ghost use Rattle.rules.specs.Calls.{argument, is_parameter, in_order, kind_fits, end_fits, argument_end, argument_bounds, last_integer, result_effect};
 ghost use Rattle.rules.specs.Calls.{result_facts};
 ghost use Rattle.rules.specs.Stored.{store, call_faults};
 ghost use Rattle.rules.specs.Verdict.{environment_of, verdict_of};
@@ -15,8 +15,8 @@ use bounds::KnownBounds;
 use bounds::touched::Seen;
 use facts::FactSet;
 use parts::span_of;
-use rules::lookups::{bounds_at, is_pointer, is_string};
-use rules::{Bounds, Effect, KnownEnd, Verdict, read_declared, read_pointers, read_strings};
+use rules::lookups::element_or;
+use rules::{Bounds, Effect, NOTHING_KNOWN, read_declared, read_pointers, read_strings};
 use statements::CallSite;
 use table::sections_of;
 use table::variables::End;
@@ -66,46 +66,33 @@ fn in_order(call: CallSite) -> bool
         & (is_parameter(call, 2) | !is_parameter(call, 3))
 }
 
-fn alike(a: bool, b: bool) -> bool
-    ensures { result ≡ alike a b }
-{
-    if a {
-        return b;
-    }
-    !b
-}
-
 // The caller's variable x and the callee's variable j are of one kind.
 fn kind_fits(kinds: Kinds, x: usize, callee: Signature, j: usize) -> bool
     ensures { result ≡ kind_fits (kinds_as kinds) x (callee_as callee) j }
 {
-    let pointers = kinds.pointers;
-    let strings = kinds.strings;
-    let callee_pointers = callee.pointers;
-    let callee_strings = callee.strings;
     (j < callee.variables)
-        & alike(is_pointer(pointers, x), is_pointer(callee_pointers, j))
-        & alike(is_string(strings, x), is_string(callee_strings, j))
+        & (element_or(kinds.pointers, x, false) == element_or(callee.pointers, j, false))
+        & (element_or(kinds.strings, x, false) == element_or(callee.strings, j, false))
 }
 
 // An end that names parameters only.
-fn end_fits(call: CallSite, end: KnownEnd) -> bool
+fn end_fits(call: CallSite, end: Option<End>) -> bool
     ensures { result ≡ end_fits call end }
 {
-    let KnownEnd::Known(e) = end else {
+    let Some(e) = end else {
         return false;
     };
     is_parameter(call, e.pointer) & ((e.integer == 16) | is_parameter(call, e.integer))
 }
 
 // An end with the arguments put in.
-fn argument_end(call: CallSite, end: KnownEnd) -> KnownEnd
+fn argument_end(call: CallSite, end: Option<End>) -> Option<End>
     ensures { result ≡ argument_end call end }
 {
-    let KnownEnd::Known(e) = end else {
-        return KnownEnd::Unknown;
+    let Some(e) = end else {
+        return None;
     };
-    KnownEnd::Known(End {
+    Some(End {
         pointer: argument(call, e.pointer),
         integer: argument(call, e.integer),
         constant: e.constant,
@@ -115,12 +102,10 @@ fn argument_end(call: CallSite, end: KnownEnd) -> KnownEnd
 fn argument_bounds(call: CallSite, b: Bounds) -> Bounds
     ensures { result ≡ argument_bounds call b }
 {
-    let lower = b.lower;
-    let upper = b.upper;
     Bounds {
         size: b.size,
-        lower: argument_end(call, lower),
-        upper: argument_end(call, upper),
+        lower: argument_end(call, b.lower),
+        upper: argument_end(call, b.upper),
     }
 }
 
@@ -134,15 +119,16 @@ fn bounds_fit(
 ) -> bool
     ensures { result ≡ bounds_fit facts known.each (callee_as callee) call j }
 {
-    let each = known.each;
-    let declared = callee.declared;
-    let own = bounds_at(declared, j);
-    let lower = own.lower;
-    let upper = own.upper;
+    let own = element_or(callee.declared, j, NOTHING_KNOWN);
     let x = argument(call, j);
-    end_fits(call, lower)
-        & end_fits(call, upper)
-        & bounds_shown(facts, x, bounds_at(each, x), argument_bounds(call, own))
+    end_fits(call, own.lower)
+        & end_fits(call, own.upper)
+        & bounds_shown(
+            facts,
+            x,
+            element_or(known.each, x, NOTHING_KNOWN),
+            argument_bounds(call, own),
+        )
 }
 
 // Where variable j of the callee is a parameter, the argument fits it.
@@ -156,22 +142,16 @@ fn argument_fits(
 ) -> bool
     ensures { result ≡ argument_fits (kinds_as kinds) facts known.each (callee_as callee) call j }
 {
-    let callee_pointers = callee.pointers;
     !is_parameter(call, j)
         | (kind_fits(kinds, argument(call, j), callee, j)
-            & (!is_pointer(callee_pointers, j) | bounds_fit(facts, known, callee, call, j)))
+            & (!element_or(callee.pointers, j, false) | bounds_fit(facts, known, callee, call, j)))
 }
 
 // The callee's last variable is an integer.
 fn last_integer(callee: Signature) -> bool
     ensures { result ≡ last_integer (callee_as callee) }
 {
-    let pointers = callee.pointers;
-    let variables = callee.variables;
-    if variables > 0 {
-        return !is_pointer(pointers, variables - 1);
-    }
-    !is_pointer(pointers, 0)
+    !element_or(callee.pointers, callee.variables.saturating_sub(1), false)
 }
 
 // Refusal 20 does not refuse the call, where its callee has this signature.
@@ -224,25 +204,23 @@ fn check_callee(
     callees: &[u32],
     call: CallSite,
     at: usize,
-) -> Verdict
+) -> Result<(), Refusal>
     ensures { result ≡ verdict_of (call_faults (callees_in words.now callees.now)
         (environment_of table.now sections) at call facts known.each) }
 {
     if call.callee >= 8 {
-        return Verdict::Refused(Refusal::Callee(at));
+        return Err(Refusal::Callee(at));
     }
     let number = call.callee as usize;
     if number >= callees.len() {
-        return Verdict::Refused(Refusal::Callee(at));
+        return Err(Refusal::Callee(at));
     }
     let span = span_of(callees, 1, 0, number, words.len());
-    let from = span.start;
-    let to = span.end;
-    let callee = read_signature(&words[from..to]);
+    let callee = read_signature(&words[span.start..span.end]);
     if !arguments_fit(read_kinds(table, sections), facts, known, callee, call) {
-        return Verdict::Refused(Refusal::Arguments(at));
+        return Err(Refusal::Arguments(at));
     }
-    Verdict::Accepted
+    Ok(())
 }
 
 fn result_effect(call: CallSite) -> Effect
@@ -276,16 +254,14 @@ pub fn check_call(
     callees: &[u32],
     call: CallSite,
     at: usize,
-) -> Verdict
+) -> Result<(), Refusal>
     ensures { result ≡ verdict_of (call_checked (callees_in words.now callees.now)
         (environment_of table.now sections) seen at call facts) }
 {
+    // A local: an array field that stands in a literal itself gets no generated proof.
     let declared = seen.declared;
     let known = KnownBounds { each: declared };
     let after = drop_result(facts, call);
-    let fits = check_callee(table, sections, facts, known, words, callees, call, at);
-    let Verdict::Accepted = fits else {
-        return fits;
-    };
+    check_callee(table, sections, facts, known, words, callees, call, at)?;
     check_effect(seen, after, result_effect(call), at)
 }

@@ -1,43 +1,33 @@
 // When known bounds show declared ones.
 ghost use Rattle.std.specs.Prelude.{◌^◌, ◌<◌, ◌≡◌};
 ghost use Rattle.rules.specs.BoundsRules.{comparable_ends};
-ghost use Rattle.rules.specs.Stored.{same_end, end_at_most, known_at_most, bounds_shown, address_safe};
+ghost use Rattle.rules.specs.Stored.{end_at_most, known_at_most, bounds_shown, address_safe};
 ghost use Rattle.declared.specs.Shown.{same_known, same_bounds};
 
 use chains::shown::{shows, shows_end};
 use facts::FactSet;
-use rules::{Bounds, KnownEnd};
+use rules::Bounds;
 use sums::{BIAS, ZERO};
 use table::variables::End;
 
-fn same_end(a: End, b: End) -> bool
-    ensures { result ≡ same_end a b }
-{
-    (a.pointer == b.pointer) & (a.integer == b.integer) & (a.constant == b.constant)
-}
-
-fn same_known(a: KnownEnd, b: KnownEnd) -> bool
+fn same_known(a: Option<End>, b: Option<End>) -> bool
     ensures { result ≡ same_known a b }
 {
-    let KnownEnd::Known(e) = a else {
+    let Some(e) = a else {
         return false;
     };
-    let KnownEnd::Known(g) = b else {
+    let Some(g) = b else {
         return false;
     };
-    same_end(e, g)
+    e == g
 }
 
 // Known and declared bounds are the same, size and end by end: then they are shown, whatever the facts.
 pub(crate) fn same_bounds(known: Bounds, declared: Bounds) -> bool
     ensures { result ≡ same_bounds known declared }
 {
-    let known_lower = known.lower;
-    let declared_lower = declared.lower;
-    let known_upper = known.upper;
-    let declared_upper = declared.upper;
     (known.size == declared.size)
-        & (same_known(known_lower, declared_lower) & same_known(declared_upper, known_upper))
+        & (same_known(known.lower, declared.lower) & same_known(declared.upper, known.upper))
 }
 
 // Ends of the sizes s and t can be compared: the sizes are equal, or neither names an integer.
@@ -54,7 +44,7 @@ fn end_at_most(facts: FactSet, s: u64, a: End, t: u64, b: End) -> bool
     if !comparable_ends(s, a, t, b) {
         return false;
     }
-    if same_end(a, b) {
+    if a == b {
         return true;
     }
     shows_end(
@@ -62,13 +52,13 @@ fn end_at_most(facts: FactSet, s: u64, a: End, t: u64, b: End) -> bool
     )
 }
 
-fn known_at_most(facts: FactSet, s: u64, a: KnownEnd, t: u64, b: KnownEnd) -> bool
+fn known_at_most(facts: FactSet, s: u64, a: Option<End>, t: u64, b: Option<End>) -> bool
     ensures { result ≡ known_at_most facts s a t b }
 {
-    let KnownEnd::Known(e) = a else {
+    let Some(e) = a else {
         return false;
     };
-    let KnownEnd::Known(g) = b else {
+    let Some(g) = b else {
         return false;
     };
     end_at_most(facts, s, e, t, g)
@@ -102,7 +92,7 @@ pub(crate) fn address_safe(facts: FactSet, p: usize, i: usize, k: u64, declared:
         return false;
     }
     let lower = declared.lower;
-    let address = KnownEnd::Known(End {
+    let address = Some(End {
         pointer: p,
         integer: i,
         constant: k,
@@ -111,7 +101,7 @@ pub(crate) fn address_safe(facts: FactSet, p: usize, i: usize, k: u64, declared:
         return false;
     }
     let upper = declared.upper;
-    let next = KnownEnd::Known(End {
+    let next = Some(End {
         pointer: p,
         integer: i,
         constant: k + 1,

@@ -7,11 +7,13 @@ ghost use Rattle.bounds.specs.Touched.{seen_of};
 ghost use Rattle.declared.specs.Force.{Framed, Forced, DeclaresRow};
 
 use crate::{check_known, check_row};
+use answers::refusals::Refusal;
 use bounds::touched::{Named, Seen, named_in};
 use bounds::{KnownBounds, bounds_after};
 use facts::FactSet;
 use rules::lookups::Rows;
-use rules::{Bounds, Effect, KnownEnd, Verdict, read_bound, read_pointers, read_sizes, read_spans};
+use rules::{Effect, read_bound, read_pointers, read_sizes, read_spans};
+use std::array;
 use words::sections::Sections;
 
 // What a statement's walk needs of what the table declares, whatever the rows: which variables are pointers, their element sizes, and the upper
@@ -35,14 +37,7 @@ pub struct Force {
 pub fn same_rows(a: Rows, b: Rows) -> bool
     ensures { result ≡ same_rows a.each b.each }
 {
-    let mut p = 0;
-    while p < 16 {
-        if a.each[p] != b.each[p] {
-            return false;
-        }
-        p += 1;
-    }
-    true
+    a == b
 }
 
 pub fn frame_of(table: &[i32], sections: Sections) -> Frame
@@ -59,18 +54,9 @@ pub fn frame_of(table: &[i32], sections: Sections) -> Frame
 pub fn seen_in(table: &[i32], sections: Sections, rows: Rows) -> Seen
     ensures { result ≡ seen_of (in_force (environment_of table.now sections) rows.each) }
 {
-    let unknown = Bounds {
-        size: 1,
-        lower: KnownEnd::Unknown,
-        upper: KnownEnd::Unknown,
-    };
-    let mut declared = [unknown; 16];
-    for p in 0..16 {
-        declared[p] = read_bound(table, sections, rows.each[p], p);
-    }
     Seen {
         pointers: read_pointers(table, sections),
-        declared,
+        declared: array::from_fn(|p| read_bound(table, sections, rows.each[p], p)),
     }
 }
 
@@ -107,7 +93,7 @@ pub fn with_row(rows: Rows, pointer: usize, row: usize) -> Rows
 // The verdict on a kind 14 outside a bundle, and what is in force after it.
 #[derive(Clone, Copy)]
 pub struct Declared {
-    pub verdict: Verdict,
+    pub verdict: Result<(), Refusal>,
     pub force: Force,
 }
 
@@ -127,7 +113,7 @@ pub fn declare_row(
     let declared = seen.declared;
     let known = KnownBounds { each: declared };
     let own = check_row(table, sections, facts, known, pointer, row, at);
-    let Verdict::Accepted = own else {
+    let Ok(()) = own else {
         return Declared {
             verdict: own,
             force,

@@ -5,11 +5,10 @@ pub mod calls; // calls.rt: whether the arguments of a call fit the callee
 mod ends; // ends.rt: when known bounds show declared ones
 pub mod force; // force.rt: the rows in force and what they put in force: the bounds that each pointer declares, and the variables that these name
 
-ghost use Rattle.std.specs.Prelude.{◌^◌, ◌<◌, ◌≡◌};
+ghost use Rattle.std.specs.Prelude.{◌^◌, ◌<◌, ◌≡◌, Err};
 ghost use Rattle.statements.specs.declared.Simple.TheVariants.{Declare};
 ghost use Rattle.rules.specs.Stored.{unshown, row_unshown, access_shown, access_safe, bounds_after};
 ghost use Rattle.answers.specs.declared.refusals.Refusal.TheVariants.{BoundsNotShown};
-ghost use Rattle.rules.specs.declared.Verdict.TheVariants.{Refused};
 ghost use Rattle.rules.specs.Rules.{bounds_at};
 ghost use Rattle.rules.specs.Verdict.{environment_of, verdict_of};
 ghost use Rattle.rules.specs.Ranges.{InRange, Short};
@@ -22,27 +21,32 @@ use bounds::touched::{Seen, leaves_alone};
 use bounds::transfer::{effect_on, source_of};
 use ends::{address_safe, bounds_shown, same_bounds};
 use facts::FactSet;
-use rules::lookups::bounds_at;
-use rules::{Effect, Verdict, read_bound};
+use rules::lookups::element_or;
+use rules::{Effect, NOTHING_KNOWN, read_bound};
 use statements::Simple;
 use words::sections::Sections;
 
 // Refusal 8.
-fn not_shown(statement: usize, pointer: usize) -> Verdict
-    ensures { result ≡ Refused (BoundsNotShown statement pointer) }
+fn not_shown(statement: usize, pointer: usize) -> Result<(), Refusal>
+    ensures { result ≡ Err (BoundsNotShown statement pointer) }
 {
-    Verdict::Refused(Refusal::BoundsNotShown { statement, pointer })
+    Err(Refusal::BoundsNotShown { statement, pointer })
 }
 
 // The lowest pointer whose declared bounds are not shown after the effect, where the declared bounds were the known ones.
-pub fn check_effect(environment: Seen, facts: FactSet, effect: Effect, at: usize) -> Verdict
+pub fn check_effect(
+    environment: Seen,
+    facts: FactSet,
+    effect: Effect,
+    at: usize,
+) -> Result<(), Refusal>
     requires { Short effect }
     ensures { result ≡ verdict_of (bounds_at at (unshown (seen_as environment) facts (bounds_after effect environment.declared))) }
 {
     let from = source_of(effect);
     let source = environment.declared[from];
-    let mut p = 0;
-    while p < 16 {
+    // A plain loop: by `arrays::lowest` it would be as long, with the same steps in its test.
+    for p in 0..16 {
         let declared = environment.declared[p];
         if environment.pointers[p] & !leaves_alone(effect, p, declared) {
             let known = effect_on(effect, p, declared, source);
@@ -50,17 +54,21 @@ pub fn check_effect(environment: Seen, facts: FactSet, effect: Effect, at: usize
                 return not_shown(at, p);
             }
         }
-        p += 1;
     }
-    Verdict::Accepted
+    Ok(())
 }
 
 // The lowest pointer whose declared bounds are not shown by the known ones.
-pub fn check_known(environment: Seen, facts: FactSet, known: KnownBounds, at: usize) -> Verdict
+pub fn check_known(
+    environment: Seen,
+    facts: FactSet,
+    known: KnownBounds,
+    at: usize,
+) -> Result<(), Refusal>
     ensures { result ≡ verdict_of (bounds_at at (unshown (seen_as environment) facts known.each)) }
 {
-    let mut p = 0;
-    while p < 16 {
+    // A plain loop, as in `check_effect`.
+    for p in 0..16 {
         let own = known.each[p];
         let declared = environment.declared[p];
         if environment.pointers[p] & !same_bounds(own, declared) {
@@ -68,47 +76,44 @@ pub fn check_known(environment: Seen, facts: FactSet, known: KnownBounds, at: us
                 return not_shown(at, p);
             }
         }
-        p += 1;
     }
-    Verdict::Accepted
+    Ok(())
 }
 
-// The pointer, the index and the constant by which a statement reads or writes, if it does.
+// The pointer, the index and the constant by which a statement reads or writes.
 #[derive(Clone, Copy)]
-enum Access {
-    Through {
-        pointer: usize,
-        index: usize,
-        constant: u64,
-    },
-    Nothing,
+struct Access {
+    pointer: usize,
+    index: usize,
+    constant: u64,
 }
 
-fn access_of(simple: Simple) -> Access
+// The access of a statement, if it makes one.
+fn access_of(simple: Simple) -> Option<Access>
     ensures { result ≡ access_of simple }
 {
     match simple {
         Simple::Load {
-            target: _,
             pointer,
             index,
             constant,
-        } => Access::Through {
+            ..
+        } => Some(Access {
             pointer,
             index,
             constant,
-        },
+        }),
         Simple::Store {
             pointer,
             index,
             constant,
-            source: _,
-        } => Access::Through {
+            ..
+        } => Some(Access {
             pointer,
             index,
             constant,
-        },
-        _ => Access::Nothing,
+        }),
+        _ => None,
     }
 }
 
@@ -116,28 +121,14 @@ fn access_of(simple: Simple) -> Access
 pub fn is_access(simple: Simple) -> bool
     ensures { result ≡ is_access simple }
 {
-    let access = access_of(simple);
-    match access {
-        Access::Through {
-            pointer: _,
-            index: _,
-            constant: _,
-        } => true,
-        Access::Nothing => false,
-    }
+    access_of(simple).is_some()
 }
 
 // An access needs the declared bounds of its pointer shown.
 pub fn access_shown(environment: Seen, facts: FactSet, known: KnownBounds, simple: Simple) -> bool
     ensures { result ≡ access_shown (seen_as environment) facts known.each simple }
 {
-    let access = access_of(simple);
-    let Access::Through {
-        pointer,
-        index: _,
-        constant: _,
-    } = access
-    else {
+    let Some(Access { pointer, .. }) = access_of(simple) else {
         return true;
     };
     let each = known.each;
@@ -145,8 +136,8 @@ pub fn access_shown(environment: Seen, facts: FactSet, known: KnownBounds, simpl
     bounds_shown(
         facts,
         pointer,
-        bounds_at(each, pointer),
-        bounds_at(declared, pointer),
+        element_or(each, pointer, NOTHING_KNOWN),
+        element_or(declared, pointer, NOTHING_KNOWN),
     )
 }
 
@@ -155,12 +146,13 @@ pub fn access_safe(environment: Seen, facts: FactSet, simple: Simple) -> bool
     requires { InRange simple }
     ensures { result ≡ access_safe (seen_as environment) facts simple }
 {
-    let access = access_of(simple);
-    let Access::Through {
-        pointer,
-        index,
-        constant,
-    } = access
+    let Some(
+        Access {
+            pointer,
+            index,
+            constant,
+        },
+    ) = access_of(simple)
     else {
         return false;
     };
@@ -173,17 +165,17 @@ pub fn access_safe(environment: Seen, facts: FactSet, simple: Simple) -> bool
 
 // The pointer and the row that a kind 14 names.
 #[derive(Clone, Copy)]
-pub enum Declares {
-    Row { pointer: usize, row: usize },
-    NoRow,
+pub struct Declaration {
+    pub pointer: usize,
+    pub row: usize,
 }
 
-pub fn declares_of(simple: Simple) -> Declares
+pub fn declares_of(simple: Simple) -> Option<Declaration>
     ensures { result ≡ declares_of simple }
 {
     match simple {
-        Simple::Declare { pointer, row } => Declares::Row { pointer, row },
-        _ => Declares::NoRow,
+        Simple::Declare { pointer, row } => Some(Declaration { pointer, row }),
+        _ => None,
     }
 }
 
@@ -196,15 +188,15 @@ pub fn check_row(
     pointer: usize,
     row: usize,
     at: usize,
-) -> Verdict
+) -> Result<(), Refusal>
     requires { row < 2 ^ 40 }
     ensures { result ≡ verdict_of (bounds_at at (row_unshown (environment_of table.now sections) facts known.each (Declare pointer row))) }
 {
     let each = known.each;
-    let own = bounds_at(each, pointer);
+    let own = element_or(each, pointer, NOTHING_KNOWN);
     let bound = read_bound(table, sections, row + 1, pointer);
     if bounds_shown(facts, pointer, own, bound) {
-        return Verdict::Accepted;
+        return Ok(());
     }
     not_shown(at, pointer)
 }

@@ -1,5 +1,6 @@
 -- Laws of the whole call.
-use Rattle.std.specs.Prelude.{ℕ, ◌/◌, ◌%◌, ◌≤◌, ◌<◌, ◌≡◌, Bool, true, false, not, ◌&&◌, List, leb, eqb, length, get_or}
+use Rattle.rules.specs.declared.SetRefusal.{SetRefusal}
+use Rattle.std.specs.Prelude.{ℕ, ◌/◌, ◌%◌, ◌≤◌, ◌<◌, ◌≡◌, Bool, true, false, not, ◌&&◌, List, leb, eqb, length, get_or, Ok, Err, Result}
 use Rattle.std.proofs.Math.Path.{refl}
 use Rattle.std.proofs.Common.{sym, ap, ◌∙◌, leb-true}
 use native.Mathlib.Omega.{arith}
@@ -22,8 +23,6 @@ use Rattle.seats.specs.SeatAt.{seat_at}
 use Rattle.seats.specs.Seats.{start_seat, Ready, ReadyTo, RefusedAt, AllSeatedAs, CountIs}
 use Rattle.rounds.specs.Standing.{AllLaunched, Standing, TurnsAsk}
 use Rattle.rounds.specs.StandingLaws.{routines-run}
-use Rattle.seats.specs.declared.AllSeated.{AllSeated}
-use Rattle.seats.specs.declared.AllSeated.TheVariants as all
 use Rattle.seats.specs.declared.Seat.{Seat}
 use Rattle.dispatcher.specs.declared.Said.{Said}
 use Rattle.dispatcher.specs.declared.Said.TheVariants as said
@@ -157,11 +156,12 @@ all-promised l quantum total outcomes vs cs x a = (refl, x, a)
 pub count-is : (l : Lends) (quantum : ℕ) → count_right l quantum ≡ true → CountIs (length l.lengths / 5) l.lengths
 count-is l quantum x = record { counted = refl; few = (count-facts l quantum x).few }
 
-pub seated-ready : (y : AllSeated) (l : Lends) (seats : List Seat) (ends S : List ℕ) → y ≡ all.Ready → AllSeatedAs y l seats ends S
+pub seated-ready : (y : Result (Unit {0}) SetRefusal) (l : Lends) (seats : List Seat) (ends S : List ℕ) → y ≡ Ok tt → AllSeatedAs y l seats ends S
     → ReadyTo l (count_of l) seats ends S
 seated-ready y l seats ends S e x = rw e at x
 
-pub seated-refused : (y : AllSeated) (l : Lends) (seats : List Seat) (ends S : List ℕ) {r : ℕ} {f : Refusal} → y ≡ all.Refused r f
+pub seated-refused : (y : Result (Unit {0}) SetRefusal) (l : Lends) (seats : List Seat) (ends S : List ℕ) {r : ℕ} {f : Refusal}
+    → y ≡ Err (record { routine = r; refusal = f })
     → AllSeatedAs y l seats ends S
     → RefusedAt l r f
 seated-refused y l seats ends S e x = rw e at x

@@ -10,7 +10,8 @@ ghost use Rattle.seats.specs.Seats.{ReadyTo};
 use answers::refusals::Refusal;
 use overlaps::first_overlap;
 use rounds::take_turns;
-use seats::{AllSeated, Seat, no_seat, seat_all};
+use rules::SetRefusal;
+use seats::{Seat, no_seat, seat_all};
 
 // What a call says.
 #[derive(Clone, Copy)]
@@ -188,14 +189,14 @@ fn dispatch_counted(
     let seated = prepared.seated;
     let seats = prepared.seats;
     match seated {
-        AllSeated::Refused { routine, refusal } => Dispatched {
+        Err(SetRefusal { routine, refusal }) => Dispatched {
             said: Said::Refused {
                 routine: routine,
                 refusal: refusal,
             },
             seats: seats,
         },
-        AllSeated::Ready => {
+        Ok(()) => {
             run_ready(
                 tables,
                 listed,

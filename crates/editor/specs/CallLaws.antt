@@ -1,5 +1,5 @@
 -- The promises of the calls, from what their parts say.
-use Rattle.std.specs.Prelude.{ℕ, ◌^◌, ◌<◌, ◌≤◌, ◌≡◌, refl, Bool, true, false, ℤ, take, drop}
+use Rattle.std.specs.Prelude.{ℕ, ◌^◌, ◌<◌, ◌≤◌, ◌≡◌, refl, Bool, true, false, ℤ, take, drop, Err, None, Ok, Option, Result, Some}
 use Rattle.std.proofs.Common.{sym, ◌∙◌, arith}
 use Rattle.std.proofs.Math.Path.{ap}
 use Rattle.std.proofs.lemmas.Bool.{false≢true}
@@ -12,30 +12,20 @@ use Rattle.words.specs.SectionsLaws.{limits}
 use Rattle.words.specs.declared.sections.Sections.{Sections}
 use Rattle.statements.specs.Statements.{statement_at}
 use Rattle.table.specs.Form.{form_of}
-use Rattle.table.specs.declared.Form.{Form}
-use Rattle.table.specs.declared.Form.TheVariants as form
 use Rattle.blocks.specs.Tree.{tree}
 use Rattle.blocks.specs.Layout.{layout}
 use Rattle.blocks.specs.LayoutLaws.{none-refused}
 use Rattle.blocks.specs.Parts.{verdict}
-use Rattle.blocks.specs.declared.Layout.{Layout}
-use Rattle.blocks.specs.declared.Layout.TheVariants as layout-variant
-use Rattle.reports.specs.Reports.{no_words}
 use Rattle.rules.specs.ByChains.{Judged}
 use Rattle.rules.specs.Small.{RefusalSmall}
-use Rattle.rules.specs.declared.Verdict.{Verdict}
-use Rattle.rules.specs.declared.Verdict.TheVariants as said
 use Rattle.checker.specs.VerdictLaws.{form-refused, form-checked, layout-refused}
-use Rattle.checker.specs.Checks.{Refuses}
-use Rattle.checker.specs.declared.Checked.{Checked}
 use Rattle.edits.specs.TopLevel.{positions_of, span_of}
 use Rattle.edits.specs.Edited.{edited_sections, edited}
 use Rattle.edits.specs.EditedLaws.{limits-stay}
-use Rattle.plans.specs.Plans.{removed_by, is_position, plan_of}
+use Rattle.plans.specs.Plans.{removed_by, is_position, plan_of, splice}
 use Rattle.plans.specs.PlanLaws.{is-placed, planned}
 use Rattle.plans.specs.declared.Edit.{Edit}
-use Rattle.plans.specs.declared.Plan.{Plan}
-use Rattle.plans.specs.declared.Plan.TheVariants.{Change, Refused}
+use Rattle.plans.specs.declared.Splice.{Splice}
 use Rattle.places.specs.Positions.{capacity, positions, Ascending, staying, last_of, stored, walked_from}
 use Rattle.places.specs.Places.{Place, places, up_to, last_place}
 use Rattle.places.specs.StoreLaws.{Restored}
@@ -51,8 +41,6 @@ use Rattle.editor.specs.SmallLaws.{within, plan-small, rewalked-small}
 use Rattle.editor.specs.Editor.{Rechecked, Passing, Started, head_of, unmade_by, Unmade, Written, PlanSaid, EditSaid, KeptSaid, NumbersSmall, EditCall}
 use Rattle.editor.specs.EditLaws.{TableHead, kept-end, kept-head, remaining, placed_from, Prepares, walk_answer, MadeBy, plan-sizes}
 use Rattle.editor.specs.declared.Answer.{Answer}
-use Rattle.editor.specs.declared.Head.{Head}
-use Rattle.editor.specs.declared.Head.TheVariants.{Read, Unread}
 use Rattle.editor.specs.declared.Prepared.{Prepared}
 
 -- ---- after a walk
@@ -72,38 +60,31 @@ walk-rechecked T h K S S₁ P {w} {n} {Q} k p c walks =
 
 -- ---- the first call
 
--- What a check answers that is refused so.
-abbrev refused_as : Refusal → Checked
-refused_as x = record { verdict = said.Refused x; report = record { words = no_words } }
-
-refuses-as : (x : Refusal) → Refuses x (refused_as x)
-refuses-as x = record { verdict = refl; report = refl }
-
-no-layout : (xs : List Refusal) {l : Layout} {x : Refusal} → l ≡ verdict xs → l ≡ layout-variant.Refused x → xs ≡ [] → ⊥
+no-layout : (xs : List Refusal) {l : Result (Unit {0}) Refusal} {x : Refusal} → l ≡ verdict xs → l ≡ Err x → xs ≡ [] → ⊥
 unfolding verdict
 no-layout xs e p z = let o = rw z at e in let i : ◌≡◌ {A = ℕ} 0 1 = cc in omega arith
 
-same-sections : (T : List ℤ) (h g : Sections) → form_of T ≡ form.WellFormed h → Passing T g → h ≡ g
-same-sections T h g f q = let z : form.WellFormed h ≡ form.WellFormed g = sym f ∙ q.form in cc
+same-sections : (T : List ℤ) (h g : Sections) → form_of T ≡ Ok h → Passing T g → h ≡ g
+same-sections T h g f q = let z : Ok h ≡ Ok g = sym f ∙ q.form in cc
 
 module _ (T : List ℤ) (K S : List ℕ) {r : Answer} where
   -- It does not pass, whatever refuses it.
-  start-refused : {x : Refusal} → ((h : Sections) → Passing T h → ⊥) → Judged [] T [] (said.Refused x) → r ≡ unmade_by (length T) x → Started T K S r S
+  start-refused : {x : Refusal} → ((h : Sections) → Passing T h → ⊥) → Judged [] T [] (Err x) → r ≡ unmade_by (length T) x → Started T K S r S
   start-refused {x} n j e = rw e (record { words = refl; taken = λ h p. absurd (n h p); refused = λ p. (j, refl, refl, refl) })
 
-  pub start-form : {f : Form} {x : Refusal} → f ≡ form_of T → f ≡ form.Refused x → r ≡ unmade_by (length T) x → Started T K S r S
+  pub start-form : {f : Result Sections Refusal} {x : Refusal} → f ≡ form_of T → f ≡ Err x → r ≡ unmade_by (length T) x → Started T K S r S
   start-form {f} {x} e p =
       start-refused
-      (λ h q. let z : form.Refused x ≡ form.WellFormed h = sym p ∙ e ∙ q.form in let o : ◌≡◌ {A = ℕ} 0 1 = cc in absurd (omega arith))
-      (form-refused T [] e {c = refused_as x} p (refuses-as x)).0
+      (λ h q. let z : Err x ≡ Ok h = sym p ∙ e ∙ q.form in let o : ◌≡◌ {A = ℕ} 0 1 = cc in absurd (omega arith))
+      (form-refused T [] e p).0
 
-  module _ {h : Sections} (f : form_of T ≡ form.WellFormed h) where
-    pub start-layout : {l : Layout} {x : Refusal} → l ≡ verdict (layout T h) → l ≡ layout-variant.Refused x → r ≡ unmade_by (length T) x → Started T K S r S
+  module _ {h : Sections} (f : form_of T ≡ Ok h) where
+    pub start-layout : {l : Result (Unit {0}) Refusal} {x : Refusal} → l ≡ verdict (layout T h) → l ≡ Err x → r ≡ unmade_by (length T) x → Started T K S r S
     start-layout {l} {x} e p =
         start-refused (λ g q. no-layout (layout T h) e p (let z = same-sections T h g f q in rw z q.laid))
-        (form-checked T [] (sym f) {c = refused_as x} refl refl (layout-refused [] T h [] e p (refuses-as x))).0
+        (form-checked T [] (sym f) {c = Err x} refl refl (layout-refused [] T h [] e p)).0
 
-    pub start-walked : {l : Layout} {S₁ Q : List ℕ} {w : rewalk.Rewalked} → l ≡ verdict (layout T h) → l ≡ layout-variant.LaidOut
+    pub start-walked : {l : Result (Unit {0}) Refusal} {S₁ Q : List ℕ} {w : rewalk.Rewalked} → l ≡ verdict (layout T h) → l ≡ Ok tt
         → Restored S (take 0 (places S)) S₁ → Rewalks T h K S₁ w Q → r ≡ walk_answer (length T) w → Started T K S r Q
     unfolding last_of Ascending
     start-walked {l} {S₁} {Q} {w} a b d walks e =
@@ -128,10 +109,10 @@ abbrev table_in : List ℤ → Sections → List ℤ
 table_in B h = take (table_end h) B
 
 -- The table and the sections of a session are those that were read.
-same : (B : List ℤ) (S : List ℕ) {d : Head} {h : Sections} → d ≡ head_of B → d ≡ Read h → (L : ℕ) (g : Sections) → L ≤ length B → Kept (take L B) g S
+same : (B : List ℤ) (S : List ℕ) {d : Option Sections} {h : Sections} → d ≡ head_of B → d ≡ Some h → (L : ℕ) (g : Sections) → L ≤ length B → Kept (take L B) g S
     → (h ≡ g) × (take L B ≡ table_in B h) × Kept (table_in B h) h S
 same B S {d} {h} head i L g l k =
-    let o : Read h ≡ Read g = sym i ∙ (head ∙ kept-head B L l k.form) in
+    let o : Some h ≡ Some g = sym i ∙ (head ∙ kept-head B L l k.form) in
     let z : h ≡ g = cc in
     let y : take L B ≡ table_in B h = ap (λ (n : ℕ). take n B) (kept-end B L l k.form ∙ ap table_end (sym z)) in
     (z, y, rw (y, sym z) at k)
@@ -141,15 +122,15 @@ there : (T : List ℤ) (h : Sections) (S : List ℕ) (at : ℕ) (e : Edit) → K
 there T h S at e k = placed-position T h k.laid (walk_from T h S k at) at (from-before T h S k at) e
 
 module _ (B : List ℤ) (at : ℕ) (e : Edit) (X : List ℤ) (K S : List ℕ) {r : Answer} where
-  pub call-unread : {d : Head} → d ≡ head_of B → d ≡ Unread → r ≡ unmade_by 0 (EditPosition at) → EditCall B at e X K S r B S
+  pub call-unread : {d : Option Sections} → d ≡ head_of B → d ≡ None → r ≡ unmade_by 0 (EditPosition at) → EditCall B at e X K S r B S
   call-unread {d} i j v = record {
     any = let z = sym i ∙ j in rw z (record { answer = v; buffer = refl; store = refl });
     kept = λ L h l k.
-        let z : Unread ≡ Read h = sym j ∙ (i ∙ kept-head B L l k.form) in let o : ◌≡◌ {A = ℕ} 0 1 = cc in absurd (omega arith);
+        let z : None ≡ Some h = sym j ∙ (i ∙ kept-head B L l k.form) in let o : ◌≡◌ {A = ℕ} 0 1 = cc in absurd (omega arith);
     small = λ l. unmade-small v (record { place-small = l; pointer-small = omega arith });
   }
 
-  module _ {d : Head} {h : Sections} (head : d ≡ head_of B) (i : d ≡ Read h) {u : Prepared}
+  module _ {d : Option Sections} {h : Sections} (head : d ≡ head_of B) (i : d ≡ Some h) {u : Prepared}
       (prepares : Prepares (take (table_end h) B) (length B) h S at e X u) where
     -- From what is said of the plan by the code's test to the promise.
     call : {B' : List ℤ} {S' : List ℕ} → PlanSaid (plan_of (placed_from (table_in B h) h S at e) (table_in B h) (length B) h at e X) B h at X S r B' S'
@@ -165,16 +146,16 @@ module _ (B : List ℤ) (at : ℕ) (e : Edit) (X : List ℤ) (K S : List ℕ) {r
       small = n;
     }
 
-    pub call-refused : {x : Refusal} → u.plan ≡ Refused x → r ≡ unmade_by (table_end h) x → EditCall B at e X K S r B S
+    pub call-refused : {x : Refusal} → u.plan ≡ Err x → r ≡ unmade_by (table_end h) x → EditCall B at e X K S r B S
     call-refused {x} j v =
-        let z : plan_of (placed_from (table_in B h) h S at e) (table_in B h) (length B) h at e X ≡ Refused x = sym prepares.plan ∙ j in
+        let z : plan_of (placed_from (table_in B h) h S at e) (table_in B h) (length B) h at e X ≡ Err x = sym prepares.plan ∙ j in
         let o : Unmade B S (table_end h) x r B S = record { answer = v; buffer = refl; store = refl } in
         call (rw z o) (λ k. rw z o) (λ l. unmade-small v (plan-small (placed_from (table_in B h) h S at e) (table_in B h) (length B) h at e X x l z))
 
-    pub call-made : {m k : ℕ} {B' : List ℤ} {S' : List ℕ} → TableHead B h → u.plan ≡ Change m k → MadeBy B h at m k X K S u.held r B' S'
+    pub call-made : {m k : ℕ} {B' : List ℤ} {S' : List ℕ} → TableHead B h → u.plan ≡ Ok (splice m k) → MadeBy B h at m k X K S u.held r B' S'
         → EditCall B at e X K S r B' S'
     call-made {m} {k} {B'} {S'} t j w =
-        let z : plan_of (placed_from (table_in B h) h S at e) (table_in B h) (length B) h at e X ≡ Change m k = sym prepares.plan ∙ j in
+        let z : plan_of (placed_from (table_in B h) h S at e) (table_in B h) (length B) h at e X ≡ Ok (splice m k) = sym prepares.plan ∙ j in
         let v = w.answer in
         let o : Written B h at m k X r B' = record { taken = ap (λ (a : Answer). a.taken) v; words = ap (λ (a : Answer). a.length) v; buffer = w.buffer } in
         call (rw z o) (λ q. rw z (o, checked q z)) (λ l. small l z)
@@ -182,7 +163,7 @@ module _ (B : List ℤ) (at : ℕ) (e : Edit) (X : List ℤ) (K S : List ℕ) {r
         stays : Restored S (remaining S at) w.dropped
         stays = let y = prepares.held in rw y at w.drops
 
-        small : at < 2 ^ 32 → plan_of (placed_from (table_in B h) h S at e) (table_in B h) (length B) h at e X ≡ Change m k → NumbersSmall r
+        small : at < 2 ^ 32 → plan_of (placed_from (table_in B h) h S at e) (table_in B h) (length B) h at e X ≡ Ok (splice m k) → NumbersSmall r
         small l z =
             let f = (plan-sizes B h S at e X m k t z).0 in
             let g = limits (edited_sections h m k) (limits-stay h m k f.limits f.few) in
@@ -192,7 +173,7 @@ module _ (B : List ℤ) (at : ℕ) (e : Edit) (X : List ℤ) (K S : List ℕ) {r
             let v = w.answer in
             rw v (record { verdict = n.0; walked = n.1; words = λ q. within (edited_sections h m k) g })
 
-        checked : Kept (table_in B h) h S → plan_of (placed_from (table_in B h) h S at e) (table_in B h) (length B) h at e X ≡ Change m k
+        checked : Kept (table_in B h) h S → plan_of (placed_from (table_in B h) h S at e) (table_in B h) (length B) h at e X ≡ Ok (splice m k)
             → Rechecked (edited (table_in B h) h at m k X) (edited_sections h m k) K (capacity S) (staying at (positions S))
             (last_of (staying at (positions S))) r S'
         checked q z =

@@ -1,15 +1,15 @@
 -- AN EDIT THAT IS MADE keeps what calls leave: the edited table passes causes 1 to 6, and a walk from nothing over it comes to each place at or before the
 -- edit.
 -- So the walk from the last of them has the verdict of a check from nothing (`rechecked`).
-use Rattle.std.specs.Prelude.{ℕ, zero, suc, ◌+◌, ◌-◌, ◌*◌, ◌/◌, ◌<◌, ◌≤◌, ◌≡◌, refl, Bool, true, false, ◌&&◌, cond, List, [], ◌∷◌, ℤ, length, get_or, take, eqb}
-use Rattle.std.specs.Prelude.{ltb}
+use Rattle.std.specs.Prelude.{ℕ, zero, suc, ◌+◌, ◌-◌, ◌*◌, ◌/◌, ◌<◌, ◌≤◌, ◌≡◌, refl, Bool, true, false, ◌&&◌, cond, List, [], ◌∷◌, ℤ, length, get_or, take}
+use Rattle.std.specs.Prelude.{eqb, Ok}
+use Rattle.std.specs.Prelude.{ltb, Ok}
 use Rattle.std.proofs.Common.{sym, ◌∙◌, ap, arith, ltb-false, eq-eqb}
 use Rattle.words.specs.Sections.{in_limits, table_end}
 use Rattle.words.specs.declared.sections.Sections.{Sections}
 use Rattle.statements.specs.Statements.{statement_at}
 use Rattle.table.specs.Form.{form_of}
 use Rattle.table.specs.FormLaws.{directory-limits}
-use Rattle.table.specs.declared.Form.TheVariants as form
 use Rattle.blocks.specs.Tree.{Block, nil, tree}
 use Rattle.blocks.specs.Layout.{layout}
 use Rattle.blocks.specs.Shape.{Laid}
@@ -22,12 +22,10 @@ use Rattle.edits.specs.EditedLaws.{Fits}
 use Rattle.edits.specs.EditLaws.{right-text, span-least}
 use Rattle.edits.specs.FormKept.{tested, well-tested, tested-after}
 use Rattle.edits.specs.TextLaws.{text-block, text-laid, edited-form}
-use Rattle.edits.specs.declared.Text.TheVariants as text
-use Rattle.plans.specs.Plans.{removed_by, plan_of}
-use Rattle.plans.specs.PlanLaws.{Placed, planned, right-only}
+use Rattle.plans.specs.Plans.{removed_by, plan_of, splice}
+use Rattle.plans.specs.PlanLaws.{Placed, planned, right-only, same-splice}
 use Rattle.plans.specs.declared.Edit.{Edit}
 use Rattle.plans.specs.declared.Edit.TheVariants.{Insert, Replace, Remove, Unknown}
-use Rattle.plans.specs.declared.Plan.TheVariants.{Change}
 use Rattle.places.specs.Positions.{staying, positions, Ascending}
 use Rattle.places.specs.Places.{Place, place_of, places, up_to, last_place}
 use Rattle.places.specs.Reached.{Reached}
@@ -49,7 +47,7 @@ stay-before P at = take-before P (up_to P at) at (λ j i. up-to-before P at j i)
 
 -- The table and the places after the edit.
 pub record Ready (U : List ℤ) (g : Sections) (P : List Place) : Type 0 where
-  pub form : form_of U ≡ form.WellFormed g
+  pub form : form_of U ≡ Ok g
   pub laid : layout U g ≡ []
   pub reached : AllReached U g P
 
@@ -78,7 +76,7 @@ module _ (T : List ℤ) (h : Sections) (S : List ℕ) (k : Kept T h S) (at : ℕ
       go false q = let z : at ≡ h.statements = omega (arith, ltb-false at h.statements q) in rw z (end-cut T h k.laid)
 
   module _ (m : ℕ) (X : List ℤ) (c : Cut T h 0 0 at h.statements) (e : Cut T h 0 at (at + m) h.statements) where
-    text-ready : Fits h at m (length X / 7) → text_of (text_table T h X) (text_sections h X) (length X) ≡ text.Right
+    text-ready : Fits h at m (length X / 7) → text_of (text_table T h X) (text_sections h X) (length X) ≡ Ok tt
         → Ready (edited T h at m (length X / 7) X) (edited_sections h m (length X / 7)) stay
     text-ready fits t =
         let right = right-text (text_table T h X) (text_sections h X) (length X) t in
@@ -104,7 +102,7 @@ module _ (T : List ℤ) (h : Sections) (S : List ℕ) (k : Kept T h S) (at : ℕ
 
   -- Where the plan is to change the table, the edited table is ready for the walk from the last place that stays.
   pub edit-ready : {m k : ℕ} (there : Bool) (room : ℕ) (e : Edit) (X : List ℤ) → Fits h at m k
-      → Placed T h (last_place stay).position at (removed_by e (span_of (statement_at T h at))) → plan_of there T room h at e X ≡ Change m k
+      → Placed T h (last_place stay).position at (removed_by e (span_of (statement_at T h at))) → plan_of there T room h at e X ≡ Ok (splice m k)
       → Ready (edited T h at m k X) (edited_sections h m k) stay
   edit-ready {m} {k} there room Insert X u g p =
       let q = planned there T room h at Insert X m k p in
@@ -124,10 +122,10 @@ module _ (T : List ℤ) (h : Sections) (S : List ℕ) (k : Kept T h S) (at : ℕ
   edit-ready {m} {k} there room Remove X u g p =
       let s = span_of (statement_at T h at) in
       let q = planned there T room h at Remove X m k p in
-      let o : Change s 0 ≡ Change m k = q.kind in
+      let o = same-splice q.kind in
       let c = at_cut g.lands g.within in
-      let i : s ≡ m = cc in
-      let j : 0 ≡ k = cc in
+      let i = o.0 in
+      let j = o.1 in
       rw (sym i, sym j) (removed-ready s X c (span-cut c (omega (arith, g.some, span-least (statement_at T h at))) refl) (rw (sym i, sym j) at u))
   edit-ready {m} {k} there room Unknown X u g p =
       let z = (planned there T room h at Unknown X m k p).kind in let o : ◌≡◌ {A = ℕ} 0 1 = cc in absurd (omega arith)

@@ -1,5 +1,7 @@
 -- Laws by which the calls of the editor are proved.
-use Rattle.std.specs.Prelude.{ℕ, zero, suc, ◌+◌, ◌-◌, ◌*◌, ◌/◌, ◌<◌, ◌≤◌, Bool, ◌&&◌, List, [], ◌∷◌, ◌++◌, ℤ, pos, get_or, take, drop, eqb, leb, ltb}
+use Rattle.std.specs.Prelude.{ℕ, zero, suc, ◌+◌, ◌-◌, ◌*◌, ◌/◌, ◌<◌, ◌≤◌, Bool, ◌&&◌, List, [], ◌∷◌, ◌++◌, ℤ, pos, get_or, take, drop, eqb, leb, ltb, Ok}
+use Rattle.std.specs.Prelude.{Result}
+use Rattle.std.specs.Prelude.{None, Ok, Option, Some}
 use Rattle.std.proofs.Math.Path.{◌≡◌, refl, sym, ap}
 use Rattle.std.proofs.Common.{◌∙◌, pos_of_ne-zero, length-append, get_or-take, length-take-le, take_at}
 use Rattle.std.proofs.Math.Bool.{true, false, cond}
@@ -19,7 +21,6 @@ use Rattle.table.specs.Variables.{object_at}
 use Rattle.table.specs.Form.{four_pairs, sections_of, directory_right, object_right, lowest_object, lowest_from, form_of}
 use Rattle.table.specs.FormLaws.{directory-limits}
 use Rattle.table.specs.Searches.{holds-below}
-use Rattle.table.specs.declared.Form.TheVariants.{WellFormed}
 use Rattle.rules.specs.Ranges.{Measured}
 use Rattle.rules.specs.Verdict.{environment_of}
 use Rattle.rules.specs.Stored.{new_state}
@@ -29,11 +30,10 @@ use Rattle.edits.specs.Edited.{edited_sections, edited}
 use Rattle.edits.specs.EditedLaws.{Fits, start-least, object-stays, edited-long}
 use Rattle.edits.specs.FormKept.{tested, directory-end}
 use Rattle.edits.specs.EditLaws.{edited-take}
-use Rattle.plans.specs.Plans.{removed_by, is_position, plan_of}
+use Rattle.plans.specs.Plans.{removed_by, is_position, plan_of, splice}
 use Rattle.plans.specs.PlanLaws.{placed, is-placed, planned, plan-fits}
 use Rattle.plans.specs.declared.Edit.{Edit}
-use Rattle.plans.specs.declared.Plan.{Plan}
-use Rattle.plans.specs.declared.Plan.TheVariants.{Change, Refused}
+use Rattle.plans.specs.declared.Splice.{Splice}
 use Rattle.places.specs.Positions.{place_count, position_at, capacity, positions, staying}
 use Rattle.places.specs.Places.{Place, place_of, places, up_to, last_place}
 use Rattle.places.specs.StoreLaws.{Restored, places-long, places-at}
@@ -47,8 +47,6 @@ use Rattle.editor.specs.EditPlaces.{placed-position}
 use Rattle.editor.specs.EditKept.{Ready, stay, walk_from, from-before, edit-ready}
 use Rattle.editor.specs.Editor.{head_right, head_as, head_of, unmade_by, Unmade, Written, PlanSaid, EditSaid, KeptSaid, EditCall}
 use Rattle.editor.specs.declared.Answer.{Answer}
-use Rattle.editor.specs.declared.Head.{Head}
-use Rattle.editor.specs.declared.Head.TheVariants.{Read, Unread}
 use Rattle.editor.specs.declared.Prepared.{Prepared}
 
 -- ---- the head of a table: its directory and its objects
@@ -93,36 +91,36 @@ module _ (T : List ℤ) (h : Sections) where
 
 -- The tests of the code, in turn.
 module _ (B : List ℤ) {h : Sections} (e : h ≡ sections_of B) where
-  said-as : (k : Head) → k ≡ head_as B h → k ≡ head_of B
+  said-as : (k : Option Sections) → k ≡ head_as B h → k ≡ head_of B
   unfolding head_of
   said-as k p = p ∙ ap (head_as B) e
 
-  pub head-outside : {b : Bool} → b ≡ in_limits h → b ≡ false → Unread ≡ head_of B
-  head-outside i q = said-as Unread (rw (sym i ∙ q))
+  pub head-outside : {b : Bool} → b ≡ in_limits h → b ≡ false → None ≡ head_of B
+  head-outside i q = said-as None (rw (sym i ∙ q))
 
   module _ {b : Bool} (i : b ≡ in_limits h) (within : b ≡ true) {n : ℕ} (end : n ≡ table_end h) where
-    pub head-long : length B < n → Unread ≡ head_of B
-    head-long q = said-as Unread (rw (sym i ∙ within, sym end, lt-leb n (length B) q))
+    pub head-long : length B < n → None ≡ head_of B
+    head-long q = said-as None (rw (sym i ∙ within, sym end, lt-leb n (length B) q))
 
     module _ (fits : n ≤ length B) {c : Bool} (right : c ≡ head_right (take n B) h) where
-      pub head-wrong : c ≡ false → Unread ≡ head_of B
-      head-wrong q = let z = rw end at right in said-as Unread (rw (sym i ∙ within, sym end, le-leb n (length B) fits, end, sym z ∙ q))
+      pub head-wrong : c ≡ false → None ≡ head_of B
+      head-wrong q = let z = rw end at right in said-as None (rw (sym i ∙ within, sym end, le-leb n (length B) fits, end, sym z ∙ q))
 
-      pub head-here : c ≡ true → Read h ≡ head_of B
-      head-here q = let z = rw end at right in said-as (Read h) (rw (sym i ∙ within, sym end, le-leb n (length B) fits, end, sym z ∙ q))
+      pub head-here : c ≡ true → Some h ≡ head_of B
+      head-here q = let z = rw end at right in said-as (Some h) (rw (sym i ∙ within, sym end, le-leb n (length B) fits, end, sym z ∙ q))
 
 -- What a head that is read says of the buffer.
 pub record TableHead (B : List ℤ) (h : Sections) : Type 0 where
   pub fits : table_end h ≤ length B
   pub read : HeadRead (take (table_end h) B) h
 
-pub table-head : (B : List ℤ) (h : Sections) → head_of B ≡ Read h → TableHead B h
+pub table-head : (B : List ℤ) (h : Sections) → head_of B ≡ Some h → TableHead B h
 unfolding head_of
 table-head B h e = go (sections_of B) (in_limits (sections_of B)) refl (leb (table_end (sections_of B)) (length B)) refl
     (head_right (take (table_end (sections_of B)) B) (sections_of B)) refl e
   where
     go : (g : Sections) (a : Bool) → in_limits g ≡ a → (b : Bool) → leb (table_end g) (length B) ≡ b → (c : Bool) → head_right (take (table_end g) B) g ≡ c
-        → cond (a && (b && c)) (Read g) Unread ≡ Read h → TableHead B h
+        → cond (a && (b && c)) (Some g) None ≡ Some h → TableHead B h
     go g true i true j true k q =
         let z : g ≡ h = cc in
         let r : TableHead B g = record { fits = leb-true (table_end g) (length B) j; read = head_read (take (table_end g) B) g k } in rw z at r
@@ -162,7 +160,7 @@ module _ (B : List ℤ) (L : ℕ) (within : L ≤ length B) where
       go false e = refl
 
   -- The table that passes causes 1 to 5 is the one that the buffer's directory tells.
-  module _ {h : Sections} (form : form_of (take L B) ≡ WellFormed h) where
+  module _ {h : Sections} (form : form_of (take L B) ≡ Ok h) where
     pub kept-end : L ≡ table_end h
     kept-end = sym (length-take-le L B within) ∙ directory-end (take L B) h (tested (take L B) h form).directory
 
@@ -173,7 +171,7 @@ module _ (B : List ℤ) (L : ℕ) (within : L ≤ length B) where
     start-four : four_pairs (take L B) ≡ true → 8 ≤ h.start
     start-four e = let z : h.start ≡ 8 = start-right ∙ ap (λ (b : Bool). cond b 8 6) e in omega arith
 
-    pub kept-head : head_of B ≡ Read h
+    pub kept-head : head_of B ≡ Some h
     unfolding head_of head_right
     kept-head =
         let t = tested (take L B) h form in
@@ -283,7 +281,7 @@ edited-measured T h p m k X fits f =
 
 -- A plan to change fits the table and the buffer.
 pub plan-sizes : (B : List ℤ) (h : Sections) (S : List ℕ) (at : ℕ) (e : Edit) (X : List ℤ) (m k : ℕ) → TableHead B h
-    → plan_of (placed_from (take (table_end h) B) h S at e) (take (table_end h) B) (length B) h at e X ≡ Change m k
+    → plan_of (placed_from (take (table_end h) B) h S at e) (take (table_end h) B) (length B) h at e X ≡ Ok (splice m k)
     → Fits h at m k × (table_end (edited_sections h m k) ≤ length B)
 plan-sizes B h S at e X m k t p =
     let T = take (table_end h) B in

@@ -1,29 +1,24 @@
 -- POINT 13: EDITING WITH THE VERDICT ALONGSIDE, in one page. What the first call and each edit answer and leave, and what holds after any sequence of them.
-use Rattle.std.specs.Prelude.{ℕ, ◌^◌, ◌<◌, ◌≤◌, ◌≡◌, Bool, true, false, ◌&&◌, cond, List, [], ◌++◌, ℤ, length, take, drop, leb}
+use Rattle.std.specs.Prelude.{ℕ, ◌^◌, ◌<◌, ◌≤◌, ◌≡◌, Bool, true, false, ◌&&◌, cond, List, [], ◌++◌, ℤ, length, take, drop, leb, Ok, Err, Result}
+use Rattle.std.specs.Prelude.{Err, None, Ok, Option, Result, Some}
 use Rattle.answers.specs.declared.refusals.Refusal.{Refusal}
 use Rattle.answers.specs.declared.refusals.Refusal.TheVariants.{EditPosition}
 use Rattle.words.specs.Sections.{in_limits, table_end}
 use Rattle.words.specs.declared.sections.Sections.{Sections}
 use Rattle.table.specs.Form.{sections_of, directory_right, lowest_object, form_of}
-use Rattle.table.specs.declared.Form.TheVariants.{WellFormed}
 use Rattle.blocks.specs.Tree.{tree}
 use Rattle.blocks.specs.Layout.{layout}
 use Rattle.rules.specs.Verdict.{verdict_reads}
 use Rattle.rules.specs.Small.{ReadingSmall}
 use Rattle.rules.specs.ByChains.{Judged}
-use Rattle.rules.specs.declared.Verdict.{Verdict}
-use Rattle.rules.specs.declared.Verdict.TheVariants as verdict
 use Rattle.edits.specs.TopLevel.{positions_of}
 use Rattle.edits.specs.Edited.{edited_sections, edited}
 use Rattle.plans.specs.Plans.{is_position, plan_of}
 use Rattle.plans.specs.declared.Edit.{Edit}
-use Rattle.plans.specs.declared.Plan.{Plan}
-use Rattle.plans.specs.declared.Plan.TheVariants.{Change, Refused}
+use Rattle.plans.specs.declared.Splice.{Splice}
 use Rattle.places.specs.Positions.{capacity, positions, Ascending, staying, last_of, stored, walked_from}
 use Rattle.editor.specs.Kept.{Kept}
 use Rattle.editor.specs.declared.Answer.{Answer}
-use Rattle.editor.specs.declared.Head.{Head}
-use Rattle.editor.specs.declared.Head.TheVariants.{Read, Unread}
 
 -- T is the table, h its sections, K the positions that the call names, S the store before it and Q after it, r the answer.
 
@@ -43,7 +38,7 @@ pub record Rechecked (T : List ℤ) (h : Sections) (K : List ℕ) (n : ℕ) (P :
 
 -- "It starts from a routine that passes 1 to 6"
 pub record Passing (T : List ℤ) (h : Sections) : Type 0 where
-  pub form : form_of T ≡ WellFormed h
+  pub form : form_of T ≡ Ok h
   pub laid : layout T h ≡ []
 
 pub record Started (T : List ℤ) (K S : List ℕ) (r : Answer) (Q : List ℕ) : Type 0 where
@@ -58,15 +53,15 @@ pub record Started (T : List ℤ) (K S : List ℕ) (r : Answer) (Q : List ℕ) :
 unfoldable pub head_right : List ℤ → Sections → Bool
 head_right T h = directory_right T h && leb h.objects (lowest_object T h)
 
-abbrev pub head_as : List ℤ → Sections → Head
-head_as B h = cond (in_limits h && (leb (table_end h) (length B) && head_right (take (table_end h) B) h)) (Read h) Unread
+abbrev pub head_as : List ℤ → Sections → Option Sections
+head_as B h = cond (in_limits h && (leb (table_end h) (length B) && head_right (take (table_end h) B) h)) (Some h) None
 
-unfoldable pub head_of : List ℤ → Head
+unfoldable pub head_of : List ℤ → Option Sections
 head_of B = head_as B (sections_of B)
 
 -- An edit that is refused: "Table, store and verdict then stay, and the count is 0."
 abbrev pub unmade_by : ℕ → Refusal → Answer
-unmade_by n x = record { taken = false; length = n; verdict = verdict.Refused x; walked = 0 }
+unmade_by n x = record { taken = false; length = n; verdict = Err x; walked = 0 }
 
 pub record Unmade (B : List ℤ) (S : List ℕ) (n : ℕ) (x : Refusal) (r : Answer) (B' : List ℤ) (S' : List ℕ) : Type 0 where
   pub answer : r ≡ unmade_by n x
@@ -80,19 +75,19 @@ pub record Written (B : List ℤ) (h : Sections) (at m k : ℕ) (X : List ℤ) (
   pub buffer : B' ≡ edited (take (table_end h) B) h at m k X ++ drop (table_end (edited_sections h m k)) B
 
 -- Whatever the words of buffer and store are.
-abbrev pub PlanSaid : Plan → List ℤ → Sections → ℕ → List ℤ → List ℕ → Answer → List ℤ → List ℕ → Type 0
-PlanSaid (Refused x) B h at X S r B' S' = Unmade B S (table_end h) x r B' S'
-PlanSaid (Change m k) B h at X S r B' S' = Written B h at m k X r B'
+abbrev pub PlanSaid : Result Splice Refusal → List ℤ → Sections → ℕ → List ℤ → List ℕ → Answer → List ℤ → List ℕ → Type 0
+PlanSaid (Err x) B h at X S r B' S' = Unmade B S (table_end h) x r B' S'
+PlanSaid (Ok p) B h at X S r B' S' = Written B h at p.removed p.added X r B'
 
-abbrev pub EditSaid : Head → List ℤ → ℕ → Edit → List ℤ → List ℕ → Answer → List ℤ → List ℕ → Type 0
-EditSaid Unread B at e X S r B' S' = Unmade B S 0 (EditPosition at) r B' S'
-EditSaid (Read h) B at e X S r B' S' = (there : Bool) × PlanSaid (plan_of there (take (table_end h) B) (length B) h at e X) B h at X S r B' S'
+abbrev pub EditSaid : Option Sections → List ℤ → ℕ → Edit → List ℤ → List ℕ → Answer → List ℤ → List ℕ → Type 0
+EditSaid None B at e X S r B' S' = Unmade B S 0 (EditPosition at) r B' S'
+EditSaid (Some h) B at e X S r B' S' = (there : Bool) × PlanSaid (plan_of there (take (table_end h) B) (length B) h at e X) B h at X S r B' S'
 
 -- Where the store is one that calls leave: "from the last stored place at or before the edit (else the start)"; "an edit drops those behind it".
-abbrev pub KeptSaid : Plan → List ℤ → Sections → ℕ → List ℤ → List ℕ → List ℕ → Answer → List ℤ → List ℕ → Type 0
-KeptSaid (Refused x) B h at X K S r B' S' = Unmade B S (table_end h) x r B' S'
-KeptSaid (Change m k) B h at X K S r B' S' = Written B h at m k X r B'
-    × Rechecked (edited (take (table_end h) B) h at m k X) (edited_sections h m k) K (capacity S)
+abbrev pub KeptSaid : Result Splice Refusal → List ℤ → Sections → ℕ → List ℤ → List ℕ → List ℕ → Answer → List ℤ → List ℕ → Type 0
+KeptSaid (Err x) B h at X K S r B' S' = Unmade B S (table_end h) x r B' S'
+KeptSaid (Ok p) B h at X K S r B' S' = Written B h at p.removed p.added X r B'
+    × Rechecked (edited (take (table_end h) B) h at p.removed p.added X) (edited_sections h p.removed p.added) K (capacity S)
     (staying at (positions S)) (last_of (staying at (positions S))) r S'
 
 -- The place, the pointer and the statements walked are 32-bit numbers, as the words of an answer are; "up to 7,704 words in all" has a table that is taken.
@@ -115,13 +110,15 @@ pub record EditCall (B : List ℤ) (at : ℕ) (e : Edit) (X : List ℤ) (K S : L
 -- ---- any sequence of calls
 
 -- "After any edits, if nobody else writes the table or the store": the buffer, the words of the table in it, the store, and the verdict told last.
-pub data Session : List ℤ → ℕ → List ℕ → Verdict → Type 0 where
+pub data Session : List ℤ → ℕ → List ℕ → Result (Unit {0}) Refusal → Type 0 where
   begun : (B : List ℤ) (L : ℕ) {K S : List ℕ} {r : Answer} {Q : List ℕ} → Started (take L B) K S r Q → r.taken ≡ true → Session B r.length Q r.verdict
-  made : {B : List ℤ} {L : ℕ} {S : List ℕ} {v : Verdict} {at : ℕ} {e : Edit} {X : List ℤ} {K : List ℕ} {r : Answer} {B' : List ℤ} {S' : List ℕ}
+  made : {B : List ℤ} {L : ℕ} {S : List ℕ} {v : Result
+      (Unit {0}) Refusal} {at : ℕ} {e : Edit} {X : List ℤ} {K : List ℕ} {r : Answer} {B' : List ℤ} {S' : List ℕ}
       → Session B L S v → EditCall B at e X K S r B' S' → r.taken ≡ true → Session B' r.length S' r.verdict
-  unmade : {B : List ℤ} {L : ℕ} {S : List ℕ} {v : Verdict} {at : ℕ} {e : Edit} {X : List ℤ} {K : List ℕ} {r : Answer} {B' : List ℤ} {S' : List ℕ}
+  unmade : {B : List ℤ} {L : ℕ} {S : List ℕ} {v : Result
+      (Unit {0}) Refusal} {at : ℕ} {e : Edit} {X : List ℤ} {K : List ℕ} {r : Answer} {B' : List ℤ} {S' : List ℕ}
       → Session B L S v → EditCall B at e X K S r B' S' → r.taken ≡ false → Session B' L S' v
 
 -- "the verdict and its place equal a check of the present table from nothing" (`session-judged`, SessionLaws).
 abbrev pub SessionJudged : Type 0
-SessionJudged = (B : List ℤ) (L : ℕ) (S : List ℕ) (v : Verdict) → Session B L S v → Judged [] (take L B) [] v
+SessionJudged = (B : List ℤ) (L : ℕ) (S : List ℕ) (v : Result (Unit {0}) Refusal) → Session B L S v → Judged [] (take L B) [] v

@@ -1,5 +1,5 @@
 -- Laws of what calls leave: the places that stay, and those that a walk from the last of them keeps.
-use Rattle.std.specs.Prelude.{ℕ, zero, suc, ◌+◌, ◌-◌, ◌<◌, ◌≤◌, ◌≡◌, Bool, ◌&&◌, cond, ℤ, length, get_or, take}
+use Rattle.std.specs.Prelude.{ℕ, zero, suc, ◌+◌, ◌-◌, ◌<◌, ◌≤◌, ◌≡◌, Bool, ◌&&◌, cond, ℤ, length, get_or, take, Ok, Result}
 use Rattle.std.proofs.Math.Path.{refl, sym}
 use Rattle.std.proofs.Common.{◌∙◌, ap, ap₂, arith, le-ltb}
 use Rattle.std.proofs.Math.Bool.{true, false}
@@ -9,7 +9,6 @@ use Rattle.facts.specs.declared.FactSet.{FactSet}
 use Rattle.answers.specs.declared.refusals.Refusal.{Refusal}
 use Rattle.words.specs.declared.sections.Sections.{Sections}
 use Rattle.table.specs.Form.{form_of}
-use Rattle.table.specs.declared.Form.TheVariants as form
 use Rattle.blocks.specs.Tree.{Block, nil, plain, branch, loop, bundle, call, unread, tree}
 use Rattle.blocks.specs.Layout.{also, layout}
 use Rattle.blocks.specs.Shape.{size, Laid}
@@ -19,7 +18,6 @@ use Rattle.rules.specs.Stored.{new_state, block_after, block_faults}
 use Rattle.rules.specs.Verdict.{environment_of, verdict_of}
 use Rattle.rules.specs.ByChains.{Judged}
 use Rattle.rules.specs.declared.Environment.{Environment}
-use Rattle.rules.specs.declared.Verdict.{Verdict}
 use Rattle.edits.specs.TopLevel.{is_in, positions_of}
 use Rattle.edits.specs.Followed.{followed, laid-followed, laid-clear}
 use Rattle.edits.specs.Cuts.{Cut, first, rest, first-laid, rest-laid}
@@ -59,7 +57,7 @@ module _ (T : List ℤ) (h : Sections) where
   pub reached-laid : {q : ℕ} {w : State FactSet} → Reached T h q w → Laid T h 0 q h.statements (rest_of T h q)
   reached-laid {q} p = let e = reached-rest p h.statements (omega arith) in rw e p.cut.back-laid
 
-  pub rest-judged : {q : ℕ} {w : State FactSet} {v : Verdict} → Reached T h q w → form_of T ≡ form.WellFormed h
+  pub rest-judged : {q : ℕ} {w : State FactSet} {v : Result (Unit {0}) Refusal} → Reached T h q w → form_of T ≡ Ok h
       → v ≡ verdict_of (block_faults (environment_of T h) [] [] (rest_of T h q) w) → Judged [] T [] v
   rest-judged {q} {w} p f e =
       reached-judged p f (e ∙ ap (λ (b : Block). verdict_of (block_faults (environment_of T h) [] [] b w)) (reached-rest p h.statements (omega arith)))
@@ -141,7 +139,7 @@ unfolding layout_from
 from-laid T h q l = rw (le-ltb h.statements q (omega (arith, l.ends))) (laid-clear l h.statements (omega arith))
 
 -- The verdict from a store that calls have left, and what the walk leaves.
-pub record Rewalked (T : List ℤ) (h : Sections) (K S : List ℕ) (v : Verdict) (n : ℕ) (Q : List ℕ) : Type 0 where
+pub record Rewalked (T : List ℤ) (h : Sections) (K S : List ℕ) (v : Result (Unit {0}) Refusal) (n : ℕ) (Q : List ℕ) : Type 0 where
   pub judged : Judged [] T [] v
   pub walked : n ≡ walked_from T h (last_of (positions S)) v
   pub positions : positions Q ≡ stored K (capacity S) v (positions_of (tree T h)) (positions S)

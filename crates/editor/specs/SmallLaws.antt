@@ -1,5 +1,7 @@
 -- The place, the pointer and the statements walked that the editor answers are small, whatever the words of the store are.
-use Rattle.std.specs.Prelude.{ℕ, ◌+◌, ◌-◌, ◌*◌, ◌/◌, ◌^◌, ◌<◌, ◌≤◌, ◌⊎◌, Bool, ◌&&◌, leb, ltb, ℤ}
+use Rattle.edits.specs.declared.TextFault.TheVariants.{Record, Layout}
+use Rattle.statements.specs.declared.Statement.{Statement}
+use Rattle.std.specs.Prelude.{ℕ, ◌+◌, ◌-◌, ◌*◌, ◌/◌, ◌^◌, ◌<◌, ◌≤◌, ◌⊎◌, Bool, ◌&&◌, leb, ltb, ℤ, Err, None, Ok, Option, Result, Some}
 use Rattle.std.proofs.Math.Path.{◌≡◌, refl}
 use Rattle.std.proofs.Common.{sym, ap, ◌∙◌, inl, inr, eq-or-lt_of_le}
 use Rattle.std.proofs.Math.Logic.{⊎_elim}
@@ -18,12 +20,8 @@ use Rattle.statements.specs.StatementLaws.{read-counts-if, read-counts-while, re
 use Rattle.statements.specs.Statements.{statement_at}
 use Rattle.statements.specs.declared.Simple.{Simple}
 use Rattle.statements.specs.declared.Statement.TheVariants.{Plain, If, While, Bundle, Call}
-use Rattle.statements.specs.declared.StatementRead.{StatementRead}
-use Rattle.statements.specs.declared.StatementRead.TheVariants as statement
 use Rattle.table.specs.Form.{form_of}
 use Rattle.table.specs.FormLaws.{well-formed}
-use Rattle.table.specs.declared.Form.{Form}
-use Rattle.table.specs.declared.Form.TheVariants as form
 use Rattle.blocks.specs.Tree.{Block, nil, plain, branch, loop, bundle, call, unread, tree}
 use Rattle.blocks.specs.Layout.{block_layout, layout}
 use Rattle.blocks.specs.Shape.{size, Numbered, ReadsLine, Reads, Laid}
@@ -32,16 +30,12 @@ use Rattle.rules.specs.Stored.{store, block_faults}
 use Rattle.rules.specs.Verdict.{environment_of, verdict_reads}
 use Rattle.rules.specs.Small.{RefusalSmall, FirstSmall, ReadingSmall, one-small, also-small, verdict-small}
 use Rattle.rules.proofs.SmallLaws.{block-layout-small, block-small, judged-small}
-use Rattle.rules.specs.declared.Verdict.{Verdict}
-use Rattle.rules.specs.declared.Verdict.TheVariants.{Accepted, Refused}
 use Rattle.edits.specs.TopLevel.{span_of}
 use Rattle.edits.specs.Edited.{is_empty, text_sections, text_table, text_of}
-use Rattle.edits.specs.declared.Text.{Text}
-use Rattle.edits.specs.declared.Text.TheVariants as text
+use Rattle.edits.specs.declared.TextFault.{TextFault}
 use Rattle.plans.specs.Plans.{removed_by, words_by, kind_plan, plan_of}
 use Rattle.plans.specs.declared.Edit.{Edit}
 use Rattle.plans.specs.declared.Edit.TheVariants.{Insert, Replace, Remove, Unknown}
-use Rattle.plans.specs.declared.Plan.TheVariants as plan
 use Rattle.places.specs.Positions.{begun_to, walked_from}
 use Rattle.places.specs.Places.{Place}
 use Rattle.rewalks.specs.Walking.{rest_of}
@@ -57,7 +51,7 @@ within h w = omega (arith, w.start, w.objects, w.variables, w.statements, w.rows
 -- ---- an edit that is not made: each refusal gives the position
 
 pub plan-small : (there : Bool) (T : List ℤ) (room : ℕ) (h : Sections) (at : ℕ) (e : Edit) (X : List ℤ) (x : Refusal) → at < 2 ^ 32
-    → plan_of there T room h at e X ≡ plan.Refused x → RefusalSmall x
+    → plan_of there T room h at e X ≡ Err x → RefusalSmall x
 unfolding plan_of
 plan-small there T room h at e X x l p =
     let m = removed_by e (span_of (statement_at T h at)) in
@@ -74,14 +68,14 @@ plan-small there T room h at e X x l p =
     at-layout : BlockLayout at ≡ x → RefusalSmall x
     at-layout z = rw (sym z) (record { place-small = l; pointer-small = omega arith })
 
-    go : (b : Bool) (e : Edit) (t : Text) (m k : ℕ) → cond b (kind_plan at e t m k) (plan.Refused (EditPosition at)) ≡ plan.Refused x → RefusalSmall x
+    go : (b : Bool) (e : Edit) (t : Result (Unit {0}) TextFault) (m k : ℕ) → cond b (kind_plan at e t m k) (Err (EditPosition at)) ≡ Err x → RefusalSmall x
     go false e t m k q = at_position (cc)
-    go true Insert text.Right m k q = let z : ◌≡◌ {A = ℕ} 0 1 = cc in absurd (omega arith)
-    go true Insert text.Record m k q = at-record (cc)
-    go true Insert text.Layout m k q = at-layout (cc)
-    go true Replace text.Right m k q = let z : ◌≡◌ {A = ℕ} 0 1 = cc in absurd (omega arith)
-    go true Replace text.Record m k q = at-record (cc)
-    go true Replace text.Layout m k q = at-layout (cc)
+    go true Insert (Ok tt) m k q = let z : ◌≡◌ {A = ℕ} 0 1 = cc in absurd (omega arith)
+    go true Insert (Err Record) m k q = at-record (cc)
+    go true Insert (Err Layout) m k q = at-layout (cc)
+    go true Replace (Ok tt) m k q = let z : ◌≡◌ {A = ℕ} 0 1 = cc in absurd (omega arith)
+    go true Replace (Err Record) m k q = at-record (cc)
+    go true Replace (Err Layout) m k q = at-layout (cc)
     go true Remove t m k q = let z : ◌≡◌ {A = ℕ} 0 1 = cc in absurd (omega arith)
     go true Unknown t m k q = at_position (cc)
 
@@ -95,7 +89,7 @@ either_side x y = go (ltb x y) (λ q. ltb-true x y q) (λ q. ltb-false x y q)
     go false p q = inr (q refl)
 
 module _ (T : List ℤ) (h : Sections) where
-  span-here : {a b : ℕ} {s : StatementRead} → b ≡ a → statement_at T h b ≡ s → span_of (statement_at T h a) ≡ span_of s
+  span-here : {a b : ℕ} {s : Option Statement} → b ≡ a → statement_at T h b ≡ s → span_of (statement_at T h a) ≡ span_of s
   span-here e r = ap span_of (ap (statement_at T h) (sym e) ∙ r)
 
   line-span : (ss : List Simple) (lo a : ℕ) → ReadsLine T h lo ss → lo ≤ a → a < lo + length ss → span_of (statement_at T h a) ≡ 1
@@ -141,19 +135,19 @@ module _ (T : List ℤ) (h : Sections) where
   span-within (unread b) lo a n r p q = absurd n
 
   -- Its counts are 31-bit numbers.
-  span-few : (a : ℕ) (s : StatementRead) → statement_at T h a ≡ s → span_of s < 2 ^ 32
-  span-few a (statement.Read (Plain s)) e = omega arith
-  span-few a (statement.Read (Call c)) e = omega arith
-  span-few a (statement.Read (If c n m)) e = let k = read-counts-if T h a c n m e in omega (arith, k.0, k.1)
-  span-few a (statement.Read (While c n)) e = omega (arith, read-counts-while T h a c n e)
-  span-few a (statement.Read (Bundle n)) e = omega (arith, read-counts-bundle T h a n e)
-  span-few a statement.Unread e = omega arith
+  span-few : (a : ℕ) (s : Option Statement) → statement_at T h a ≡ s → span_of s < 2 ^ 32
+  span-few a (Some (Plain s)) e = omega arith
+  span-few a (Some (Call c)) e = omega arith
+  span-few a (Some (If c n m)) e = let k = read-counts-if T h a c n m e in omega (arith, k.0, k.1)
+  span-few a (Some (While c n)) e = omega (arith, read-counts-while T h a c n e)
+  span-few a (Some (Bundle n)) e = omega (arith, read-counts-bundle T h a n e)
+  span-few a None e = omega arith
 
   module _ (w : Limits h) where
-    walked-small : (q : ℕ) (t : Block) (v : Verdict) → q ≤ h.statements → Laid T h 0 q h.statements t → walked_from T h q v < 2 ^ 32
+    walked-small : (q : ℕ) (t : Block) (v : Result (Unit {0}) Refusal) → q ≤ h.statements → Laid T h 0 q h.statements t → walked_from T h q v < 2 ^ 32
     unfolding begun_to
-    walked-small q t Accepted l s = omega (arith, w.statements)
-    walked-small q t (Refused r) l s = go (ltb (place r) h.statements) (λ z. ltb-true _ _ z)
+    walked-small q t (Ok tt) l s = omega (arith, w.statements)
+    walked-small q t (Err r) l s = go (ltb (place r) h.statements) (λ z. ltb-true _ _ z)
       where
         few : span_of (statement_at T h (place r)) < 2 ^ 32
         few = span-few (place r) (statement_at T h (place r)) refl
@@ -228,16 +222,16 @@ started-small T r s = by_form (form_of T) refl
           words = λ q. omega (arith, s.words, f.long, within h w);
         }
 
-    by_layout : (h : Sections) → form_of T ≡ form.WellFormed h → (fs : List Refusal) → layout T h ≡ fs → NumbersSmall r
+    by_layout : (h : Sections) → form_of T ≡ Ok h → (fs : List Refusal) → layout T h ≡ fs → NumbersSmall r
     by_layout h f [] e = taken h (record { form = f; laid = e })
     by_layout h f (x ∷ xs) e =
         refused (λ g p.
-        let z : form.WellFormed h ≡ form.WellFormed g = sym f ∙ p.form in
+        let z : Ok h ≡ Ok g = sym f ∙ p.form in
         let i : g ≡ h = cc in
         let y : layout T h ≡ [] = rw i at p.laid in
         let o : ◌≡◌ {A = ℕ} 0 1 = cc in absurd (omega arith))
 
-    by_form : (f : Form) → form_of T ≡ f → NumbersSmall r
-    by_form (form.Refused x) e =
-        refused (λ g p. let z : form.Refused x ≡ form.WellFormed g = sym e ∙ p.form in let o : ◌≡◌ {A = ℕ} 0 1 = cc in absurd (omega arith))
-    by_form (form.WellFormed h) e = by_layout h e (layout T h) refl
+    by_form : (f : Result Sections Refusal) → form_of T ≡ f → NumbersSmall r
+    by_form (Err x) e =
+        refused (λ g p. let z : Err x ≡ Ok g = sym e ∙ p.form in let o : ◌≡◌ {A = ℕ} 0 1 = cc in absurd (omega arith))
+    by_form (Ok h) e = by_layout h e (layout T h) refl

@@ -1,10 +1,9 @@
 // The editor: a routine table edited with the verdict alongside (point 13).
 #![tactic(auto)]
 
-ghost use Rattle.std.specs.Prelude.{◌≡◌, true, ◌≤◌, length, take};
+ghost use Rattle.std.specs.Prelude.{◌≡◌, true, ◌≤◌, length, take, Ok};
 ghost use Rattle.words.specs.Sections.{in_limits, Limits, table_end};
 ghost use Rattle.table.specs.Form.{form_of};
-ghost use Rattle.table.specs.declared.Form.TheVariants.{WellFormed};
 ghost use Rattle.edits.specs.Edited.{edited_sections};
 ghost use Rattle.edits.specs.EditedLaws.{Fits};
 ghost use Rattle.places.specs.Positions.{place_count};
@@ -13,13 +12,12 @@ ghost use Rattle.editor.specs.Editor.{head_right, head_of, unmade_by, Started, E
 ghost use Rattle.editor.specs.EditLaws.{Lengths, walk_answer, Prepares, MadeBy};
 
 use answers::refusals::Refusal;
-use blocks::{Layout, read_layout};
+use blocks::read_layout;
 use edits::{edited_sections, write_edited};
 use places::{keep_first, position_at, up_to};
-use plans::{Edit, Plan, plan_edit};
+use plans::{Edit, Splice, plan_edit};
 use rewalks::{Rewalked, rewalk};
-use rules::Verdict;
-use table::{Form, directory_right, lowest_object, read_form, sections_of};
+use table::{directory_right, lowest_object, read_form, sections_of};
 use words::sections::{Sections, in_limits};
 
 // What a call answers: whether the table was taken or edited; its words now; the verdict on it, or why it was not taken or the edit not made; and how many
@@ -28,22 +26,15 @@ use words::sections::{Sections, in_limits};
 pub struct Answer {
     pub taken: bool,
     pub length: usize,
-    pub verdict: Verdict,
+    pub verdict: Result<(), Refusal>,
     pub walked: usize,
-}
-
-// The directory and the objects of a table, read.
-#[derive(Clone, Copy)]
-enum Head {
-    Read(Sections),
-    Unread,
 }
 
 // How many places stay, and the plan.
 #[derive(Clone, Copy)]
 struct Prepared {
     held: usize,
-    plan: Plan,
+    plan: Result<Splice, Refusal>,
 }
 
 // The answer where nothing changes.
@@ -53,7 +44,7 @@ fn refuse(length: usize, refusal: Refusal) -> Answer
     Answer {
         taken: false,
         length,
-        verdict: Verdict::Refused(refusal),
+        verdict: Err(refusal),
         walked: 0,
     }
 }
@@ -73,14 +64,14 @@ fn answer_of(length: usize, walk: Rewalked) -> Answer
 
 // The first walk over a table that passes causes 1 to 5.
 fn start_walk(table: &[i32], sections: Sections, keep: &[u32], store: &mut [u64]) -> Answer
-    requires { form_of table.now ≡ WellFormed sections }
+    requires { form_of table.now ≡ Ok sections }
     ensures { Started table.now keep.now store.old result store.new }
 {
     let size = table.len();
     let layout = read_layout(table, sections);
     match layout {
-        Layout::Refused(refusal) => refuse(size, refusal),
-        Layout::LaidOut => {
+        Err(refusal) => refuse(size, refusal),
+        Ok(()) => {
             keep_first(store, 0);
             let walk = rewalk(table, sections, keep, store);
             answer_of(size, walk)
@@ -94,8 +85,8 @@ pub fn start(table: &[i32], keep: &[u32], store: &mut [u64]) -> Answer
 {
     let form = read_form(table);
     match form {
-        Form::Refused(refusal) => refuse(table.len(), refusal),
-        Form::WellFormed(sections) => start_walk(table, sections, keep, store),
+        Err(refusal) => refuse(table.len(), refusal),
+        Ok(sections) => start_walk(table, sections, keep, store),
     }
 }
 
@@ -122,21 +113,21 @@ fn end_of(sections: Sections) -> usize
 }
 
 // The sections of the table at the front of the buffer. What an edit leaves is known to read, so that only the directory and the objects are looked at.
-fn read_head(buffer: &[i32]) -> Head
+fn read_head(buffer: &[i32]) -> Option<Sections>
     ensures { result ≡ head_of buffer.now }
 {
     let sections = sections_of(buffer);
     if !in_limits(sections) {
-        return Head::Unread;
+        return None;
     }
     let end = end_of(sections);
     if end > buffer.len() {
-        return Head::Unread;
+        return None;
     }
     if !head_right(&buffer[..end], sections) {
-        return Head::Unread;
+        return None;
     }
-    Head::Read(sections)
+    Some(sections)
 }
 
 // The position of the last of the first `held` places, else the start.
@@ -208,7 +199,7 @@ pub fn edit_table(
 {
     let room = buffer.len();
     let head = read_head(buffer);
-    let Head::Read(sections) = head else {
+    let Some(sections) = head else {
         return refuse(0, Refusal::EditPosition(at));
     };
     let size = end_of(sections);
@@ -216,9 +207,9 @@ pub fn edit_table(
     let held = prepared.held;
     let plan = prepared.plan;
     match plan {
-        Plan::Change { removed, added } => make_edit(
+        Ok(Splice { removed, added }) => make_edit(
             buffer, sections, at, removed, added, text, keep, store, held,
         ),
-        Plan::Refused(refusal) => refuse(size, refusal),
+        Err(refusal) => refuse(size, refusal),
     }
 }

@@ -1,6 +1,9 @@
 -- Laws by which the code of an edit is proved.
+use Rattle.edits.specs.declared.TextFault.TheVariants.{Record, Layout}
+use Rattle.statements.specs.declared.Statement.{Statement}
 use Rattle.std.specs.Prelude.{ℕ, zero, suc, ◌+◌, ◌-◌, ◌*◌, ◌/◌, ◌^◌, ◌<◌, ◌≤◌, ◌≡◌, refl, Bool, true, false, ◌&&◌, cond, List, [], ◌∷◌, ◌++◌, ℤ, pos, length}
-use Rattle.std.specs.Prelude.{get_or, set, take, drop, eqb, ltb}
+use Rattle.std.specs.Prelude.{Ok, Err, Result}
+use Rattle.std.specs.Prelude.{get_or, set, take, drop, eqb, ltb, Err, None, Ok, Option, Result, Some}
 use Rattle.std.proofs.Common.{sym, ◌∙◌, ap, arith, sub-one, pos_of_ne-zero, length-append, length-set, length-take, length-drop, ext_get_or, get_or-take}
 use Rattle.std.proofs.Common.{get_or-drop, get_or-append-add, get_or-set_same, get_or-set_other}
 use borrow.Author.Tests.{eqb-true, eqb-false, eq-eqb, ne_eqb, ltb-true, ltb-false, lt-ltb, le-ltb}
@@ -18,8 +21,6 @@ use Rattle.conditions.specs.declared.Condition.{Condition}
 use Rattle.statements.specs.declared.CallSite.{CallSite}
 use Rattle.statements.specs.declared.Simple.{Simple}
 use Rattle.statements.specs.declared.Statement.TheVariants.{Plain, If, While, Bundle, Call}
-use Rattle.statements.specs.declared.StatementRead.{StatementRead}
-use Rattle.statements.specs.declared.StatementRead.TheVariants.{Read, Unread}
 use Rattle.table.specs.Form.{lowest_statement}
 use Rattle.blocks.specs.Tree.{Block, nil, plain, branch, loop, bundle, call, unread, parse, tree}
 use Rattle.blocks.specs.Layout.{layout}
@@ -27,15 +28,11 @@ use Rattle.blocks.specs.LayoutLaws.{none-refused}
 use Rattle.blocks.specs.Parts.{verdict}
 use Rattle.blocks.specs.Shape.{size, Numbered, Laid}
 use Rattle.blocks.specs.ShapeLaws.{table-laid}
-use Rattle.blocks.specs.declared.Layout.{Layout}
-use Rattle.blocks.specs.declared.Layout.TheVariants as layout-variant
 use Rattle.edits.specs.TopLevel.{positions_of, single, span_of}
 use Rattle.edits.specs.Cuts.{landing, first, span-laid}
 use Rattle.edits.specs.Edited.{edited_sections, edited_word, edited, is_empty, text_of}
 use Rattle.edits.specs.EditedLaws.{Fits, start-least}
-use Rattle.edits.specs.declared.Text.{Text}
-use Rattle.edits.specs.declared.Text.TheVariants.{Right, Record}
-use Rattle.edits.specs.declared.Text.TheVariants as text
+use Rattle.edits.specs.declared.TextFault.{TextFault}
 
 -- ---- a loop that writes at the index
 
@@ -49,13 +46,13 @@ over-at {A} {d} {old} {new} {at} {i} {v} {a} p q r e =
 
 -- ---- spans
 
-pub span-least : (s : StatementRead) → 1 ≤ span_of s
-span-least (Read (Plain s)) = omega arith
-span-least (Read (Call s)) = omega arith
-span-least (Read (If c n m)) = omega arith
-span-least (Read (While c n)) = omega arith
-span-least (Read (Bundle n)) = omega arith
-span-least Unread = omega arith
+pub span-least : (s : Option Statement) → 1 ≤ span_of s
+span-least (Some (Plain s)) = omega arith
+span-least (Some (Call s)) = omega arith
+span-least (Some (If c n m)) = omega arith
+span-least (Some (While c n)) = omega arith
+span-least (Some (Bundle n)) = omega arith
+span-least None = omega arith
 
 -- ---- landing
 
@@ -136,33 +133,33 @@ unfolding is_empty
 emptied [] e = refl
 emptied (x ∷ xs) e = cc
 
-no-empty : (xs : List Refusal) {l : Layout} {r : Refusal} → l ≡ verdict xs → l ≡ layout-variant.Refused r → is_empty xs ≡ false
+no-empty : (xs : List Refusal) {l : Result (Unit {0}) Refusal} {r : Refusal} → l ≡ verdict xs → l ≡ Err r → is_empty xs ≡ false
 unfolding verdict is_empty
 no-empty [] e p = cc
 no-empty (x ∷ xs) e p = refl
 
 module _ (U : List ℤ) (g : Sections) (n : ℕ) where
-  pub text-record : lowest_statement U g < g.statements → Record ≡ text_of U g n
+  pub text-record : lowest_statement U g < g.statements → (Err Record) ≡ text_of U g n
   unfolding text_of
   text-record p = rw (lt-ltb (lowest_statement U g) g.statements p)
 
   module _ (reads : g.statements ≤ lowest_statement U g) where
-    pub text-words : (n ≡ 7 * g.statements → ⊥) → text.Layout ≡ text_of U g n
+    pub text-words : (n ≡ 7 * g.statements → ⊥) → (Err Layout) ≡ text_of U g n
     unfolding text_of
     text-words p = rw (le-ltb (lowest_statement U g) g.statements reads, ne_eqb n (7 * g.statements) p)
 
     module _ (words : n ≡ 7 * g.statements) where
-      pub text-refused : {l : Layout} {r : Refusal} → l ≡ verdict (layout U g) → l ≡ layout-variant.Refused r → text.Layout ≡ text_of U g n
+      pub text-refused : {l : Result (Unit {0}) Refusal} {r : Refusal} → l ≡ verdict (layout U g) → l ≡ Err r → (Err Layout) ≡ text_of U g n
       unfolding text_of
       text-refused e p =
           rw (le-ltb (lowest_statement U g) g.statements reads, eq-eqb n (7 * g.statements) words, no-empty (layout U g) e p)
 
-      module _ {l : Layout} (e : l ≡ verdict (layout U g)) (p : l ≡ layout-variant.LaidOut) where
+      module _ {l : Result (Unit {0}) Refusal} (e : l ≡ verdict (layout U g)) (p : l ≡ Ok tt) where
         empty : is_empty (layout U g) ≡ true
         unfolding is_empty
         empty = let z = none-refused (layout U g) l e p in rw z
 
-        pub text-none : g.statements ≡ 0 → text.Layout ≡ text_of U g n
+        pub text-none : g.statements ≡ 0 → (Err Layout) ≡ text_of U g n
         unfolding text_of
         text-none z =
             rw (le-ltb (lowest_statement U g) g.statements reads, eq-eqb n (7 * g.statements) words, empty, single-none U g z)
@@ -171,12 +168,12 @@ module _ (U : List ℤ) (g : Sections) (n : ℕ) where
           one : single (tree U g) ≡ eqb s g.statements
           one = rw spans (single-laid U g (none-refused (layout U g) l e p) (pos_of_ne-zero some))
 
-          pub text-more : (s ≡ g.statements → ⊥) → text.Layout ≡ text_of U g n
+          pub text-more : (s ≡ g.statements → ⊥) → (Err Layout) ≡ text_of U g n
           unfolding text_of
           text-more q =
               rw (le-ltb (lowest_statement U g) g.statements reads, eq-eqb n (7 * g.statements) words, empty, one, ne_eqb s g.statements q)
 
-          pub text-right : s ≡ g.statements → Right ≡ text_of U g n
+          pub text-right : s ≡ g.statements → Ok tt ≡ text_of U g n
           unfolding text_of
           text-right q =
               rw (le-ltb (lowest_statement U g) g.statements reads, eq-eqb n (7 * g.statements) words, empty, one, eq-eqb s g.statements q)
@@ -188,12 +185,12 @@ pub record TextRight (U : List ℤ) (g : Sections) (n : ℕ) : Type 0 where
   pub laid : layout U g ≡ []
   pub one : single (tree U g) ≡ true
 
-pub right-text : (U : List ℤ) (g : Sections) (n : ℕ) → text_of U g n ≡ Right → TextRight U g n
+pub right-text : (U : List ℤ) (g : Sections) (n : ℕ) → text_of U g n ≡ Ok tt → TextRight U g n
 unfolding text_of
 right-text U g n e = go (ltb (lowest_statement U g) g.statements) refl (eqb n (7 * g.statements)) refl (is_empty (layout U g)) refl (single (tree U g)) refl e
   where
     go : (a : Bool) → ltb (lowest_statement U g) g.statements ≡ a → (b : Bool) → eqb n (7 * g.statements) ≡ b → (c : Bool) → is_empty (layout U g) ≡ c
-        → (d : Bool) → single (tree U g) ≡ d → cond a Record (cond (b && (c && d)) Right text.Layout) ≡ Right → TextRight U g n
+        → (d : Bool) → single (tree U g) ≡ d → cond a (Err Record) (cond (b && (c && d)) (Ok (tt {0})) (Err Layout)) ≡ Ok (tt {0}) → TextRight U g n
     go true p b q c r d s e = let z : ◌≡◌ {A = ℕ} 0 1 = cc in absurd (omega arith)
     go false p true q true r true s e = record {
       words = eqb-true n (7 * g.statements) q;
@@ -250,22 +247,22 @@ module _ (T : List ℤ) (h : Sections) (a : ℕ) where
   abbrev pub Spans : ℕ → Type 0
   Spans r = (r ≡ span_of (statement_at T h a)) × (1 ≤ r) × (r < 2 ^ 33)
 
-  pub span-unread : statement_at T h a ≡ Unread → Spans 1
+  pub span-unread : statement_at T h a ≡ None → Spans 1
   span-unread e = (rw e, omega arith, omega arith)
 
-  pub span-plain : {s : Simple} → statement_at T h a ≡ Read (Plain s) → Spans 1
+  pub span-plain : {s : Simple} → statement_at T h a ≡ Some (Plain s) → Spans 1
   span-plain e = (rw e, omega arith, omega arith)
 
-  pub span-call : {c : CallSite} → statement_at T h a ≡ Read (Call c) → Spans 1
+  pub span-call : {c : CallSite} → statement_at T h a ≡ Some (Call c) → Spans 1
   span-call e = (rw e, omega arith, omega arith)
 
-  pub span-if : {c : Condition} {n m : ℕ} → statement_at T h a ≡ Read (If c n m) → Spans (1 + n + m)
+  pub span-if : {c : Condition} {n m : ℕ} → statement_at T h a ≡ Some (If c n m) → Spans (1 + n + m)
   span-if {c} {n} {m} e = let z = read-counts-if T h a c n m e in (rw e, omega arith, omega (arith, z.0, z.1))
 
-  pub span-while : {c : Condition} {n : ℕ} → statement_at T h a ≡ Read (While c n) → Spans (1 + n)
+  pub span-while : {c : Condition} {n : ℕ} → statement_at T h a ≡ Some (While c n) → Spans (1 + n)
   span-while {c} {n} e = let z = read-counts-while T h a c n e in (rw e, omega arith, omega arith)
 
-  pub span-bundle : {n : ℕ} → statement_at T h a ≡ Read (Bundle n) → Spans (1 + n)
+  pub span-bundle : {n : ℕ} → statement_at T h a ≡ Some (Bundle n) → Spans (1 + n)
   span-bundle {n} e = let z = read-counts-bundle T h a n e in (rw e, omega arith, omega arith)
 
 -- The text's table, made in an array.

@@ -1,5 +1,6 @@
 -- Point 13: "insert, replace or remove one top-level statement with its blocks": the table after an edit.
-use Rattle.std.specs.Prelude.{ℕ, ◌+◌, ◌-◌, ◌*◌, ◌/◌, Bool, true, false, ◌&&◌, cond, List, [], ◌∷◌, ℤ, pos, length, get_or, eqb, ltb}
+use Rattle.edits.specs.declared.TextFault.TheVariants.{Record, Layout}
+use Rattle.std.specs.Prelude.{ℕ, ◌+◌, ◌-◌, ◌*◌, ◌/◌, Bool, true, false, ◌&&◌, cond, List, [], ◌∷◌, ℤ, pos, length, get_or, eqb, ltb, Ok, Err, Result}
 use Rattle.arrays.specs.Tabulate.{tabulate}
 use Rattle.words.specs.Sections.{statement_start, rows_start, table_end}
 use Rattle.words.specs.declared.sections.Sections.{Sections}
@@ -8,8 +9,7 @@ use Rattle.table.specs.Form.{lowest_statement}
 use Rattle.blocks.specs.Tree.{tree}
 use Rattle.blocks.specs.Layout.{layout}
 use Rattle.edits.specs.TopLevel.{single}
-use Rattle.edits.specs.declared.Text.{Text}
-use Rattle.edits.specs.declared.Text.TheVariants.{Right, Record, Layout}
+use Rattle.edits.specs.declared.TextFault.{TextFault}
 
 -- The sections once m statements have made room for k others.
 abbrev pub edited_sections : Sections → ℕ → ℕ → Sections
@@ -44,7 +44,7 @@ is_empty (r ∷ rs) = false
 
 -- "Then a new text that breaks 5, is not exactly one statement with its blocks (6) or breaks 6 is refused with that number": of a text of n words, as a table.
 -- (5 over all whole records; a text that is no whole number of records, or empty, is not exactly one statement.)
-unfoldable pub text_of : List ℤ → Sections → ℕ → Text
+unfoldable pub text_of : List ℤ → Sections → ℕ → Result (Unit {0}) TextFault
 text_of U g n =
-    cond (ltb (lowest_statement U g) g.statements) Record
-    (cond (eqb n (7 * g.statements) && (is_empty (layout U g) && single (tree U g))) Right Layout)
+    cond (ltb (lowest_statement U g) g.statements) (Err Record)
+    (cond (eqb n (7 * g.statements) && (is_empty (layout U g) && single (tree U g))) (Ok tt) (Err Layout))

@@ -1,5 +1,5 @@
 -- The words of an edited table, and what its records read as.
-use Rattle.std.specs.Prelude.{ℕ, zero, suc, ◌+◌, ◌-◌, ◌*◌, ◌<◌, ◌≤◌, ◌≡◌, Bool, ◌&&◌, ◌||◌, List, ℤ, pos, get_or, length, eqb, leb}
+use Rattle.std.specs.Prelude.{ℕ, zero, suc, ◌+◌, ◌-◌, ◌*◌, ◌<◌, ◌≤◌, ◌≡◌, Bool, ◌&&◌, ◌||◌, List, ℤ, pos, get_or, length, eqb, leb, None}
 use Rattle.std.proofs.Math.Path.{refl, ap}
 use Rattle.std.proofs.Common.{sym, ◌∙◌}
 use Rattle.std.proofs.Math.Bool.{true, false, cond}
@@ -14,12 +14,8 @@ use Rattle.words.specs.Sections.{start_right, in_limits, Limits, object_start, v
 use Rattle.words.specs.Sections.{kind_of, kind_at, object_terminated}
 use Rattle.words.specs.SectionsLaws.{both, limits}
 use Rattle.words.specs.declared.sections.Sections.{Sections}
-use Rattle.words.specs.declared.sections.KindRead.TheVariants.{Unread}
 use Rattle.statements.specs.Statements.{kind_read, statement_at}
-use Rattle.statements.specs.declared.StatementRead.TheVariants as statement
 use Rattle.table.specs.Variables.{end_words_at, variable_words_at, row_words_at, variable_of, variable_at, row_of, row_at, object_cells, object_at}
-use Rattle.table.specs.declared.variables.VariableRead.TheVariants as variable
-use Rattle.table.specs.declared.variables.RowRead.TheVariants as row
 use Rattle.edits.specs.Followed.{Agree}
 use Rattle.edits.specs.SameDeclared.{SameDeclared, kind-read, variable-of, row-of}
 use Rattle.edits.specs.Edited.{edited_sections, edited_word, edited}
@@ -136,7 +132,7 @@ module _ (T : List ℤ) (h : Sections) (p m k : ℕ) (X : List ℤ) (fits : Fits
   unfolding kind_at is_variable
   kind-stays v = rw (limits-after, fits.limits) (go (ltb v h.variables) refl)
     where
-      go : (b : Bool) → ltb v h.variables ≡ b → cond b (kind_of (word U (variable_start h v))) Unread ≡ cond b (kind_of (word T (variable_start h v))) Unread
+      go : (b : Bool) → ltb v h.variables ≡ b → cond b (kind_of (word U (variable_start h v))) None ≡ cond b (kind_of (word T (variable_start h v))) None
       go true e = let q = ltb-true v h.variables e in ap kind_of (declared-word (variable_start h v) (omega arith) (omega arith))
       go false e = refl
 
@@ -177,8 +173,8 @@ module _ (T : List ℤ) (h : Sections) (p m k : ℕ) (X : List ℤ) (fits : Fits
   unfolding variable_at is_variable
   variable-stays v = rw (limits-after, fits.limits) (go (ltb v h.variables) refl)
     where
-      go : (b : Bool) → ltb v h.variables ≡ b → cond b (variable_of U g (variable_words_at U (variable_start h v))) variable.Unread
-          ≡ cond b (variable_of T h (variable_words_at T (variable_start h v))) variable.Unread
+      go : (b : Bool) → ltb v h.variables ≡ b → cond b (variable_of U g (variable_words_at U (variable_start h v))) None
+          ≡ cond b (variable_of T h (variable_words_at T (variable_start h v))) None
       go true e =
           let q = ltb-true v h.variables e in
           ap (variable_of U g) (variable-words v q) ∙ variable-of declared-stays T (variable_start h v)
@@ -211,8 +207,8 @@ module _ (T : List ℤ) (h : Sections) (p m k : ℕ) (X : List ℤ) (fits : Fits
   unfolding row_at
   row_stays r = rw (limits-after, fits.limits) (go (ltb r h.rows) refl)
     where
-      go : (b : Bool) → ltb r h.rows ≡ b → cond b (row_of U g (row_words_at U (row_start g r))) row.Unread
-          ≡ cond b (row_of T h (row_words_at T (row_start h r))) row.Unread
+      go : (b : Bool) → ltb r h.rows ≡ b → cond b (row_of U g (row_words_at U (row_start g r))) None
+          ≡ cond b (row_of T h (row_words_at T (row_start h r))) None
       go true e = let q = ltb-true r h.rows e in ap (row_of U g) (row_words r q) ∙ row-of declared-stays T (row_start h r)
       go false e = refl
 

@@ -1,6 +1,6 @@
 -- Blocks one after the other, and blocks at other numbers. A block that is laid out is the one tree that its records give, whatever the fuel: so a tree may
 -- be cut between two top-level statements, and its parts put together again, elsewhere too.
-use Rattle.std.specs.Prelude.{ℕ, zero, suc, ◌+◌, ◌-◌, ◌<◌, ◌≤◌, ◌≡◌, refl, Bool, true, false, List, [], ◌∷◌, ℤ}
+use Rattle.std.specs.Prelude.{ℕ, zero, suc, ◌+◌, ◌-◌, ◌<◌, ◌≤◌, ◌≡◌, refl, Bool, true, false, List, [], ◌∷◌, ℤ, Some}
 use Rattle.std.proofs.Math.Path.{sym}
 use Rattle.std.proofs.Common.{◌∙◌, ap, ap₂, arith, sub-one, add-one, le-ltb}
 use Rattle.std.proofs.Math.ListN.{length}
@@ -9,7 +9,6 @@ use Rattle.conditions.specs.declared.Condition.{Condition}
 use Rattle.statements.specs.declared.Simple.{Simple}
 use Rattle.statements.specs.declared.Statement.{Statement}
 use Rattle.statements.specs.declared.Statement.TheVariants.{Plain, If, While, Bundle}
-use Rattle.statements.specs.declared.StatementRead.TheVariants.{Read}
 use Rattle.statements.specs.Statements.{statement_at}
 use Rattle.answers.specs.declared.refusals.Refusal.{Refusal}
 use Rattle.blocks.specs.Tree.{Block, nil, plain, branch, loop, bundle, call, unread, simples, parse}
@@ -264,7 +263,7 @@ module _ (T : List ℤ) (h : Sections) where
   parsed (unread x) l a b e p n r = absurd n
 
   -- The layout of one statement that reads, at a depth that is allowed.
-  kind-here : (l d a b : ℕ) (s : Statement) → 0 < l → a < b → d ≤ max_depth → statement_at T h a ≡ Read s
+  kind-here : (l d a b : ℕ) (s : Statement) → 0 < l → a < b → d ≤ max_depth → statement_at T h a ≡ Some s
       → block_layout l T h d a b ≡ kind_layout s (λ e x y. block_layout (l - 1) T h e x y) T h d a b
   kind-here l d a b s p q w e = block-some l T h d a b _ p q e ∙ skip _ _ _ (le-ltb _ _ w)
 

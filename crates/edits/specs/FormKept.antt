@@ -1,5 +1,5 @@
 -- An edited table passes causes 1 to 6 again, where the table passed them and the text does where it stands: so the form is not walked again.
-use Rattle.std.specs.Prelude.{ℕ, zero, suc, ◌+◌, ◌-◌, ◌*◌, ◌/◌, ◌<◌, ◌≤◌, ◌≡◌, Bool, ◌&&◌, ◌||◌, cond, List, [], ℤ, pos, length}
+use Rattle.std.specs.Prelude.{ℕ, zero, suc, ◌+◌, ◌-◌, ◌*◌, ◌/◌, ◌<◌, ◌≤◌, ◌≡◌, Bool, ◌&&◌, ◌||◌, cond, List, [], ℤ, pos, length, Err, Ok, Result, is_some}
 use Rattle.std.proofs.Math.Path.{refl, ap}
 use Rattle.std.proofs.Common.{sym, ◌∙◌, ap₂}
 use Rattle.std.proofs.Math.Bool.{true, false}
@@ -15,14 +15,11 @@ use Rattle.words.specs.Sections.{in_limits, Limits, variables_start, statements_
 use Rattle.words.specs.SectionsLaws.{both, limits}
 use Rattle.words.specs.declared.sections.Sections.{Sections}
 use Rattle.statements.specs.Statements.{statement_at}
-use Rattle.statements.specs.declared.StatementRead.{StatementRead}
-use Rattle.table.specs.Form.{is_number, four_pairs, length_right, sections_of, fourth_right, directory_right, object_right, variable_reads, is_variable_read}
-use Rattle.table.specs.Form.{row_reads, is_row_read, statement_reads, is_statement_read, lowest_from, lowest_object, lowest_variable, lowest_row}
+use Rattle.table.specs.Form.{is_number, four_pairs, length_right, sections_of, fourth_right, directory_right, object_right, variable_reads}
+use Rattle.table.specs.Form.{row_reads, statement_reads, lowest_from, lowest_object, lowest_variable, lowest_row}
 use Rattle.table.specs.Form.{lowest_statement}
 use Rattle.table.specs.Form.{items_form, form_of}
 use Rattle.table.specs.Searches.{holds-below}
-use Rattle.table.specs.declared.Form.{Form}
-use Rattle.table.specs.declared.Form.TheVariants.{WellFormed, Refused}
 use Rattle.edits.specs.Followed.{Agree}
 use Rattle.edits.specs.Edited.{edited_sections, edited_word, edited}
 use Rattle.edits.specs.EditedLaws.{Fits, start-cases, start-least, limits-stay, edited-long, word-at, word-stays, object-stays, variable-stays, row_stays}
@@ -39,35 +36,35 @@ pub record Tested (T : List ℤ) (h : Sections) : Type 0 where
   pub rows : ltb (lowest_row T h) h.rows ≡ false
   pub statements : ltb (lowest_statement T h) h.statements ≡ false
 
-passes : (b : Bool) (r : Refusal) (f : Form) (h : Sections) → cond b (Refused r) f ≡ WellFormed h → (b ≡ false) × (f ≡ WellFormed h)
+passes : (b : Bool) (r : Refusal) (f : Result Sections Refusal) (h : Sections) → cond b (Err r) f ≡ Ok h → (b ≡ false) × (f ≡ Ok h)
 passes true r f h e = let z : ◌≡◌ {A = ℕ} 0 1 = cc in absurd (omega arith)
 passes false r f h e = (refl, e)
 
-holds : (b : Bool) (r : Refusal) (f : Form) (h : Sections) → cond b f (Refused r) ≡ WellFormed h → (b ≡ true) × (f ≡ WellFormed h)
+holds : (b : Bool) (r : Refusal) (f : Result Sections Refusal) (h : Sections) → cond b f (Err r) ≡ Ok h → (b ≡ true) × (f ≡ Ok h)
 holds true r f h e = (refl, e)
 holds false r f h e = let z : ◌≡◌ {A = ℕ} 0 1 = cc in absurd (omega arith)
 
-items-tested : (T : List ℤ) (g h : Sections) → length_right T ≡ true → sections_of T ≡ g → directory_right T g ≡ true → items_form T g ≡ WellFormed h
+items-tested : (T : List ℤ) (g h : Sections) → length_right T ≡ true → sections_of T ≡ g → directory_right T g ≡ true → items_form T g ≡ Ok h
     → Tested T h
 unfolding items_form
 items-tested T g h l c d e =
     let o = passes (ltb (lowest_object T g) g.objects) (ObjectLength (lowest_object T g)) _ h e in
     let v = passes (ltb (lowest_variable T g) g.variables) (VariableRecord (lowest_variable T g)) _ h o.1 in
     let w = passes (ltb (lowest_row T g) g.rows) (VariableRecord (g.variables + lowest_row T g)) _ h v.1 in
-    let s = passes (ltb (lowest_statement T g) g.statements) (StatementRecord (lowest_statement T g)) (WellFormed g) h w.1 in
-    let same : WellFormed g ≡ WellFormed h = s.1 in
+    let s = passes (ltb (lowest_statement T g) g.statements) (StatementRecord (lowest_statement T g)) (Ok g) h w.1 in
+    let same : Ok g ≡ Ok h = s.1 in
     let z : g ≡ h = cc in
     let r : Tested T g = record { long = l; sections = c; directory = d; objects = o.0; variables = v.0; rows = w.0; statements = s.0 } in
     rw z at r
 
-pub tested : (T : List ℤ) (h : Sections) → form_of T ≡ WellFormed h → Tested T h
+pub tested : (T : List ℤ) (h : Sections) → form_of T ≡ Ok h → Tested T h
 unfolding form_of
 tested T h e =
     let a = holds (length_right T) Length _ h e in
     let b = holds (directory_right T (sections_of T)) Directory (items_form T (sections_of T)) h a.1 in
     items-tested T (sections_of T) h a.0 refl b.0 b.1
 
-pub well-tested : {T : List ℤ} {h : Sections} → Tested T h → form_of T ≡ WellFormed h
+pub well-tested : {T : List ℤ} {h : Sections} → Tested T h → form_of T ≡ Ok h
 unfolding form_of items_form
 well-tested t = rw (t.long, t.sections, t.directory, t.objects, t.variables, t.rows, t.statements)
 
@@ -230,11 +227,11 @@ module _ (T : List ℤ) (h : Sections) (p m k : ℕ) (X : List ℤ) (fits : Fits
   variables-after : ltb (lowest_variable U g) g.variables ≡ false
   unfolding lowest_variable variable_reads
   variables-after =
-      rw (lowest-same (variable_reads U g) (variable_reads T h) (λ v. ap is_variable_read (variable-stays T h p m k X fits v)) h.variables 0) t.variables
+      rw (lowest-same (variable_reads U g) (variable_reads T h) (λ v. ap is_some (variable-stays T h p m k X fits v)) h.variables 0) t.variables
 
   rows-after : ltb (lowest_row U g) g.rows ≡ false
   unfolding lowest_row row_reads
-  rows-after = rw (lowest-same (row_reads U g) (row_reads T h) (λ r. ap is_row_read (row_stays T h p m k X fits r)) h.rows 0) t.rows
+  rows-after = rw (lowest-same (row_reads U g) (row_reads T h) (λ r. ap is_some (row_stays T h p m k X fits r)) h.rows 0) t.rows
 
   -- Every statement of the table reads.
   each-reads : (a : ℕ) → a < h.statements → statement_reads T h a ≡ true
@@ -246,17 +243,17 @@ module _ (T : List ℤ) (h : Sections) (p m k : ℕ) (X : List ℤ) (fits : Fits
     unfolding statement_reads
     reads-after a q = go (ltb a p) refl (ltb a (p + k)) refl
       where
-        go : (x : Bool) → ltb a p ≡ x → (y : Bool) → ltb a (p + k) ≡ y → is_statement_read (statement_at U g a) ≡ true
+        go : (x : Bool) → ltb a p ≡ x → (y : Bool) → ltb a (p + k) ≡ y → is_some (statement_at U g a) ≡ true
         go true e y f =
             let i = ltb-true a p e in
             let z : 0 + a ≡ a = omega arith in
-            ap is_statement_read (rw z at ((statements-before T h p m k X fits).each a i)) ∙ each-reads a (omega (arith, fits.within))
+            ap is_some (rw z at ((statements-before T h p m k X fits).each a i)) ∙ each-reads a (omega (arith, fits.within))
         go false e true f = text a (ltb-false a p e) (ltb-true a (p + k) f)
         go false e false f =
             let i = ltb-false a (p + k) f in
             let w = fits.within in
             let z : p + k + (a - (p + k)) ≡ a = omega arith in
-            ap is_statement_read (rw z at ((statements-behind T h p m k X fits).each (a - (p + k)) (omega arith)))
+            ap is_some (rw z at ((statements-behind T h p m k X fits).each (a - (p + k)) (omega arith)))
             ∙ each-reads (p + m + (a - (p + k))) (omega arith)
 
     pub tested-after : Tested U g

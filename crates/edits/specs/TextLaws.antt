@@ -1,5 +1,5 @@
 -- A right text stands in the edited table as it stands alone: so the edited table passes causes 1 to 6 again.
-use Rattle.std.specs.Prelude.{ℕ, ◌+◌, ◌-◌, ◌*◌, ◌/◌, ◌<◌, ◌≤◌, ◌≡◌, refl, Bool, true, false, List, [], ℤ, length}
+use Rattle.std.specs.Prelude.{ℕ, ◌+◌, ◌-◌, ◌*◌, ◌/◌, ◌<◌, ◌≤◌, ◌≡◌, refl, Bool, true, false, List, [], ℤ, length, Ok, is_some}
 use Rattle.std.proofs.Common.{sym, ◌∙◌, lt-ltb}
 use Rattle.std.proofs.Math.Path.{ap}
 use native.Mathlib.Omega.{arith}
@@ -7,9 +7,8 @@ use Rattle.words.specs.Words.{word, fields_at}
 use Rattle.words.specs.Sections.{in_limits, statement_start}
 use Rattle.words.specs.declared.sections.Sections.{Sections}
 use Rattle.statements.specs.Statements.{statement_at, kind_read}
-use Rattle.table.specs.Form.{statement_reads, is_statement_read, lowest_statement, form_of}
+use Rattle.table.specs.Form.{statement_reads, lowest_statement, form_of}
 use Rattle.table.specs.Searches.{holds-below}
-use Rattle.table.specs.declared.Form.TheVariants as form
 use Rattle.blocks.specs.Tree.{Block, nil, tree}
 use Rattle.blocks.specs.Layout.{layout}
 use Rattle.blocks.specs.Shape.{Laid}
@@ -87,10 +86,10 @@ module _ (T : List ℤ) (h : Sections) (p m : ℕ) (X : List ℤ) (fits : Fits h
     text-reads a l q =
         let z : p + (a - p) ≡ a = omega arith in
         let y : 0 + (a - p) ≡ a - p = omega arith in
-        ap is_statement_read (rw (z, y) at (text-agrees.each (a - p) (omega arith))) ∙ reads-alone (a - p) (omega arith)
+        ap is_some (rw (z, y) at (text-agrees.each (a - p) (omega arith))) ∙ reads-alone (a - p) (omega arith)
 
     -- Causes 1 to 5 pass again.
-    pub edited-form : form_of T ≡ form.WellFormed h → form_of U ≡ form.WellFormed g
+    pub edited-form : form_of T ≡ Ok h → form_of U ≡ Ok g
     edited-form e = well-tested (tested-after T h p m k X fits (tested T h e) text-reads)
 
 -- A statement is removed.
@@ -98,5 +97,5 @@ module _ (T : List ℤ) (h : Sections) (p m : ℕ) (fits : Fits h p m 0) where
   pub none-standing : Laid (edited T h p m 0 []) (edited_sections h m 0) 0 p (p + 0) nil
   none-standing = let z : p + 0 ≡ p = omega arith in rw z (none-laid p)
 
-  pub removed-form : form_of T ≡ form.WellFormed h → form_of (edited T h p m 0 []) ≡ form.WellFormed (edited_sections h m 0)
+  pub removed-form : form_of T ≡ Ok h → form_of (edited T h p m 0 []) ≡ Ok (edited_sections h m 0)
   removed-form e = well-tested (tested-after T h p m 0 [] fits (tested T h e) (λ a l q. absurd (omega arith)))

@@ -1,8 +1,7 @@
 -- The top-level statements of a routine (point 13: "insert, replace or remove one top-level statement with its blocks").
-use Rattle.std.specs.Prelude.{ℕ, ◌+◌, Bool, true, false, ◌||◌, List, [], ◌∷◌, length, eqb}
+use Rattle.statements.specs.declared.Statement.{Statement}
+use Rattle.std.specs.Prelude.{ℕ, ◌+◌, Bool, true, false, ◌||◌, List, [], ◌∷◌, length, eqb, None, Option, Some}
 use Rattle.statements.specs.declared.Statement.TheVariants.{Plain, If, While, Bundle, Call}
-use Rattle.statements.specs.declared.StatementRead.{StatementRead}
-use Rattle.statements.specs.declared.StatementRead.TheVariants.{Read, Unread}
 use Rattle.blocks.specs.Tree.{Block, nil, plain, branch, loop, bundle, call, unread}
 
 -- Whether a number is in a list.
@@ -28,10 +27,10 @@ unfoldable pub single : Block → Bool
 single t = eqb (length (positions_of t)) 1
 
 -- How many statements a statement is, with its blocks, by its record. ("Counts take in nested statements".)
-abbrev pub span_of : StatementRead → ℕ
-span_of (Read (Plain s)) = 1
-span_of (Read (Call c)) = 1
-span_of (Read (If c n m)) = 1 + n + m
-span_of (Read (While c n)) = 1 + n
-span_of (Read (Bundle n)) = 1 + n
-span_of Unread = 1
+abbrev pub span_of : Option Statement → ℕ
+span_of (Some (Plain s)) = 1
+span_of (Some (Call c)) = 1
+span_of (Some (If c n m)) = 1 + n + m
+span_of (Some (While c n)) = 1 + n
+span_of (Some (Bundle n)) = 1 + n
+span_of None = 1

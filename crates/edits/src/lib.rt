@@ -11,15 +11,14 @@ ghost use Rattle.edits.specs.Edited.{edited_sections, edited_word, edited, text_
 ghost use Rattle.edits.specs.EditedLaws.{Fits};
 
 use blocks::read_layout;
-use statements::{Statement, StatementRead, read_statement};
+use statements::{Statement, read_statement};
 use table::lowest_statement;
 use words::sections::Sections;
 use words::signed::{number_word, signed_word};
 
-// What causes 5 and 6 say of a text.
+// What causes 5 and 6 find in a text.
 #[derive(Clone, Copy)]
-pub enum Text {
-    Right,
+pub enum TextFault {
     Record,
     Layout,
 }
@@ -29,26 +28,23 @@ pub fn span(table: &[i32], sections: Sections, at: usize) -> usize
     ensures { (result ≡ span_of (statement_at table.now sections at)) × (1 ≤ result) × (result < 2 ^ 33) }
 {
     let got = read_statement(table, sections, at);
-    let StatementRead::Read(statement) = got else {
+    let Some(statement) = got else {
         return 1;
     };
     match statement {
-        Statement::Plain(_) => 1,
+        Statement::Plain(_) | Statement::Call(_) => 1,
         Statement::If {
-            condition: _,
             then_count,
             else_count,
+            ..
         } => 1 + then_count + else_count,
-        Statement::While {
-            condition: _,
-            count,
-        } => 1 + count,
+        Statement::While { count, .. } => 1 + count,
         Statement::Bundle { count } => 1 + count,
-        Statement::Call(_) => 1,
     }
 }
 
 // The first number at or past `to`, from `from` on, from statement to statement.
+// No `for`: `at` goes on behind a statement's blocks, and `left` bounds the turns of the law.
 pub fn land(table: &[i32], sections: Sections, from: usize, to: usize) -> usize
     requires { to ≤ 1024 }
     ensures { result ≡ landing to table.now sections from to }
@@ -126,40 +122,38 @@ fn fill_edited(
     ensures { Overwritten (pos 0) out.old first (end - first)
         (λ i. edited_word table.now sections at removed added text.now (first + i)) out.new }
 {
-    let mut i = first;
-    while i < end {
+    for i in first..end {
         out[i] = edited_word(table, sections, at, removed, added, text, i);
-        i += 1;
     }
 }
 
 // Causes 5 and 6 of a text of `size` words that stands alone as a table.
-fn judge_text(table: &[i32], sections: Sections, size: usize) -> Text
+fn judge_text(table: &[i32], sections: Sections, size: usize) -> Result<(), TextFault>
     requires { sections.statements ≤ 1024 }
     ensures { result ≡ text_of table.now sections size }
 {
     let count = sections.statements;
     if lowest_statement(table, sections) < count {
-        return Text::Record;
+        return Err(TextFault::Record);
     }
     if size != 7 * count {
-        return Text::Layout;
+        return Err(TextFault::Layout);
     }
     let layout = read_layout(table, sections);
-    let blocks::Layout::LaidOut = layout else {
-        return Text::Layout;
+    let Ok(()) = layout else {
+        return Err(TextFault::Layout);
     };
     if count == 0 {
-        return Text::Layout;
+        return Err(TextFault::Layout);
     }
     if span(table, sections, 0) != count {
-        return Text::Layout;
+        return Err(TextFault::Layout);
     }
-    Text::Right
+    Ok(())
 }
 
 // Causes 5 and 6 of a text.
-pub fn check_text(table: &[i32], sections: Sections, text: &[i32]) -> Text
+pub fn check_text(table: &[i32], sections: Sections, text: &[i32]) -> Result<(), TextFault>
     requires { Fits sections 0 sections.statements (length text.now / 7) }
     ensures { result ≡ text_of (text_table table.now sections text.now) (text_sections sections text.now)
         (length text.now) }
@@ -181,13 +175,12 @@ pub fn check_text(table: &[i32], sections: Sections, text: &[i32]) -> Text
 }
 
 // The words `first` to `end` - 1 are those that stood `by` words before, from the last one on, so that none is lost.
+// A loop: the library has no `copy_within`.
 fn shift_up(words: &mut [i32], first: usize, end: usize, by: usize)
     requires { (first ≤ end) × (end ≤ length words.old) × (by ≤ first) }
     ensures { Overwritten (pos 0) words.old first (end - first) (λ i. get_or words.old (first + i - by) (pos 0)) words.new }
 {
-    let mut i = end;
-    while i > first {
-        i -= 1;
+    for i in (first..end).rev() {
         words[i] = words[i - by];
     }
 }
@@ -197,10 +190,8 @@ fn shift_down(words: &mut [i32], first: usize, end: usize, by: usize)
     requires { (first ≤ end) × (end + by ≤ length words.old) }
     ensures { Overwritten (pos 0) words.old first (end - first) (λ i. get_or words.old (first + i + by) (pos 0)) words.new }
 {
-    let mut i = first;
-    while i < end {
+    for i in first..end {
         words[i] = words[i + by];
-        i += 1;
     }
 }
 
@@ -223,10 +214,8 @@ fn put_text(words: &mut [i32], first: usize, count: usize, text: &[i32])
     requires { first + count ≤ length words.old }
     ensures { Overwritten (pos 0) words.old first count (λ i. get_or text.now i (pos 0)) words.new }
 {
-    let mut i = 0;
-    while i < count {
+    for i in 0..count {
         words[first + i] = signed_word(text, i);
-        i += 1;
     }
 }
 

@@ -1,9 +1,9 @@
 -- What a block assigns is what its records assign, one by one.
-use Rattle.std.specs.Prelude.{ℕ, zero, suc, ◌+◌, ◌≡◌, refl, List, [], ◌∷◌, ◌++◌, ℤ, length}
+use Rattle.statements.specs.declared.Statement.{Statement}
+use Rattle.std.specs.Prelude.{ℕ, zero, suc, ◌+◌, ◌≡◌, refl, List, [], ◌∷◌, ◌++◌, ℤ, length, Option}
 use Rattle.std.proofs.Common.{sym, ◌∙◌, ap, ap₂, append_assoc, arith}
 use Rattle.words.specs.declared.sections.Sections.{Sections}
 use Rattle.statements.specs.declared.Simple.{Simple}
-use Rattle.statements.specs.declared.StatementRead.{StatementRead}
 use Rattle.statements.specs.Statements.{statement_at}
 use Rattle.blocks.specs.Tree.{Block, nil, plain, branch, loop, bundle, call, unread, target, targets, call_target, assigned}
 use Rattle.blocks.specs.Shape.{size, Numbered, ReadsLine, Reads}
@@ -21,7 +21,7 @@ targets-more T h a (suc n) m (suc k) b e q =
     ap (λ (l : List ℕ). target_of (statement_at T h a) ++ l) (targets-more T h (a + 1) n m k b (omega arith) (omega arith))
     ∙ sym (append_assoc (target_of (statement_at T h a)) (targets_from T h (a + 1) n) (targets_from T h b m))
 
-targets-head : (T : List ℤ) (h : Sections) (a n k : ℕ) (s : StatementRead) → k ≡ 1 + n → statement_at T h a ≡ s
+targets-head : (T : List ℤ) (h : Sections) (a n k : ℕ) (s : Option Statement) → k ≡ 1 + n → statement_at T h a ≡ s
     → target_of s ++ targets_from T h (a + 1) n ≡ targets_from T h a k
 unfolding targets_from
 targets-head T h a n zero s e r = absurd (omega arith)

@@ -1,6 +1,6 @@
 -- The entries of a loop, asked and assumed one after the other.
 use Prim.Native.Nat.{ℕ, zero, suc, ◌+◌, ◌-◌, ◌≤◌, ◌<◌}
-use Rattle.std.specs.Prelude.{◌≡◌, Bool, not, cond, List, [], ◌∷◌, ℤ, ltb}
+use Rattle.std.specs.Prelude.{◌≡◌, Bool, not, cond, List, [], ◌∷◌, ℤ, ltb, Err, Ok, Result}
 use Rattle.std.proofs.Math.Path.{refl, sym, ap}
 use Rattle.std.proofs.Common.{◌∙◌}
 use Rattle.std.proofs.Math.Bool.{true, false}
@@ -18,14 +18,12 @@ use Rattle.rules.specs.Stored.{entries_unshown, entry_facts}
 use Rattle.rules.specs.FactRules as fact_rules
 use Rattle.rules.specs.Rules as walk_rules
 use Rattle.rules.specs.Verdict.{verdict_of}
-use Rattle.rules.specs.declared.Verdict.{Verdict}
-use Rattle.rules.specs.declared.Verdict.TheVariants.{Accepted, Refused}
 use Rattle.effects.specs.Entries.{entry_shown, first_unshown}
 
 module _ (L : List ℤ) (a : ℕ) (f : FactSet) where
   -- What the number of the first entry that is not shown says, of n entries from number e on.
-  abbrev found : ℕ → ℕ → Verdict
-  found end e = cond (ltb e end) (Refused (LoopFact e)) Accepted
+  abbrev found : ℕ → ℕ → Result (Unit {0}) Refusal
+  found end e = cond (ltb e end) (Err (LoopFact e)) (Ok tt)
 
   from-verdict : (n e : ℕ) → found (e + n) (lowest_from (entry_shown L a f) e n) ≡ verdict_of (entries_unshown (entries_from L a e n) f)
   unfolding lowest_from entries_from entry_shown walk_rules.entries_unshown also when verdict_of entry_at
@@ -47,11 +45,11 @@ module _ (L : List ℤ) (a : ℕ) (f : FactSet) where
         let z : entry_count L ≡ 0 + entry_count L = omega arith in
         ap (λ (k : ℕ). found k (lowest_from (entry_shown L a f) 0 (entry_count L))) z ∙ from-verdict (entry_count L) 0
 
-    pub entry-missed : e < n → Refused (LoopFact e) ≡ verdict_of (entries_unshown (entries_of L a) f)
-    entry-missed l = sym (ap (λ (b : Bool). cond b (Refused (LoopFact e)) Accepted) (lt-ltb e n l)) ∙ (rw (at, count) refl ∙ whole)
+    pub entry-missed : e < n → Err (LoopFact e) ≡ verdict_of (entries_unshown (entries_of L a) f)
+    entry-missed l = sym (ap (λ (b : Bool). cond b (Err (LoopFact e)) (Ok tt)) (lt-ltb e n l)) ∙ (rw (at, count) refl ∙ whole)
 
-    pub entries-shown : n ≤ e → Accepted ≡ verdict_of (entries_unshown (entries_of L a) f)
-    entries-shown l = sym (ap (λ (b : Bool). cond b (Refused (LoopFact e)) Accepted) (le-ltb e n l)) ∙ (rw (at, count) refl ∙ whole)
+    pub entries-shown : n ≤ e → Ok tt ≡ verdict_of (entries_unshown (entries_of L a) f)
+    entries-shown l = sym (ap (λ (b : Bool). cond b (Err (LoopFact e)) (Ok tt)) (le-ltb e n l)) ∙ (rw (at, count) refl ∙ whole)
 
 -- ---- assumed
 

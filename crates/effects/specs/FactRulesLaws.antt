@@ -1,5 +1,5 @@
 -- Laws of the facts after conditions and statements, as the code meets them.
-use Rattle.std.specs.Prelude.{ℕ, zero, suc, ◌+◌, ◌-◌, ◌%◌, ◌≡◌, Bool, true, false, not, ◌&&◌, ◌||◌, List, ◌≢◌, leb, eqb, ℤ}
+use Rattle.std.specs.Prelude.{ℕ, zero, suc, ◌+◌, ◌-◌, ◌%◌, ◌≡◌, Bool, true, false, not, ◌&&◌, ◌||◌, List, ◌≢◌, leb, eqb, ℤ, Some}
 use Rattle.std.proofs.Math.Path.{refl, ap}
 use Rattle.std.proofs.Common.{ap₂, ◌∙◌}
 use Rattle.std.proofs.Math.Bool.{cond}
@@ -22,7 +22,6 @@ use Rattle.statements.specs.declared.Simple.{Simple}
 use Rattle.statements.specs.declared.Simple.TheVariants.{Literal, AddConstant, Arithmetic, Null, Address}
 use Rattle.statements.specs.declared.Simple.TheVariants.{PointerOffset, PointerIndex, Load, Store, Check, Declare}
 use Rattle.statements.specs.declared.Statement.TheVariants.{Plain}
-use Rattle.statements.specs.declared.StatementRead.TheVariants.{Read}
 use Rattle.statements.specs.Statements.{statement_at}
 use Rattle.statements.specs.Typed.{SimpleTyped}
 use Rattle.statements.specs.StatementLaws.{read-typed, read-limits}
@@ -225,7 +224,7 @@ simple-ranged T h l (Check c) t = offset-small t
 simple-ranged T h l (Declare p r) t = tt
 
 module _ (T : List ℤ) (h : Sections) (a : ℕ) where
-  pub read-ranged : (s : Simple) → statement_at T h a ≡ Read (Plain s) → InRange s
+  pub read-ranged : (s : Simple) → statement_at T h a ≡ Some (Plain s) → InRange s
   read-ranged s e = simple-ranged T h (read-limits T h a (Plain s) e).0 s (read-typed T h a (Plain s) e)
 
 -- An effect depends only on the sizes and spans of the environment.

@@ -1,5 +1,6 @@
 -- Laws of the variables that a loop's body assigns and of the facts without them, as the code meets them.
 use Rattle.std.specs.Prelude.{ℕ, zero, suc, ◌+◌, ◌-◌, ◌≤◌, ◌<◌, ◌≡◌, refl, Bool, true, false, ◌||◌, cond, List, [], ◌∷◌, ◌++◌, eqb, ℤ, length, get_or, set}
+use Rattle.std.specs.Prelude.{Option, Some}
 use Rattle.std.proofs.Common.{sym, ap, ◌∙◌, arith, sub-one, add-one, eqb-true, ne_eqb, length-set, get_or-set_same, get_or-set_other}
 use Rattle.std.proofs.Math.Bool.{or_assoc, or-true, or-false}
 use Rattle.std.proofs.lemmas.Bool.{eqb-false}
@@ -13,8 +14,6 @@ use Rattle.statements.specs.declared.Simple.TheVariants.{Literal, AddConstant, A
 use Rattle.statements.specs.declared.Simple.TheVariants.{PointerOffset, PointerIndex, Load, Store, Check, Declare}
 use Rattle.statements.specs.declared.Statement.{Statement}
 use Rattle.statements.specs.declared.Statement.TheVariants.{Plain, If, While, Bundle, Call}
-use Rattle.statements.specs.declared.StatementRead.{StatementRead}
-use Rattle.statements.specs.declared.StatementRead.TheVariants.{Read}
 use Rattle.statements.specs.Statements.{statement_at}
 use Rattle.blocks.specs.Tree.{target}
 use Rattle.rules.specs.FactRules.{among}
@@ -38,12 +37,12 @@ targets-some T h a zero p = absurd (omega arith)
 targets-some T h a (suc n) p = rw sub-one
 
 -- One more statement marked.
-pub mark-more : (T : List ℤ) (h : Sections) (a n : ℕ) (m : List Bool) {r : List Bool} {got : StatementRead} → 0 < n → got ≡ statement_at T h a
+pub mark-more : (T : List ℤ) (h : Sections) (a n : ℕ) (m : List Bool) {r : List Bool} {got : Option Statement} → 0 < n → got ≡ statement_at T h a
     → r ≡ marked m (target_of got)
     → marked m (targets_from T h a n) ≡ marked r (targets_from T h (a + 1) (n - 1))
 mark-more T h a n m p g e =
     ap (marked m) (targets-some T h a n p) ∙ (marked_append m (target_of (statement_at T h a)) (targets_from T h (a + 1) (n - 1))
-    ∙ ap (λ (l : List Bool). marked l (targets_from T h (a + 1) (n - 1))) (sym (e ∙ ap (λ (q : StatementRead). marked m (target_of q)) g)))
+    ∙ ap (λ (l : List Bool). marked l (targets_from T h (a + 1) (n - 1))) (sym (e ∙ ap (λ (q : Option Statement). marked m (target_of q)) g)))
 
 pub mark-none : (T : List ℤ) (h : Sections) (a n : ℕ) (m : List Bool) → n ≤ 0 → marked m (targets_from T h a n) ≡ m
 unfolding marked
@@ -85,7 +84,7 @@ mark-past m (Check c) l p = refl
 mark-past m (Declare q r) l p = refl
 
 -- The same of any statement.
-mark-statement : (m : List Bool) (s : Statement) → assigned_number s < 16 → set m (assigned_number s) true ≡ marked m (target_of (Read s))
+mark-statement : (m : List Bool) (s : Statement) → assigned_number s < 16 → set m (assigned_number s) true ≡ marked m (target_of (Some s))
 unfolding marked
 mark-statement m (Plain s) p = mark-one m s p
 mark-statement m (If c k l) p = absurd (omega arith)
@@ -93,7 +92,7 @@ mark-statement m (While c k) p = absurd (omega arith)
 mark-statement m (Bundle k) p = absurd (omega arith)
 mark-statement m (Call c) p = rw (ne_eqb c.result zero_var (λ e. omega arith))
 
-past-statement : (m : List Bool) (s : Statement) → length m ≡ 16 → 16 ≤ assigned_number s → m ≡ marked m (target_of (Read s))
+past-statement : (m : List Bool) (s : Statement) → length m ≡ 16 → 16 ≤ assigned_number s → m ≡ marked m (target_of (Some s))
 unfolding marked
 past-statement m (Plain s) l p = mark-past m s l p
 past-statement m (If c k n) l p = refl
@@ -106,9 +105,9 @@ past-statement m (Call c) l p = go (eqb c.result zero_var)
     go false = sym (set_past m c.result (omega arith))
 
 -- What was read, marked.
-module _ (m : List Bool) {r : StatementRead} {s : Statement} (e : r ≡ Read s) {t : ℕ} (g : t ≡ assigned_number s) where
-  read_same : marked m (target_of (Read s)) ≡ marked m (target_of r)
-  read_same = ap (λ (q : StatementRead). marked m (target_of q)) (sym e)
+module _ (m : List Bool) {r : Option Statement} {s : Statement} (e : r ≡ Some s) {t : ℕ} (g : t ≡ assigned_number s) where
+  read_same : marked m (target_of (Some s)) ≡ marked m (target_of r)
+  read_same = ap (λ (q : Option Statement). marked m (target_of q)) (sym e)
 
   pub read-target : t < 16 → set m t true ≡ marked m (target_of r)
   read-target h = ap (λ (n : ℕ). set m n true) g ∙ (mark-statement m s (omega arith) ∙ read_same)

@@ -1,5 +1,5 @@
 -- The variables that statements assign, as the code finds them: record by record, and as marks, one for each variable.
-use Rattle.std.specs.Prelude.{ℕ, zero, suc, ◌+◌, Bool, true, false, List, [], ◌∷◌, ◌++◌, ℤ, set, replicate}
+use Rattle.std.specs.Prelude.{ℕ, zero, suc, ◌+◌, Bool, true, false, List, [], ◌∷◌, ◌++◌, ℤ, set, replicate, None, Option, Some}
 use Rattle.sums.specs.Numbers.{zero_var}
 use Rattle.words.specs.declared.sections.Sections.{Sections}
 use Rattle.statements.specs.declared.Simple.{Simple}
@@ -7,19 +7,17 @@ use Rattle.statements.specs.declared.Simple.TheVariants.{Literal, AddConstant, A
 use Rattle.statements.specs.declared.Simple.TheVariants.{PointerOffset, PointerIndex, Load, Store, Check, Declare}
 use Rattle.statements.specs.declared.Statement.{Statement}
 use Rattle.statements.specs.declared.Statement.TheVariants.{Plain, If, While, Bundle, Call}
-use Rattle.statements.specs.declared.StatementRead.{StatementRead}
-use Rattle.statements.specs.declared.StatementRead.TheVariants.{Read, Unread}
 use Rattle.statements.specs.Statements.{statement_at}
 use Rattle.blocks.specs.Tree.{target, call_target}
 
 -- What a record assigns itself: an if, a while and a bundle assign by the records that follow them.
-abbrev pub target_of : StatementRead → List ℕ
-target_of Unread = []
-target_of (Read (Plain s)) = target s
-target_of (Read (If c n m)) = []
-target_of (Read (While c n)) = []
-target_of (Read (Bundle n)) = []
-target_of (Read (Call c)) = call_target c
+abbrev pub target_of : Option Statement → List ℕ
+target_of None = []
+target_of (Some (Plain s)) = target s
+target_of (Some (If c n m)) = []
+target_of (Some (While c n)) = []
+target_of (Some (Bundle n)) = []
+target_of (Some (Call c)) = call_target c
 
 -- What the n records from a on assign.
 unfoldable pub targets_from : List ℤ → Sections → ℕ → ℕ → List ℕ

@@ -7,10 +7,10 @@ ghost use Rattle.rules.specs.Verdict.{verdict_of};
 ghost use Rattle.effects.specs.Entries.{entry_shown, first_unshown};
 
 use answers::refusals::Refusal;
+use arrays::lowest;
 use chains::shown::shows;
 use facts::FactSet;
 use listed::{belongs, entry_at, entry_count};
-use rules::Verdict;
 
 // The entry e is shown, or belongs to another loop.
 fn entry_shown(listed: &[i32], at: usize, e: usize, facts: FactSet) -> bool
@@ -29,27 +29,19 @@ fn first_unshown(listed: &[i32], at: usize, facts: FactSet) -> usize
     requires { (length listed.now ≤ 1024) × (at < 2 ^ 40) }
     ensures { result ≡ first_unshown listed.now at facts }
 {
-    let n = entry_count(listed);
-    let mut i = 0;
-    while i < n {
-        if !entry_shown(listed, at, i, facts) {
-            return i;
-        }
-        i += 1;
-    }
-    i
+    lowest(entry_count(listed), |e| !entry_shown(listed, at, e, facts))
 }
 
 // All entries of the loop at `at` are asked of the facts.
-pub fn check_entries(listed: &[i32], at: usize, facts: FactSet) -> Verdict
+pub fn check_entries(listed: &[i32], at: usize, facts: FactSet) -> Result<(), Refusal>
     requires { (length listed.now ≤ 1024) × (at < 2 ^ 40) }
     ensures { result ≡ verdict_of (entries_unshown (entries_of listed.now at) facts) }
 {
     let entry = first_unshown(listed, at, facts);
     if entry < entry_count(listed) {
-        return Verdict::Refused(Refusal::LoopFact(entry));
+        return Err(Refusal::LoopFact(entry));
     }
-    Verdict::Accepted
+    Ok(())
 }
 
 // The facts with the entry e, where it belongs to the loop.
@@ -70,11 +62,8 @@ pub fn assume_entries(listed: &[i32], at: usize, mut facts: FactSet) -> FactSet
     requires { (length listed.now ≤ 1024) × (at < 2 ^ 40) }
     ensures { result ≡ entry_facts (entries_of listed.now at) facts }
 {
-    let n = entry_count(listed);
-    let mut e = 0;
-    while e < n {
+    for e in 0..entry_count(listed) {
         facts = assume_entry(listed, at, e, facts);
-        e += 1;
     }
     facts
 }

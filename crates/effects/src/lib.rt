@@ -18,7 +18,7 @@ ghost use Rattle.effects.specs.Applied.{applied, Makes, Adds, Assumes, Does, Pla
 use changes::{Answers, Change, Fact, adding, equating, no_fact, ranging, shifting};
 use conditions::Condition;
 use rules::Effect;
-use rules::lookups::{length_at, size_at};
+use rules::lookups::element_or;
 use statements::Simple;
 use sums::{BIAS, MAX_VALUE, ZERO};
 
@@ -194,12 +194,7 @@ pub fn plan_statement(sizes: [u64; 16], spans: [u64; 16], simple: Simple, answer
             source,
             constant,
         } => add_constant(target, source, constant, answers),
-        Simple::Arithmetic {
-            target,
-            left: _,
-            right: _,
-            operation: _,
-        } => Plan {
+        Simple::Arithmetic { target, .. } | Simple::Load { target, .. } => Plan {
             change: forget(target),
             effect: Effect::Forget { target },
         },
@@ -211,8 +206,8 @@ pub fn plan_statement(sizes: [u64; 16], spans: [u64; 16], simple: Simple, answer
             change: range(target, 1, MAX_VALUE),
             effect: Effect::Object {
                 target,
-                size: size_at(sizes, target),
-                length: length_at(spans, object),
+                size: element_or(sizes, target, 1),
+                length: element_or(spans, object, 0),
             },
         },
         Simple::PointerOffset {
@@ -220,38 +215,16 @@ pub fn plan_statement(sizes: [u64; 16], spans: [u64; 16], simple: Simple, answer
             source,
             constant,
         } => add_offset(target, source, constant),
-        Simple::PointerIndex {
-            target,
-            source,
-            index: _,
-        } => Plan {
+        Simple::PointerIndex { target, source, .. } => Plan {
             change: range(target, 1, MAX_VALUE),
             effect: index_effect(target, source),
         },
-        Simple::Load {
-            target,
-            pointer: _,
-            index: _,
-            constant: _,
-        } => Plan {
-            change: forget(target),
-            effect: Effect::Forget { target },
-        },
-        Simple::Store {
-            pointer: _,
-            index: _,
-            constant: _,
-            source: _,
-        } => Plan {
+        Simple::Store { .. } | Simple::Declare { .. } => Plan {
             change: keep(),
             effect: Effect::Keep,
         },
         Simple::Check { condition } => Plan {
             change: assume(condition, answers),
-            effect: Effect::Keep,
-        },
-        Simple::Declare { pointer: _, row: _ } => Plan {
-            change: keep(),
             effect: Effect::Keep,
         },
     }

@@ -6,7 +6,7 @@ ghost use Rattle.effects.specs.Marks.{target_of, targets_from, target_number, as
 use changes::ranging;
 use facts::FactSet;
 use reader::read_due;
-use statements::{Simple, Statement, StatementRead};
+use statements::{Simple, Statement};
 use sums::MAX_VALUE;
 use words::sections::Sections;
 
@@ -15,44 +15,15 @@ fn target_of(simple: Simple) -> usize
     ensures { result ≡ target_number simple }
 {
     match simple {
-        Simple::Literal { target, value: _ } => target,
-        Simple::AddConstant {
-            target,
-            source: _,
-            constant: _,
-        } => target,
-        Simple::Arithmetic {
-            target,
-            left: _,
-            right: _,
-            operation: _,
-        } => target,
-        Simple::Null { target } => target,
-        Simple::Address { target, object: _ } => target,
-        Simple::PointerOffset {
-            target,
-            source: _,
-            constant: _,
-        } => target,
-        Simple::PointerIndex {
-            target,
-            source: _,
-            index: _,
-        } => target,
-        Simple::Load {
-            target,
-            pointer: _,
-            index: _,
-            constant: _,
-        } => target,
-        Simple::Store {
-            pointer: _,
-            index: _,
-            constant: _,
-            source: _,
-        } => 16,
-        Simple::Check { condition: _ } => 16,
-        Simple::Declare { pointer: _, row: _ } => 16,
+        Simple::Literal { target, .. }
+        | Simple::AddConstant { target, .. }
+        | Simple::Arithmetic { target, .. }
+        | Simple::Null { target }
+        | Simple::Address { target, .. }
+        | Simple::PointerOffset { target, .. }
+        | Simple::PointerIndex { target, .. }
+        | Simple::Load { target, .. } => target,
+        _ => 16,
     }
 }
 
@@ -62,17 +33,8 @@ fn assigned_by(statement: Statement) -> usize
 {
     match statement {
         Statement::Plain(simple) => target_of(simple),
-        Statement::If {
-            condition: _,
-            then_count: _,
-            else_count: _,
-        } => 16,
-        Statement::While {
-            condition: _,
-            count: _,
-        } => 16,
-        Statement::Bundle { count: _ } => 16,
         Statement::Call(call) => call.result,
+        _ => 16,
     }
 }
 
@@ -83,10 +45,10 @@ struct Marks {
 }
 
 // The marks with the variable that a statement assigns.
-fn mark_target(mut marks: Marks, read: StatementRead) -> Marks
+fn mark_target(mut marks: Marks, read: Option<Statement>) -> Marks
     ensures { result.each ≡ marked marks.each (target_of read) }
 {
-    let StatementRead::Read(statement) = read else {
+    let Some(statement) = read else {
         return marks;
     };
     let target = assigned_by(statement);
@@ -102,12 +64,8 @@ fn mark_targets(table: &[i32], sections: Sections, first: usize, count: usize) -
     ensures { result.each ≡ marked no_marks (targets_from table.now sections first count) }
 {
     let mut marks = Marks { each: [false; 16] };
-    let mut at = first;
-    let mut left = count;
-    while left > 0 {
+    for at in first..first + count {
         marks = mark_target(marks, read_due(table, sections, at));
-        at += 1;
-        left -= 1;
     }
     marks
 }

@@ -1,9 +1,7 @@
 -- The answer at entry: begun where nothing refuses, else the first refusal.
-use Rattle.std.specs.Prelude.{List, [], ◌∷◌}
+use Rattle.std.specs.Prelude.{List, [], ◌∷◌, Err, Ok, Result}
 use Rattle.answers.specs.declared.refusals.Refusal.{Refusal}
-use Rattle.entry.specs.declared.EntryVerdict.{EntryVerdict}
-use Rattle.entry.specs.declared.EntryVerdict.TheVariants.{Begun, Refused}
 
-unfoldable pub entered : List Refusal → EntryVerdict
-entered [] = Begun
-entered (r ∷ rs) = Refused r
+unfoldable pub entered : List Refusal → Result (Unit {0}) Refusal
+entered [] = Ok tt
+entered (r ∷ rs) = Err r

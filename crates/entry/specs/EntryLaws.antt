@@ -1,20 +1,18 @@
 -- Laws of the entry, in the words of the code.
 use Prim.Native.Nat.{ℕ, zero, suc, ◌+◌, ◌-◌, ◌*◌, ◌<◌, ◌≤◌}
-use Rattle.std.specs.Prelude.{◌≡◌, refl, Bool, true, false, ◌&&◌, not, ◌||◌, List, [], ◌∷◌, ◌++◌, leb, eqb, length, get_or}
+use Rattle.std.specs.Prelude.{◌≡◌, refl, Bool, true, false, ◌&&◌, not, ◌||◌, List, [], ◌∷◌, ◌++◌, leb, eqb, length, get_or, Err, Ok, Result, cond, ltb}
 use Rattle.std.proofs.Common.{sym, ◌∙◌, sub-one, arith, eqb-true, eq-eqb, ne_eqb, lt-ltb, le-ltb}
-use Rattle.std.proofs.Math.Numerals.{add-one}
 use Rattle.std.proofs.lemmas.Bool.{eqb-false}
 use Rattle.sums.specs.Numbers.{bias}
 use Rattle.answers.specs.declared.refusals.Refusal.{Refusal}
 use Rattle.answers.specs.declared.refusals.Refusal.TheVariants.{MemorySize, DirectoryPair, EntryLengths, EntryValue, LastCell}
 use Rattle.words.specs.declared.sections.Sections.{Sections}
+use Rattle.table.specs.Form.{lowest_from}
 use Rattle.rules.specs.BoundsRules.{is_string, is_terminated, upper_limit}
 use Rattle.rules.specs.declared.Environment.{Environment}
 use Rattle.machine.specs.Machine.{origin_holds}
-use Rattle.entry.specs.Entry.{memory_right, end_before, pair_right, lengths_right, entry_right, failures, entry_refusals, last_right}
+use Rattle.entry.specs.Entry.{memory_right, end_before, pair_right, lengths_right, entry_right, cons_unless, failures, entry_refusals, last_right}
 use Rattle.entry.specs.Entered.{entered}
-use Rattle.entry.specs.declared.EntryVerdict.{EntryVerdict}
-use Rattle.entry.specs.declared.EntryVerdict.TheVariants.{Begun, Refused}
 
 -- ---- the memory
 
@@ -75,25 +73,28 @@ origin-some E D p (suc o) l u q h = let e : 2 * o + 1 < length D = rw (sub-one (
 -- ---- the first that fails
 
 module _ (right : ℕ → Bool) (r : ℕ → Refusal) where
-  pub failures-none : (n i : ℕ) → n ≡ 0 → Begun ≡ entered (failures right r n i)
-  unfolding failures entered
-  failures-none n i e = rw e
+  from-first : (n i m : ℕ) → m ≡ i + n
+      → entered (cond (ltb (lowest_from right i n) m) (r (lowest_from right i n) ∷ []) []) ≡ entered (failures right r n i)
+  unfolding failures entered lowest_from
+  from-first zero i m e = rw (le-ltb i m (omega arith))
+  from-first (suc n) i m e = go (right i) (from-first n (i + 1) m (omega arith))
+    where
+      go : (b : Bool) → entered (cond (ltb (lowest_from right (i + 1) n) m) (r (lowest_from right (i + 1) n) ∷ []) []) ≡ entered (failures right r n (i + 1))
+          → entered (cond (ltb (cond b (lowest_from right (i + 1) n) i) m) (r (cond b (lowest_from right (i + 1) n) i) ∷ []) [])
+          ≡ entered (cons_unless b (r i) (failures right r n (i + 1)))
+      go true later = later
+      go false later = rw (lt-ltb i m (omega arith))
 
-  pub failures-first : (n i : ℕ) → 0 < n → right i ≡ false → Refused (r i) ≡ entered (failures right r n i)
-  unfolding failures entered
-  failures-first zero i p e = absurd (omega arith)
-  failures-first (suc n) i p e = rw e
+  -- The lowest number at which the test fails is the first failure.
+  pub first-failure : (n : ℕ) {found : ℕ} → found ≡ lowest_from right 0 n → entered (cond (ltb found n) (r found ∷ []) []) ≡ entered (failures right r n 0)
+  first-failure n e = rw e (from-first n 0 n (omega arith))
 
-  pub failures-next : (n m i : ℕ) → n ≡ m + 1 → right i ≡ true → failures right r n i ≡ failures right r m (i + 1)
-  unfolding failures
-  failures-next n m i p e = rw (p, add-one m, e)
-
-pub begun-none : (rs : List Refusal) → entered rs ≡ Begun → rs ≡ []
+pub begun-none : (rs : List Refusal) → entered rs ≡ Ok tt → rs ≡ []
 unfolding entered
 begun-none [] e = refl
 begun-none (r ∷ rs) e = let z : ◌≡◌ {A = ℕ} 0 1 = cc in absurd (omega arith)
 
-pub refused-first : (rs qs : List Refusal) (v : Refusal) → entered rs ≡ Refused v → entered rs ≡ entered (rs ++ qs)
+pub refused-first : (rs qs : List Refusal) (v : Refusal) → entered rs ≡ Err v → entered rs ≡ entered (rs ++ qs)
 unfolding entered
 refused-first [] qs v e = let z : ◌≡◌ {A = ℕ} 0 1 = cc in absurd (omega arith)
 refused-first (r ∷ rs) qs v e = refl
@@ -104,17 +105,17 @@ module _ (h : Sections) (E : Environment) (D cs vs os : List ℕ) where
   abbrev pairs : List Refusal
   pairs = failures (pair_right E D cs) DirectoryPair h.objects 0
 
-  pub enter-memory : memory_right h D cs ≡ false → Refused MemorySize ≡ entered (entry_refusals h E D cs vs os)
+  pub enter-memory : memory_right h D cs ≡ false → Err MemorySize ≡ entered (entry_refusals h E D cs vs os)
   unfolding entry_refusals entered
   enter-memory e = rw e
 
   module _ (m : memory_right h D cs ≡ true) where
-    pub enter-pairs : (r : EntryVerdict) (v : Refusal) → r ≡ entered pairs → r ≡ Refused v → r ≡ entered (entry_refusals h E D cs vs os)
+    pub enter-pairs : (r : Result (Unit {0}) Refusal) (v : Refusal) → r ≡ entered pairs → r ≡ Err v → r ≡ entered (entry_refusals h E D cs vs os)
     unfolding entry_refusals
     enter-pairs r v e g = rw m (e ∙ refused-first pairs _ v (sym e ∙ g))
 
-    module _ (p : entered pairs ≡ Begun) where
-      pub enter-lengths : lengths_right h vs os ≡ false → Refused EntryLengths ≡ entered (entry_refusals h E D cs vs os)
+    module _ (p : entered pairs ≡ Ok tt) where
+      pub enter-lengths : lengths_right h vs os ≡ false → Err EntryLengths ≡ entered (entry_refusals h E D cs vs os)
       unfolding entry_refusals entered
       enter-lengths l = rw (m, begun-none pairs p, l)
 
@@ -122,11 +123,11 @@ module _ (h : Sections) (E : Environment) (D cs vs os : List ℕ) where
         abbrev values : List Refusal
         values = failures (entry_right E D vs os) EntryValue h.variables 0
 
-        pub enter-values : (r : EntryVerdict) (v : Refusal) → r ≡ entered values → r ≡ Refused v → r ≡ entered (entry_refusals h E D cs vs os)
+        pub enter-values : (r : Result (Unit {0}) Refusal) (v : Refusal) → r ≡ entered values → r ≡ Err v → r ≡ entered (entry_refusals h E D cs vs os)
         unfolding entry_refusals
         enter-values r v e g = rw (m, begun-none pairs p, l) (e ∙ refused-first values _ v (sym e ∙ g))
 
-        pub enter-last : (r : EntryVerdict) → entered values ≡ Begun → r ≡ entered (failures (last_right E D cs) LastCell h.objects 0)
+        pub enter-last : (r : Result (Unit {0}) Refusal) → entered values ≡ Ok tt → r ≡ entered (failures (last_right E D cs) LastCell h.objects 0)
             → r ≡ entered (entry_refusals h E D cs vs os)
         unfolding entry_refusals
         enter-last r b e = rw (m, begun-none pairs p, l, begun-none values b) e

@@ -4,16 +4,16 @@ ghost use Rattle.rules.specs.BoundsRules.{own_rows};
 ghost use Rattle.machine.specs.Machine.{end_of};
 ghost use Rattle.entry.specs.Ends.{end_number, bounds_number, numbers_of, ends_of};
 
-use rules::{Bounds, Environment, KnownEnd};
+use rules::{Bounds, Environment};
 use table::variables::End;
 
 // The end of a declared bound; an integer has none.
-pub(crate) fn end_of(e: KnownEnd) -> End
+pub(crate) fn end_of(e: Option<End>) -> End
     ensures { result ≡ end_of e }
 {
     match e {
-        KnownEnd::Known(end) => end,
-        KnownEnd::Unknown => End {
+        Some(end) => end,
+        None => End {
             pointer: 0,
             integer: 0,
             constant: 0,
@@ -44,6 +44,7 @@ fn bounds_number(b: Bounds, j: usize) -> u64
     end_number(end_of(upper), j - 3)
 }
 
+// The three fills are loops: each call lays the ends anew, and by `array::from_fn` a call takes a tenth more (`compare bench calls`).
 // Six numbers a pointer, those of its own bounds.
 fn lay_own(environment: Environment) -> [u64; 96]
     ensures { result ≡ numbers_of 96 environment.declared }

@@ -1,15 +1,15 @@
 // Causes 10 to 12 and 16: the memory directory, the lengths of values and origins, the entry values, and the last cells of terminated objects.
-ghost use Rattle.std.specs.Prelude.{◌≡◌, ◌*◌, ◌<◌, length};
+ghost use Rattle.std.specs.Prelude.{◌≡◌, ◌*◌, ◌<◌, cond, [], ◌∷◌, ltb, length};
 ghost use Rattle.answers.specs.declared.refusals.Refusal.TheVariants.{DirectoryPair, EntryValue, LastCell};
 ghost use Rattle.rules.specs.Ranges.{Sized};
 ghost use Rattle.entry.specs.Entry.{memory_right, end_before, pair_right, lengths_right, entry_right, last_right, failures, entry_refusals};
 ghost use Rattle.entry.specs.Entered.{entered};
 
-use crate::EntryVerdict;
 use crate::entry_bounds::bounds_true;
 use answers::refusals::Refusal;
+use arrays::lowest;
 use machine::value_at;
-use rules::lookups::{is_pointer, is_terminated, length_at};
+use rules::lookups::element_or;
 use rules::{Environment, upper_limit};
 use words::sections::Sections;
 
@@ -46,7 +46,18 @@ fn pair_right(environment: Environment, directory: &[u32], cells: &[u32], o: usi
     let length = value_at(directory, 2 * o + 1);
     (end_before(directory, o) <= low)
         & (low + length <= cells.len() as u64)
-        & (length == length_at(lengths, o))
+        & (length == element_or(lengths, o, 0))
+}
+
+// What a search below `count` answers: the refusal, where it stopped before.
+#[tactic(auto, unfolding(crate::specs::Entered::entered))]
+fn answer(found: usize, count: usize, refusal: Refusal) -> Result<(), Refusal>
+    ensures { result ≡ entered (cond (ltb found count) (refusal ∷ []) []) }
+{
+    if found < count {
+        return Err(refusal);
+    }
+    Ok(())
 }
 
 // Cause 10: the first pair that is wrong.
@@ -55,19 +66,13 @@ fn check_pairs(
     environment: Environment,
     directory: &[u32],
     cells: &[u32],
-) -> EntryVerdict
+) -> Result<(), Refusal>
     requires { length directory.now ≡ 2 * sections.objects }
     ensures { result ≡ entered (failures (pair_right environment directory.now cells.now) DirectoryPair sections.objects 0) }
 {
     let count = sections.objects;
-    let mut o = 0;
-    while o < count {
-        if !pair_right(environment, directory, cells, o) {
-            return EntryVerdict::Refused(Refusal::DirectoryPair(o));
-        }
-        o += 1;
-    }
-    EntryVerdict::Begun
+    let o = lowest(count, |o| !pair_right(environment, directory, cells, o));
+    answer(o, count, Refusal::DirectoryPair(o))
 }
 
 fn lengths_right(sections: Sections, values: &[u32], origins: &[u32]) -> bool
@@ -88,7 +93,7 @@ fn entry_right(
     ensures { result ≡ entry_right environment directory.now values.now origins.now v }
 {
     let pointers = environment.pointers;
-    if is_pointer(pointers, v) & (value_at(values, v) != 0) {
+    if element_or(pointers, v, false) & (value_at(values, v) != 0) {
         return bounds_true(environment, directory, values, origins, v);
     }
     value_at(origins, v) == 0
@@ -101,20 +106,17 @@ fn check_values(
     directory: &[u32],
     values: &[u32],
     origins: &[u32],
-) -> EntryVerdict
+) -> Result<(), Refusal>
     requires { Sized environment }
     ensures { result ≡ entered
         (failures (entry_right environment directory.now values.now origins.now) EntryValue sections.variables 0) }
 {
     let count = sections.variables;
-    let mut v = 0;
-    while v < count {
-        if !entry_right(environment, directory, values, origins, v) {
-            return EntryVerdict::Refused(Refusal::EntryValue(v));
-        }
-        v += 1;
-    }
-    EntryVerdict::Begun
+    let v = lowest(
+        count,
+        |v| !entry_right(environment, directory, values, origins, v),
+    );
+    answer(v, count, Refusal::EntryValue(v))
 }
 
 // The last cell of an object that is terminated is 0.
@@ -125,7 +127,7 @@ fn last_right(environment: Environment, directory: &[u32], cells: &[u32], o: usi
     let terminated = environment.terminated;
     let high = value_at(directory, 2 * o) + value_at(directory, 2 * o + 1);
     let last = upper_limit(true, high);
-    !is_terminated(terminated, o) | (value_at(cells, last as usize) == 0)
+    !element_or(terminated, o, false) | (value_at(cells, last as usize) == 0)
 }
 
 // Cause 16: the lowest terminated object whose last cell is not 0.
@@ -134,19 +136,13 @@ fn check_last(
     environment: Environment,
     directory: &[u32],
     cells: &[u32],
-) -> EntryVerdict
+) -> Result<(), Refusal>
     requires { length directory.now ≡ 2 * sections.objects }
     ensures { result ≡ entered (failures (last_right environment directory.now cells.now) LastCell sections.objects 0) }
 {
     let count = sections.objects;
-    let mut o = 0;
-    while o < count {
-        if !last_right(environment, directory, cells, o) {
-            return EntryVerdict::Refused(Refusal::LastCell(o));
-        }
-        o += 1;
-    }
-    EntryVerdict::Begun
+    let o = lowest(count, |o| !last_right(environment, directory, cells, o));
+    answer(o, count, Refusal::LastCell(o))
 }
 
 // Causes 10 to 12 and 16 in their order.
@@ -157,24 +153,18 @@ pub fn enter(
     cells: &[u32],
     values: &[u32],
     origins: &[u32],
-) -> EntryVerdict
+) -> Result<(), Refusal>
     requires { Sized environment }
     ensures { result ≡ entered
         (entry_refusals sections environment directory.now cells.now values.now origins.now) }
 {
     if !memory_right(sections, directory, cells) {
-        return EntryVerdict::Refused(Refusal::MemorySize);
+        return Err(Refusal::MemorySize);
     }
-    let pairs = check_pairs(sections, environment, directory, cells);
-    let EntryVerdict::Begun = pairs else {
-        return pairs;
-    };
+    check_pairs(sections, environment, directory, cells)?;
     if !lengths_right(sections, values, origins) {
-        return EntryVerdict::Refused(Refusal::EntryLengths);
+        return Err(Refusal::EntryLengths);
     }
-    let entries = check_values(sections, environment, directory, values, origins);
-    let EntryVerdict::Begun = entries else {
-        return entries;
-    };
+    check_values(sections, environment, directory, values, origins)?;
     check_last(sections, environment, directory, cells)
 }

@@ -7,10 +7,3 @@ mod entry; // entry.rt: causes 10 to 12 and 16
 
 use answers::refusals::Refusal;
 pub use entry::enter;
-
-// What causes 10 to 12 and 16 say of what is lent.
-#[derive(Clone, Copy)]
-pub enum EntryVerdict {
-    Begun,
-    Refused(Refusal),
-}

@@ -1,5 +1,6 @@
 -- The reported statements put into a slice, one after the other, as the code does.
-use Rattle.std.specs.Prelude.{ℕ, zero, suc, ◌+◌, ◌-◌, ◌≤◌, ◌<◌, ◌≡◌, refl, Bool, true, false, cond, ◌&&◌, List, [], ◌∷◌, leb, ℤ, length, set}
+use Rattle.answers.specs.declared.refusals.Refusal.{Refusal}
+use Rattle.std.specs.Prelude.{ℕ, zero, suc, ◌+◌, ◌-◌, ◌≤◌, ◌<◌, ◌≡◌, refl, Bool, true, false, cond, ◌&&◌, List, [], ◌∷◌, leb, ℤ, length, set, Result}
 use Rattle.std.proofs.Common.{sym, ap, ap₂, ◌∙◌, arith, le-leb, length-set}
 use Rattle.std.proofs.lemmas.Bool.{lt-leb}
 use Rattle.reports.specs.Reports.{reported}
@@ -9,7 +10,6 @@ use Rattle.rules.specs.Verdict.{Reading, verdict_reads, first_reads}
 use Rattle.rules.specs.Verdict as reading
 use Rattle.rules.specs.ByChains.{by_chains, chain_faults, Judged, Reported}
 use Rattle.rules.proofs.Decidable.{decided}
-use Rattle.rules.specs.declared.Verdict.{Verdict}
 use Rattle.exports.specs.Words.{put_three, verdict_words, chosen, put_numbers, report_numbers, CheckReport}
 
 -- One statement.
@@ -122,7 +122,8 @@ verdict-long (reading.refused n a p) w = three-long w n a p
 both_true : (a b : Bool) → a ≡ true → b ≡ true → (a && b) ≡ true
 both_true a b p q = rw (p, q)
 
-pub report-words : {T L : List ℤ} {w w₁ w' p p' ws : List ℕ} {n : ℕ} (v : Verdict) → 4 ≤ length w → 1024 ≤ length p → Judged [] T L v → Reported T L ws
+pub report-words : {T L : List ℤ} {w w₁ w' p p' ws : List ℕ} {n : ℕ} (v : Result (Unit {0}) Refusal) → 4 ≤ length w → 1024 ≤ length p → Judged [] T L v
+    → Reported T L ws
     → w₁ ≡ verdict_words (verdict_reads v) w → PutAll ws p n p' → w' ≡ set w₁ 3 n → CheckReport T L w p true w' p'
 unfolding Judged Reported
 report-words {T} {L} {w} {w₁} {w'} {p} {p'} {ws} {n} v h k a r e q u =

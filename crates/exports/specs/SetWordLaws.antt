@@ -1,5 +1,6 @@
 -- Laws of the answer words about sets.
-use Rattle.std.specs.Prelude.{ℕ, ◌^◌, ◌<◌, ◌≤◌, ◌≡◌, Bool, true, false, ◌&&◌, List, ℤ, length, set, leb}
+use Rattle.rules.specs.declared.SetRefusal.{SetRefusal}
+use Rattle.std.specs.Prelude.{ℕ, ◌^◌, ◌<◌, ◌≤◌, ◌≡◌, Bool, true, false, ◌&&◌, List, ℤ, length, set, leb, Err, None, Ok, Option, Some, Result}
 use Rattle.std.proofs.Math.Path.{refl, sym}
 use Rattle.std.proofs.Common.{◌∙◌, ap, arith, length-set}
 use borrow.Author.Tests.{le-leb, lt-leb}
@@ -7,14 +8,9 @@ use Rattle.answers.specs.declared.refusals.Refusal.{Refusal}
 use Rattle.rules.specs.Verdict.{verdict_reads}
 use Rattle.rules.specs.Small.{ReadingSmall}
 use Rattle.rules.specs.Sets.{SetJudged}
-use Rattle.rules.specs.declared.SetVerdict.{SetVerdict}
-use Rattle.rules.specs.declared.SetVerdict.TheVariants as set-verdict
-use Rattle.rules.specs.declared.Verdict.TheVariants as verdict
 use Rattle.sets.specs.Tables.{tables_in}
 use Rattle.sets.specs.Checked.{member_words, SetAnswered, verdict_in, routine_in}
 use Rattle.sets.specs.SmallLaws.{set-small}
-use Rattle.sets.specs.declared.SetChecked.{SetChecked}
-use Rattle.sets.specs.declared.SetChecked.TheVariants.{NoRoom, Judged}
 use Rattle.answers.specs.Answers.{Answer, done, spent, stopped, refused, reads}
 use Rattle.answers.specs.declared.stops.Check.{Check}
 use Rattle.answers.specs.declared.stops.Outcome.{Outcome}
@@ -24,15 +20,13 @@ use Rattle.interpreter.specs.Claim.{Lent, SetRunJudged}
 use Rattle.set_runs.specs.SetRuns.{leaves, SetRunAnswered}
 use Rattle.set_runs.specs.SmallLaws.{set-run-small}
 use Rattle.set_runs.specs.declared.SetOutcome.{SetOutcome}
-use Rattle.set_runs.specs.declared.SetRun.{SetRun}
-use Rattle.set_runs.specs.declared.SetRun.TheVariants as run
 use Rattle.exports.specs.Words.{verdict_words, answer_words}
 use Rattle.exports.specs.SetWords.{set_verdict_words, routine_named, set_outcome_words, SetCheckWords, SetRunWords}
 
 -- ---- the numbers fit
 
-module _ {v : SetVerdict} {n : ℕ} {r : Refusal} (e : v ≡ set-verdict.Refused n r) where
-  pub refused-fits : ReadingSmall (verdict_reads (verdict_in v)) → ReadingSmall (verdict_reads (verdict.Refused r))
+module _ {v : Result (Unit {0}) SetRefusal} {n : ℕ} {r : Refusal} (e : v ≡ Err (record { routine = n; refusal = r })) where
+  pub refused-fits : ReadingSmall (verdict_reads (verdict_in v)) → ReadingSmall (verdict_reads (Err r))
   refused-fits s = rw e at s
 
   pub routine-fits : routine_in v < 2 ^ 32 → n < 2 ^ 32
@@ -44,25 +38,25 @@ named-fits (Spent m a) e l = omega arith
 named-fits (Stopped m c) e l = omega arith
 named-fits (Refused f) e l = omega arith
 
-pub checked-fits : (m : ℕ) (Ts : List (List ℤ)) {s : SetChecked} {v : SetVerdict} → SetAnswered m Ts s → s ≡ Judged v
+pub checked-fits : (m : ℕ) (Ts : List (List ℤ)) {s : Option (Result (Unit {0}) SetRefusal)} {v : Result (Unit {0}) SetRefusal} → SetAnswered m Ts s → s ≡ Some v
     → ReadingSmall (verdict_reads (verdict_in v)) × (routine_in v < 2 ^ 32)
 unfolding SetAnswered
 checked-fits m Ts {s} {v} a e = let o : (member_words ≤ m) × SetJudged Ts v = rw e at a in set-small Ts v o.1
 
-pub ran-fits : (roomy : Bool) (Ts : List (List ℤ)) (l : Lent) (limit : ℕ) {s : SetRun} {o : SetOutcome} (vs cs : List ℕ)
-    → SetRunAnswered roomy Ts l limit s vs cs → s ≡ run.Ran o → AnswerSmall (reads o.outcome) × (o.routine < 2 ^ 32)
+pub ran-fits : (roomy : Bool) (Ts : List (List ℤ)) (l : Lent) (limit : ℕ) {s : Option SetOutcome} {o : SetOutcome} (vs cs : List ℕ)
+    → SetRunAnswered roomy Ts l limit s vs cs → s ≡ Some o → AnswerSmall (reads o.outcome) × (o.routine < 2 ^ 32)
 unfolding SetRunAnswered
 ran-fits roomy Ts l limit {s} {o} vs cs a e =
     let q : (roomy ≡ true) × SetRunJudged Ts l limit (leaves o vs cs) = rw e at a in set-run-small Ts l limit (leaves o vs cs) q.1
 
 -- ---- the words
 
-module _ {v : SetVerdict} (w : List ℕ) {u : List ℕ} where
-  pub accepted-set : v ≡ set-verdict.Accepted → u ≡ verdict_words (verdict_reads verdict.Accepted) w → set u 3 0 ≡ set_verdict_words v w
+module _ {v : Result (Unit {0}) SetRefusal} (w : List ℕ) {u : List ℕ} where
+  pub accepted-set : v ≡ Ok tt → u ≡ verdict_words (verdict_reads (Ok tt)) w → set u 3 0 ≡ set_verdict_words v w
   unfolding set_verdict_words
   accepted-set e p = rw (e, p)
 
-  pub refused-set : {n : ℕ} {r : Refusal} → v ≡ set-verdict.Refused n r → u ≡ verdict_words (verdict_reads (verdict.Refused r)) w
+  pub refused-set : {n : ℕ} {r : Refusal} → v ≡ Err (record { routine = n; refusal = r }) → u ≡ verdict_words (verdict_reads (Err r)) w
       → set u 3 n ≡ set_verdict_words v w
   unfolding set_verdict_words
   refused-set e p = rw (e, p)
@@ -75,14 +69,15 @@ module _ {W : List ℤ} {L : List ℕ} {m : ℕ} {w : List ℕ} where
   pub no_answer : length w < 4 → SetCheckWords W L m w false w
   no_answer h = record { room = sym (rw (lt-leb 4 (length w) h)); words = rw (lt-leb 4 (length w) h) refl }
 
-  pub no_member : {s : SetChecked} → SetAnswered m (tables_in W L) s → s ≡ NoRoom → SetCheckWords W L m w false w
+  pub no_member : {s : Option (Result (Unit {0}) SetRefusal)} → SetAnswered m (tables_in W L) s → s ≡ None → SetCheckWords W L m w false w
   unfolding SetAnswered
   no_member a e =
       let o : m < member_words = rw e at a in
       let z = and-false (leb 4 (length w)) (lt-leb member_words m o) in
       record { room = sym z; words = rw z refl }
 
-  pub checked-set : {s : SetChecked} {v : SetVerdict} {w' : List ℕ} → 4 ≤ length w → SetAnswered m (tables_in W L) s → s ≡ Judged v → w' ≡ set_verdict_words v w
+  pub checked-set : {s : Option (Result (Unit {0}) SetRefusal)} {v : Result (Unit {0}) SetRefusal} {w' : List ℕ} → 4 ≤ length w
+      → SetAnswered m (tables_in W L) s → s ≡ Some v → w' ≡ set_verdict_words v w
       → SetCheckWords W L m w true w'
   unfolding SetAnswered
   checked-set {s} {v} h a e p =
@@ -123,14 +118,14 @@ module _ {Ts : List (List ℤ)} {l : Lent} {limit : ℕ} {roomy : Bool} {w : Lis
   pub no_run : length w < 5 → SetRunWords Ts l limit roomy w false l.values l.cells w
   no_run h = record { room = sym (rw (lt-leb 5 (length w) h)); words = rw (lt-leb 5 (length w) h) (refl, refl, refl) }
 
-  pub no-run-room : {s : SetRun} {vs cs : List ℕ} → SetRunAnswered roomy Ts l limit s vs cs → s ≡ run.NoRoom → SetRunWords Ts l limit roomy w false vs cs w
+  pub no-run-room : {s : Option SetOutcome} {vs cs : List ℕ} → SetRunAnswered roomy Ts l limit s vs cs → s ≡ None → SetRunWords Ts l limit roomy w false vs cs w
   unfolding SetRunAnswered
   no-run-room {s} {vs} {cs} a e =
       let o : (roomy ≡ false) × (vs ≡ l.values) × (cs ≡ l.cells) = rw e at a in
       let z = and-false (leb 5 (length w)) o.0 in
       record { room = sym z; words = rw z (o.1, o.2, refl) }
 
-  pub ran-set : {s : SetRun} {o : SetOutcome} {vs cs w' : List ℕ} → 5 ≤ length w → SetRunAnswered roomy Ts l limit s vs cs → s ≡ run.Ran o
+  pub ran-set : {s : Option SetOutcome} {o : SetOutcome} {vs cs w' : List ℕ} → 5 ≤ length w → SetRunAnswered roomy Ts l limit s vs cs → s ≡ Some o
       → w' ≡ set_outcome_words o w
       → SetRunWords Ts l limit roomy w true vs cs w'
   unfolding SetRunAnswered

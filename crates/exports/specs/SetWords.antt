@@ -1,8 +1,8 @@
 -- The answers about sets of routines as words in a lent slice, as include/mizzengrape.h tells them (document 02, point 14).
-use Rattle.std.specs.Prelude.{ℕ, ◌≡◌, Bool, true, false, ◌&&◌, List, ℤ, length, set, leb}
+use Rattle.rules.specs.declared.SetRefusal.{SetRefusal}
+use Rattle.std.specs.Prelude.{ℕ, ◌≡◌, Bool, true, false, ◌&&◌, List, ℤ, length, set, leb, Result}
 use Rattle.rules.specs.Verdict.{verdict_reads}
 use Rattle.rules.specs.Sets.{SetJudged}
-use Rattle.rules.specs.declared.SetVerdict.{SetVerdict}
 use Rattle.sets.specs.Tables.{tables_in}
 use Rattle.sets.specs.Checked.{member_words, verdict_in, routine_in}
 use Rattle.answers.specs.Answers.{reads}
@@ -14,12 +14,12 @@ use Rattle.set_runs.specs.declared.SetOutcome.{SetOutcome}
 use Rattle.exports.specs.Words.{verdict_words, answer_words}
 
 -- The words of the verdict, then the routine refused; of an accepted set 0. The words behind stay.
-unfoldable pub set_verdict_words : SetVerdict → List ℕ → List ℕ
+unfoldable pub set_verdict_words : Result (Unit {0}) SetRefusal → List ℕ → List ℕ
 set_verdict_words v w = set (verdict_words (verdict_reads (verdict_in v)) w) 3 (routine_in v)
 
 -- Where there is room, the words of the verdict on the set of these tables; else nothing is written.
 abbrev pub SetCheckedIf : Bool → List ℤ → List ℕ → List ℕ → List ℕ → Type 0
-SetCheckedIf true W L w w' = (v : SetVerdict) × SetJudged (tables_in W L) v × (w' ≡ set_verdict_words v w)
+SetCheckedIf true W L w w' = (v : Result (Unit {0}) SetRefusal) × SetJudged (tables_in W L) v × (w' ≡ set_verdict_words v w)
 SetCheckedIf false W L w w' = w' ≡ w
 
 -- W: the tables one after the other, L: their lengths, m: how many words are lent for one of them, w: the words for the answer, as they were; w': what they

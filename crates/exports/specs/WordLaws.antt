@@ -1,5 +1,5 @@
 -- The words of each answer.
-use Rattle.std.specs.Prelude.{ℕ, ◌^◌, ◌≤◌, ◌<◌, ◌≡◌, refl, true, false, List, [], ℤ, length}
+use Rattle.std.specs.Prelude.{ℕ, ◌^◌, ◌≤◌, ◌<◌, ◌≡◌, refl, true, false, List, [], ℤ, length, Err, Ok, Result}
 use Rattle.std.proofs.Common.{sym, ap, ◌∙◌, le-leb}
 use Rattle.std.proofs.lemmas.Bool.{lt-leb}
 use Rattle.answers.specs.Refusals.{number, place, pointer}
@@ -8,8 +8,6 @@ use Rattle.rules.specs.Verdict.{Reading, verdict_reads, first_reads}
 use Rattle.rules.specs.Small.{ReadingSmall}
 use Rattle.rules.specs.ByChains.{chain_faults, Judged}
 use Rattle.rules.proofs.Decidable.{decided}
-use Rattle.rules.specs.declared.Verdict.{Verdict}
-use Rattle.rules.specs.declared.Verdict.TheVariants as verdict
 use Rattle.answers.specs.Answers.{check_number, check_statement, reads}
 use Rattle.interpreter.specs.SmallLaws.{AnswerSmall}
 use Rattle.interpreter.specs.Claim.{Lent, RunJudged}
@@ -20,7 +18,7 @@ use Rattle.exports.specs.Words.{put_three, put_four, verdict_words, answer_words
 
 -- ---- the numbers fit
 
-module _ {v : Verdict} {r : Refusal} (e : v ≡ verdict.Refused r) {a : ℕ} (s : ReadingSmall (verdict_reads v)) where
+module _ {v : Result (Unit {0}) Refusal} {r : Refusal} (e : v ≡ Err r) {a : ℕ} (s : ReadingSmall (verdict_reads v)) where
   pub place-fits : a ≡ place r → a < 2 ^ 32
   place-fits q = let t = rw e at s in rw q t.0
 
@@ -43,11 +41,11 @@ module _ {o : Outcome} {a : ℕ} (s : AnswerSmall (reads o)) where
 -- ---- the words
 
 module _ (w : List ℕ) {w' : List ℕ} where
-  pub accepted-words : {v : Verdict} → v ≡ verdict.Accepted → w' ≡ put_three w 0 0 0 → w' ≡ verdict_words (verdict_reads v) w
+  pub accepted-words : {v : Result (Unit {0}) Refusal} → v ≡ Ok tt → w' ≡ put_three w 0 0 0 → w' ≡ verdict_words (verdict_reads v) w
   unfolding verdict_words
   accepted-words e p = rw e p
 
-  pub refused-words : {v : Verdict} {r : Refusal} {n a p : ℕ} → v ≡ verdict.Refused r → n ≡ number r → a ≡ place r → p ≡ pointer r
+  pub refused-words : {v : Result (Unit {0}) Refusal} {r : Refusal} {n a p : ℕ} → v ≡ Err r → n ≡ number r → a ≡ place r → p ≡ pointer r
       → w' ≡ put_three w n a p → w' ≡ verdict_words (verdict_reads v) w
   unfolding verdict_words
   refused-words e en ea ep s = rw (e, ← en, ← ea, ← ep) s
@@ -73,7 +71,7 @@ module _ (w : List ℕ) {w' : List ℕ} where
 pub no_room : {T L : List ℤ} {w : List ℕ} → length w < 3 → CheckAnswer T L w false w
 no_room {w = w} h = record { room = sym (lt-leb 3 (length w) h); words = rw (lt-leb 3 (length w) h) refl }
 
-pub checked-words : {T L : List ℤ} {w w' : List ℕ} (v : Verdict) → 3 ≤ length w → Judged [] T L v → w' ≡ verdict_words (verdict_reads v) w
+pub checked-words : {T L : List ℤ} {w w' : List ℕ} (v : Result (Unit {0}) Refusal) → 3 ≤ length w → Judged [] T L v → w' ≡ verdict_words (verdict_reads v) w
     → CheckAnswer T L w true w'
 unfolding Judged
 checked-words {T} {L} {w} {w'} v h a e =

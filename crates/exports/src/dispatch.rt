@@ -35,12 +35,10 @@ fn put_routines(answer: &mut [u32], seats: [Seat; 8], count: usize)
     requires { AllSmall (λ r. reads (seat_at seats r).outcome) count × (37 ≤ length answer.old) }
     ensures { answer.new ≡ routine_words (λ r. reads (seat_at seats r).outcome) count answer.old }
 {
-    let mut r = 0;
-    while r < count {
+    for r in 0..count {
         let seat = seats[r];
         let outcome = seat.outcome;
         put_outcome_at(answer, 5 + 4 * r, outcome);
-        r += 1;
     }
 }
 
@@ -57,9 +55,9 @@ fn put_said(answer: &mut [u32], said: Said, seats: [Seat; 8], count: usize) -> b
             put_five(answer, 3, 15, 0, 0, 0);
         }
         Said::Refused { routine, refusal } => {
-            let number = answers::refusals::refusal_number(refusal);
-            let place = answers::refusals::refusal_place(refusal) as u32;
-            let pointer = answers::refusals::refusal_pointer(refusal) as u32;
+            let number = refusal.number();
+            let place = refusal.place() as u32;
+            let pointer = refusal.pointer() as u32;
             put_five(answer, 3, number, routine as u32, place, pointer);
         }
         Said::Overlaps(routine) => {

@@ -8,14 +8,15 @@ pub mod set; // set.rt: routines that call each other
 ghost use Rattle.std.specs.Prelude.{[], ◌≡◌, ◌<◌, ◌≤◌, length};
 ghost use Rattle.rules.specs.Verdict.{verdict_reads};
 ghost use Rattle.rules.specs.Small.{ReadingSmall};
+ghost use Rattle.checker.specs.Checks.{verdict_in, report_in};
 ghost use Rattle.answers.specs.Answers.{reads};
 ghost use Rattle.interpreter.specs.SmallLaws.{AnswerSmall};
 ghost use Rattle.exports.specs.Words.{version_number, put_three, put_four, verdict_words, answer_words, CheckAnswer, RunWords, CheckReport};
 ghost use Rattle.exports.specs.Numbers.{PutReported, PutAll};
 
-use answers::stops::{Outcome, check_number, check_statement};
-use reports::{Report, has};
-use rules::Verdict;
+use answers::refusals::Refusal;
+use answers::stops::Outcome;
+use reports::{Report, has, no_report};
 
 // The version that include/mizzengrape.h gives, as one number.
 const VERSION: u32 = 200;
@@ -39,18 +40,18 @@ fn put_four(answer: &mut [u32], a: u32, b: u32, c: u32, d: u32)
     answer[3] = d;
 }
 
-fn put_verdict(answer: &mut [u32], verdict: Verdict)
+fn put_verdict(answer: &mut [u32], verdict: Result<(), Refusal>)
     requires { (3 ≤ length answer.old) × ReadingSmall (verdict_reads verdict) }
     ensures { answer.new ≡ verdict_words (verdict_reads verdict) answer.old }
 {
     match verdict {
-        Verdict::Accepted => {
+        Ok(()) => {
             put_three(answer, 0, 0, 0);
         }
-        Verdict::Refused(r) => {
-            let number = answers::refusals::refusal_number(r);
-            let place = answers::refusals::refusal_place(r) as u32;
-            let pointer = answers::refusals::refusal_pointer(r) as u32;
+        Err(r) => {
+            let number = r.number();
+            let place = r.place() as u32;
+            let pointer = r.pointer() as u32;
             put_three(answer, number, place, pointer);
         }
     }
@@ -69,14 +70,14 @@ fn put_outcome(answer: &mut [u32], outcome: Outcome)
             put_four(answer, 1, steps, place, 0);
         }
         Outcome::Stopped { steps, check } => {
-            let place = check_statement(check) as u32;
-            let number = check_number(check);
+            let place = check.statement() as u32;
+            let number = check.number();
             put_four(answer, 2, steps, place, number);
         }
         Outcome::Refused(r) => {
-            let number = answers::refusals::refusal_number(r);
-            let place = answers::refusals::refusal_place(r) as u32;
-            let pointer = answers::refusals::refusal_pointer(r) as u32;
+            let number = r.number();
+            let place = r.place() as u32;
+            let pointer = r.pointer() as u32;
             put_four(answer, 3, number, place, pointer);
         }
     }
@@ -90,6 +91,21 @@ pub extern "C" fn mizzengrape_version() -> u32
     VERSION
 }
 
+// The verdict that a check answers.
+fn verdict_of(checked: Result<Report, Refusal>) -> Result<(), Refusal>
+    ensures { result ≡ verdict_in checked }
+{
+    checked?;
+    Ok(())
+}
+
+// The report that a check answers: a refused routine has none.
+fn report_of(checked: Result<Report, Refusal>) -> Report
+    ensures { result.words ≡ report_in checked }
+{
+    checked.unwrap_or(no_report())
+}
+
 // Checks a routine. False, and nothing written, where the answer has fewer than three words.
 #[unsafe(no_mangle)]
 pub extern "C" fn mizzengrape_check(table: &[i32], answer: &mut [u32]) -> bool
@@ -99,9 +115,7 @@ pub extern "C" fn mizzengrape_check(table: &[i32], answer: &mut [u32]) -> bool
         return false;
     }
     let listed = [0i32; 0];
-    let checked = checker::check(table, &listed);
-    let verdict = checked.verdict;
-    put_verdict(answer, verdict);
+    put_verdict(answer, verdict_of(checker::check(table, &listed)));
     true
 }
 
@@ -123,10 +137,8 @@ fn put_report(numbers: &mut [u32], report: Report) -> u32
     ensures { PutAll report.words numbers.old result numbers.new }
 {
     let mut count = 0;
-    let mut at = 0;
-    while at < 1024 {
+    for at in 0..1024 {
         count = put_reported(numbers, report, at, count);
-        at += 1;
     }
     count as u32
 }
@@ -150,10 +162,8 @@ pub extern "C" fn mizzengrape_check_with_facts(
         return false;
     }
     let checked = checker::check(table, facts);
-    let verdict = checked.verdict;
-    put_verdict(answer, verdict);
-    let count = put_report(report, checked.report);
-    answer[3] = count;
+    put_verdict(answer, verdict_of(checked));
+    answer[3] = put_report(report, report_of(checked));
     true
 }
 

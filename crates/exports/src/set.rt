@@ -12,22 +12,21 @@ ghost use Rattle.exports.specs.SetWords.{set_verdict_words, routine_named, set_o
 
 use crate::{put_outcome, put_verdict};
 use answers::stops::Outcome;
-use rules::{SetVerdict, Verdict};
-use set_runs::{SetOutcome, SetRun};
-use sets::SetChecked;
+use rules::SetRefusal;
+use set_runs::SetOutcome;
 
 // The words of a verdict on a set, and of the routine that it names.
-fn put_set_verdict(answer: &mut [u32], verdict: SetVerdict)
+fn put_set_verdict(answer: &mut [u32], verdict: Result<(), SetRefusal>)
     requires { (4 ≤ length answer.old) × ReadingSmall (verdict_reads (verdict_in verdict)) × (routine_in verdict < 2 ^ 32) }
     ensures { answer.new ≡ set_verdict_words verdict answer.old }
 {
     match verdict {
-        SetVerdict::Accepted => {
-            put_verdict(answer, Verdict::Accepted);
+        Ok(()) => {
+            put_verdict(answer, Ok(()));
             answer[3] = 0;
         }
-        SetVerdict::Refused { routine, refusal } => {
-            put_verdict(answer, Verdict::Refused(refusal));
+        Err(SetRefusal { routine, refusal }) => {
+            put_verdict(answer, Err(refusal));
             answer[3] = routine as u32;
         }
     }
@@ -48,7 +47,7 @@ pub extern "C" fn mizzengrape_check_set(
         return false;
     }
     let checked = sets::check_set(tables, lengths, member);
-    let SetChecked::Judged(verdict) = checked else {
+    let Some(verdict) = checked else {
         return false;
     };
     put_set_verdict(answer, verdict);
@@ -60,13 +59,8 @@ fn routine_named(outcome: Outcome, routine: usize) -> usize
     ensures { result ≡ routine_named outcome routine }
 {
     match outcome {
-        Outcome::Done { steps: _ } => 0,
-        Outcome::Spent {
-            steps: _,
-            statement: _,
-        } => routine,
-        Outcome::Stopped { steps: _, check: _ } => routine,
-        Outcome::Refused(_) => routine,
+        Outcome::Done { .. } => 0,
+        _ => routine,
     }
 }
 
@@ -110,7 +104,7 @@ pub extern "C" fn mizzengrape_run_set(
     let ran = set_runs::run_set(
         tables, lengths, directory, cells, values, origins, limit, member, ends, successors,
     );
-    let SetRun::Ran(ended) = ran else {
+    let Some(ended) = ran else {
         return false;
     };
     put_set_outcome(answer, ended);

@@ -1,5 +1,6 @@
 -- A fact set as 290 words: 17 rows of 17 sums, then 1 where the facts contradict, else 0.
 use Rattle.std.specs.Prelude.{ℕ, ◌+◌, ◌*◌, ◌/◌, ◌%◌, ◌<◌, ◌≤◌, ◌≡◌, refl, Bool, true, false, cond, List, length, get_or, set, ltb, eqb}
+use Rattle.std.specs.Int.{from_bool}
 use Rattle.std.proofs.Common.{sym, ◌∙◌, ap, ap₂, ⊎_elim, eq-or-lt_of_le, arith, lt-ltb, le-ltb, ext_get_or}
 use Rattle.arrays.specs.Tabulate.{tabulate}
 use Rattle.arrays.specs.TabulateLaws.{length-tabulate, get_d_tabulate, tabulate-alike}
@@ -75,6 +76,11 @@ rows_more {old} {mid} {new} {at} {n} {f} p q r =
       words = rw z (over-then p.words r.words refl (λ i l. refl) (λ i l. sym (word-in-row f n i q l)));
       rows = λ i l. ⊎_elim (λ (e : i ≡ n). rw e r.row) (λ (k : i < n). p.rows i k) (eq-or-lt_of_le (omega arith));
     }
+
+-- The word of a mark is the mark as a number.
+pub mark_from : (b : Bool) → from_bool b ≡ mark_word b
+mark_from true = refl
+mark_from false = refl
 
 mark-back : (b : Bool) → eqb (mark_word b) 1 ≡ b
 mark-back true = refl

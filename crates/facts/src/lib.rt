@@ -6,11 +6,12 @@
 mod rows; // rows.rt: the sums from one variable, or from zero, to each
 
 ghost use Rattle.std.specs.Prelude.{◌≡◌, false, ◌+◌, ◌≤◌, get_or, length};
-ghost use Rattle.facts.specs.Words.{mark_word, loaded, Saved};
+ghost use Rattle.facts.specs.Words.{loaded, Saved};
 ghost use Rattle.facts.specs.Store.{contradictory, least_sum, new_set, changed, added, dropped, shifted, joined};
 
 use changes::{Change, Fact, adding, no_fact, ranging, shifting};
 use rows::Row;
+use std::array;
 use sums::MAX_VALUE;
 
 #[derive(Clone, Copy)]
@@ -24,15 +25,10 @@ impl FactSet {
     pub fn new() -> FactSet
         ensures { result ≡ new_set }
     {
-        let blank = Row { sums: [0; 17] };
-        let mut next = FactSet {
-            rows: [blank; 17],
+        FactSet {
+            rows: array::from_fn(rows::new_row),
             contradiction: false,
-        };
-        for i in 0..17 {
-            next.rows[i] = rows::new_row(i);
         }
-        next
     }
 
     // The facts contradict: some chain from x to x has a sum below zero.
@@ -175,15 +171,10 @@ impl FactSet {
         requires { at + 290 ≤ length words.now }
         ensures { result ≡ loaded words.now at }
     {
-        let blank = Row { sums: [0; 17] };
-        let mut next = FactSet {
-            rows: [blank; 17],
+        FactSet {
+            rows: array::from_fn(|i| rows::load_row(words, at + 17 * i)),
             contradiction: words[at + 289] == 1,
-        };
-        for i in 0..17 {
-            next.rows[i] = rows::load_row(words, at + 17 * i);
         }
-        next
     }
 
     // The set as words, for `load`.
@@ -191,18 +182,9 @@ impl FactSet {
         requires { at + 290 ≤ length words.old }
         ensures { Saved words.old at self words.new }
     {
-        let mut i = 0;
-        while i < 17 {
-            let row = self.rows[i];
-            rows::save_row(row, words, at + 17 * i);
-            i += 1;
+        for i in 0..17 {
+            rows::save_row(self.rows[i], words, at + 17 * i);
         }
-        words[at + 289] = mark_word(self.contradiction);
+        words[at + 289] = u64::from(self.contradiction);
     }
-}
-
-fn mark_word(mark: bool) -> u64
-    ensures { result ≡ mark_word mark }
-{
-    if mark { 1 } else { 0 }
 }

@@ -1,33 +1,16 @@
 // The rows of a fact set: the sums from one variable, or from zero, to each.
-ghost use Rattle.std.specs.Prelude.{◌≡◌, true, false, cond, ◌+◌, ◌≤◌, min, max, get_or, length};
+ghost use Rattle.std.specs.Prelude.{◌≡◌, true, false, ◌+◌, ◌≤◌, get_or, length};
 ghost use Rattle.sums.specs.Sums.{concatenated};
 ghost use Rattle.facts.specs.Store.{new_sum, new_row, own_row, row_with};
 ghost use Rattle.facts.specs.Words.{loaded_row, RowSaved};
 ghost use Rattle.facts.specs.Rows.{is_plain, AllPlain, shortened_row, greatest_row, through_zero};
 
+use std::array;
 use sums::{BIAS, LIMIT, MAX_SUM, concat};
 
 #[derive(Clone, Copy)]
 pub struct Row {
     pub sums: [u64; 17],
-}
-
-fn least(a: u64, b: u64) -> u64
-    ensures { result ≡ min a b }
-{
-    if a < b { a } else { b }
-}
-
-fn greatest(a: u64, b: u64) -> u64
-    ensures { result ≡ max a b }
-{
-    if a < b { b } else { a }
-}
-
-fn choose(first: bool, a: u64, b: u64) -> u64
-    ensures { result ≡ cond first a b }
-{
-    if first { a } else { b }
 }
 
 fn new_sum(i: usize, j: usize) -> u64
@@ -45,11 +28,9 @@ fn new_sum(i: usize, j: usize) -> u64
 pub(crate) fn new_row(i: usize) -> Row
     ensures { result ≡ new_row i }
 {
-    let mut next = Row { sums: [0; 17] };
-    for j in 0..17 {
-        next.sums[j] = new_sum(i, j);
+    Row {
+        sums: array::from_fn(|j| new_sum(i, j)),
     }
-    next
 }
 
 // The sums of a row, and a row of sums. Sixteen and the last one: a copy of 136 bytes is a call, one of 128 is not.
@@ -105,7 +86,7 @@ fn lowered_plain(row: [u64; 17], start: u64, through: [u64; 17]) -> [u64; 17]
 {
     let mut next = row;
     for j in 0..17 {
-        next[j] = least(row[j], concat_plain(start, through[j]));
+        next[j] = row[j].min(concat_plain(start, through[j]));
     }
     next
 }
@@ -122,7 +103,7 @@ pub(crate) fn lowered_sums(row: [u64; 17], start: u64, through: [u64; 17], plain
     }
     let mut next = row;
     for j in 0..17 {
-        next[j] = least(row[j], concat(start, through[j]));
+        next[j] = row[j].min(concat(start, through[j]));
     }
     next
 }
@@ -133,7 +114,7 @@ pub(crate) fn own_sums(base: [u64; 17], x: usize, up: u64) -> [u64; 17]
 {
     let mut next = base;
     for j in 0..17 {
-        next[j] = choose(j == x, BIAS, concat(up, base[j]));
+        next[j] = if j == x { BIAS } else { concat(up, base[j]) };
     }
     next
 }
@@ -144,7 +125,7 @@ pub(crate) fn greatest_row(a: Row, b: Row) -> Row
 {
     let mut next = a;
     for j in 0..17 {
-        next.sums[j] = greatest(a.sums[j], b.sums[j]);
+        next.sums[j] = a.sums[j].max(b.sums[j]);
     }
     next
 }
@@ -169,20 +150,14 @@ pub(crate) fn load_row(words: &[u64], at: usize) -> Row
     requires { at + 17 ≤ length words.now }
     ensures { result ≡ loaded_row words.now at }
 {
-    let mut next = Row { sums: [0; 17] };
-    for j in 0..17 {
-        next.sums[j] = words[at + j];
+    Row {
+        sums: array::from_fn(|j| words[at + j]),
     }
-    next
 }
 
 pub(crate) fn save_row(row: Row, words: &mut [u64], at: usize)
     requires { at + 17 ≤ length words.old }
     ensures { RowSaved words.old at row words.new }
 {
-    let mut j = 0;
-    while j < 17 {
-        words[at + j] = row.sums[j];
-        j += 1;
-    }
+    words[at..at + 17].copy_from_slice(&row.sums);
 }

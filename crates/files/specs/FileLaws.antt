@@ -1,5 +1,6 @@
 -- The verdict on a file.
-use Rattle.std.specs.Prelude.{ℕ, ◌*◌, ◌/◌, ◌%◌, ◌≤◌, ◌<◌, ◌≡◌, refl, Bool, true, false, cond, List, [], ◌∷◌, leb, ℤ, length, take}
+use Rattle.answers.specs.declared.refusals.Refusal.{Refusal}
+use Rattle.std.specs.Prelude.{ℕ, ◌*◌, ◌/◌, ◌%◌, ◌≤◌, ◌<◌, ◌≡◌, refl, Bool, true, false, cond, List, [], ◌∷◌, leb, ℤ, length, take, Err, Result}
 use Rattle.std.proofs.Common.{ap, ◌∙◌, arith, eq-eqb, ne_eqb}
 use Rattle.std.proofs.Math.Bool.{and-false}
 use Rattle.std.proofs.lemmas.Bool.{lt-leb}
@@ -11,8 +12,6 @@ use Rattle.rules.specs.FactSets.{FactSets}
 use Rattle.rules.specs.Verdict.{faults, verdict_of}
 use Rattle.rules.specs.ByChains.{by_chains, Judged}
 use Rattle.rules.proofs.Decidable.{decided, says}
-use Rattle.rules.specs.declared.Verdict.{Verdict}
-use Rattle.rules.specs.declared.Verdict.TheVariants.{Refused}
 use Rattle.files.specs.Files.{word_at, words_of, file_faults, FileJudged}
 use Rattle.files.specs.Reading.{WordsRead}
 
@@ -25,11 +24,11 @@ pub faults-long : (S : FactSets) (T : List ℤ) → 7704 < length T → faults S
 unfolding faults form_of length_right
 faults-long S T h = rw (above-both (four_pairs T) (length T) h, and-false (leb 6 (length T)))
 
-pub odd_refused : (bytes : List ℕ) → (length bytes % 4 ≡ 0 → ⊥) → FileJudged bytes (Refused Length)
+pub odd_refused : (bytes : List ℕ) → (length bytes % 4 ≡ 0 → ⊥) → FileJudged bytes (Err Length)
 unfolding FileJudged file_faults verdict_of
 odd_refused bytes n = decided _ _ (λ d r. says _ _ (rw (ne_eqb (length bytes % 4) 0 n) refl))
 
-pub long-refused : (bytes : List ℕ) → length bytes % 4 ≡ 0 → 7704 < length bytes / 4 → FileJudged bytes (Refused Length)
+pub long-refused : (bytes : List ℕ) → length bytes % 4 ≡ 0 → 7704 < length bytes / 4 → FileJudged bytes (Err Length)
 unfolding FileJudged file_faults verdict_of words_of
 long-refused bytes e h =
     decided _ _ (λ d r. says _ _ (rw (
@@ -38,7 +37,7 @@ long-refused bytes e h =
           (rw (length-tabulate (length bytes / 4) (λ i. word_at bytes (4 * i))) h),
     ) refl))
 
-pub file-answered : (bytes : List ℕ) {table old L : List ℤ} {count : ℕ} (v : Verdict) → length bytes % 4 ≡ 0 → length bytes / 4 ≤ length old
+pub file-answered : (bytes : List ℕ) {table old L : List ℤ} {count : ℕ} (v : Result (Unit {0}) Refusal) → length bytes % 4 ≡ 0 → length bytes / 4 ≤ length old
     → WordsRead bytes old count table
     → L ≡ [] → Judged [] (take count table) L v → FileJudged bytes v
 unfolding FileJudged Judged file_faults words_of

@@ -1,12 +1,11 @@
 -- "The verdict program reads a file on standard input": the verdict on a file's bytes.
-use Rattle.std.specs.Prelude.{ℕ, ◌*◌, ◌/◌, ◌%◌, ◌+◌, ◌-◌, ◌^◌, cond, List, [], ◌∷◌, eqb, ltb, ℤ, pos, negsuc, length, get_or}
+use Rattle.std.specs.Prelude.{ℕ, ◌*◌, ◌/◌, ◌%◌, ◌+◌, ◌-◌, ◌^◌, cond, List, [], ◌∷◌, eqb, ltb, ℤ, pos, negsuc, length, get_or, Result}
 use Rattle.arrays.specs.Tabulate.{tabulate}
 use Rattle.answers.specs.declared.refusals.Refusal.{Refusal}
 use Rattle.answers.specs.declared.refusals.Refusal.TheVariants.{Length}
 use Rattle.rules.specs.Verdict.{faults, Says}
 use Rattle.rules.specs.FactSets.{FactSets}
 use Rattle.rules.specs.ByChains.{by_chains, Decided}
-use Rattle.rules.specs.declared.Verdict.{Verdict}
 
 -- ---- words: "Signed 32-bit words; in a file two's complement, little-endian."
 -- "two's complement": a pattern of 32 bits from 2^31 on stands for the number 2^32 less.
@@ -27,5 +26,5 @@ unfoldable pub file_faults : FactSets → List ℕ → List Refusal
 file_faults S bytes = cond (eqb (length bytes % 4) 0) (faults S [] (words_of bytes) []) (Length ∷ [])
 
 -- THE VERDICT ON A FILE, by the paper's chains of the facts of its table: it answers the first fault.
-unfoldable pub FileJudged : List ℕ → Verdict → Type 0
+unfoldable pub FileJudged : List ℕ → Result (Unit {0}) Refusal → Type 0
 FileJudged bytes v = Decided (words_of bytes) (λ d. Says (file_faults (by_chains d) bytes) v)

@@ -6,26 +6,24 @@ pub mod encoding; // encoding.rt: words of a file: 32 bits, two's complement, li
 ghost use Rattle.files.specs.Files.{FileJudged};
 
 use answers::refusals::Refusal;
-use rules::Verdict;
 
 // The largest table, in words.
 const MAX_WORDS: usize = 7704;
 
 // The verdict on a file.
-pub fn check_file(bytes: &[u8]) -> Verdict
+pub fn check_file(bytes: &[u8]) -> Result<(), Refusal>
     ensures { FileJudged bytes.now result }
 {
     let size = bytes.len();
     if size % 4 != 0 {
-        return Verdict::Refused(Refusal::Length);
+        return Err(Refusal::Length);
     }
     if size / 4 > MAX_WORDS {
-        return Verdict::Refused(Refusal::Length);
+        return Err(Refusal::Length);
     }
     let mut table = [0i32; 7704];
     let count = encoding::read_words(bytes, &mut table);
     let listed = [0i32; 0];
-    let checked = checker::check(&table[..count], &listed);
-    let verdict = checked.verdict;
-    verdict
+    checker::check(&table[..count], &listed)?;
+    Ok(())
 }

@@ -1,10 +1,9 @@
 -- How the run without origins shows the points of the plain machine, and what it needs of them.
-use Rattle.std.specs.Prelude.{ℕ, ◌<◌, ◌≤◌, ◌≡◌, true, List, ℤ, length, get_or}
+use Rattle.std.specs.Prelude.{ℕ, ◌<◌, ◌≤◌, ◌≡◌, true, List, ℤ, length, get_or, Some}
 use Rattle.words.specs.declared.sections.Sections.{Sections}
 use Rattle.statements.specs.Statements.{statement_at}
 use Rattle.statements.specs.declared.Statement.{Statement}
 use Rattle.statements.specs.declared.Statement.TheVariants.{Plain, If, While, Bundle, Call}
-use Rattle.statements.specs.declared.StatementRead.TheVariants.{Read}
 use Rattle.blocks.specs.Flow.{Successors}
 use Rattle.blocks.specs.Shape.{entries_at}
 use Rattle.reports.specs.Reports.{reported}
@@ -15,7 +14,7 @@ use Rattle.machine.specs.AlonePoints.{point_after}
 use Rattle.machine.specs.Points.{failing_at}
 use Rattle.checks.specs.Checked.{check_of}
 use Rattle.steps.specs.Bare.{Move, move, Marked}
-use Rattle.interpreter.specs.BareRun.{Result, result}
+use Rattle.interpreter.specs.BareRun.{BareResult, result}
 use Rattle.entry.specs.Ends.{ends_of}
 use Rattle.interpreter.specs.Outcomes.{outcome_shown}
 use Rattle.checks.specs.declared.Step.{Step}
@@ -31,7 +30,7 @@ step_shown stuck a = Go a
 abbrev pub move_shown : Environment → Point → Move
 move_shown E Q = move (step_shown Q.status Q.due) (ends_of E Q.rows) Q.values Q.cells
 
-abbrev pub result_shown : Environment → Sections → Point → Result
+abbrev pub result_shown : Environment → Sections → Point → BareResult
 result_shown E h Q = result (outcome_shown h Q.status Q.steps Q.due) (ends_of E Q.rows) Q.values Q.cells
 
 -- The successors m serve as n do: a statement of kinds 1 to 10 and 14 has one.
@@ -56,9 +55,9 @@ PassesAt T h E M Q =
 pub record Runnable (T : List ℤ) (h : Sections) (E : Environment) (D W S : List ℕ) (P : Point) : Type 0 where
   -- the slices that are laid out
   pub ends : W ≡ ends_of E P.rows
-  pub successors : (a : ℕ) → a < h.statements → (s : Statement) → statement_at T h a ≡ Read s → Serves s (entries_at S a) (successors_of T h E D a)
+  pub successors : (a : ℕ) → a < h.statements → (s : Statement) → statement_at T h a ≡ Some s → Serves s (entries_at S a) (successors_of T h E D a)
   -- every statement reads
-  pub reads : (a : ℕ) → a < h.statements → (s : Statement) × (statement_at T h a ≡ Read s)
+  pub reads : (a : ℕ) → a < h.statements → (s : Statement) × (statement_at T h a ≡ Some s)
   -- the objects lie in the memory, and origins are objects
   pub objects : (o : ℕ) → o < h.objects → high D o ≤ length P.cells
   pub origins : (p : ℕ) → get_or P.origins p 0 ≤ h.objects

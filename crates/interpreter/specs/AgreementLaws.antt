@@ -1,6 +1,6 @@
 -- The run without origins agrees with the plain machine, step by step and as a whole.
 use Prim.Native.Nat.{ℕ, zero, suc, ◌+◌, ◌<◌, ◌≤◌, ◌-◌}
-use Rattle.std.specs.Prelude.{◌≡◌, Bool, true, cond, List, [], ◌∷◌, leb, ltb, ℤ, get_or, set}
+use Rattle.std.specs.Prelude.{◌≡◌, Bool, true, cond, List, [], ◌∷◌, leb, ltb, ℤ, get_or, set, Option, Some}
 use Rattle.std.proofs.Math.Path.{refl, ap, subst}
 use Rattle.std.proofs.Common.{sym, ◌∙◌, length-set}
 use Rattle.std.proofs.Math.Bool.{false}
@@ -20,8 +20,6 @@ use Rattle.statements.specs.declared.Simple.TheVariants.{Literal, AddConstant, A
 use Rattle.statements.specs.declared.Simple.TheVariants.{PointerIndex, Load, Store, Check as Test, Declare}
 use Rattle.statements.specs.declared.Statement.{Statement}
 use Rattle.statements.specs.declared.Statement.TheVariants.{Plain, If, While, Bundle, Call}
-use Rattle.statements.specs.declared.StatementRead.{StatementRead}
-use Rattle.statements.specs.declared.StatementRead.TheVariants.{Read}
 use Rattle.statements.specs.Decode.{decoded_at}
 use Rattle.statements.specs.DecodeLaws.{read-decoded}
 use Rattle.blocks.specs.Flow.{Successors}
@@ -36,7 +34,7 @@ use Rattle.machine.specs.Points.{failing_at}
 use Rattle.checks.specs.Checked.{step_unless, check_of}
 use Rattle.steps.specs.Bare.{values_after, cells_after, changed_unless, Move, move, simple_move, statement_move, bare_move, InCells, InsideSimple, Inside}
 use Rattle.steps.specs.Bare.{Ready}
-use Rattle.interpreter.specs.BareRun.{Result, result, follow, bare_run, IfTrue, Onward, SafeRun}
+use Rattle.interpreter.specs.BareRun.{BareResult, result, follow, bare_run, IfTrue, Onward, SafeRun}
 use Rattle.interpreter.specs.Agreement.{step_shown, move_shown, result_shown, Serves, KnownAt, Runnable}
 use Rattle.interpreter.specs.Outcomes.{outcome_shown}
 use Rattle.entry.specs.Ends.{ends_of}
@@ -156,8 +154,8 @@ module _ (T : List ℤ) (h : Sections) (E : Environment) (D W S : List ℕ) wher
   -- A step from P whose statement is s, where the plain machine is not stuck after it.
   pub stepped : (P : Point) (s : Statement) (n : Successors) → W ≡ ends_of E P.rows → length P.rows ≡ 16 → Limits h → WellTyped T h s
       → ((p : ℕ) → get_or P.origins p 0 ≤ h.objects) →
-      ((statement_step E D (Read s) n P).status ≡ stuck → ⊥)
-      → Stepped E P (statement_step E D (Read s) n P) h.objects (statement_move W D s P.due n P.values P.cells)
+      ((statement_step E D (Some s) n P).status ≡ stuck → ⊥)
+      → Stepped E P (statement_step E D (Some s) n P) h.objects (statement_move W D s P.due n P.values P.cells)
   unfolding statement_step statement_move simple_move
   stepped P (Plain s) n w k l t o u =
       rw (w, failing-same T h E P.rows P.values s l t)
@@ -210,7 +208,7 @@ module _ (T : List ℤ) (h : Sections) (E : Environment) (D W S : List ℕ) wher
     inside-simple (Test c) n w l t u = tt
     inside-simple (Declare p r) n w l t u = tt
 
-    pub inside : (s : Statement) (n : Successors) → W ≡ ends_of E P.rows → Limits h → WellTyped T h s → ((statement_step E D (Read s) n P).status ≡ stuck → ⊥)
+    pub inside : (s : Statement) (n : Successors) → W ≡ ends_of E P.rows → Limits h → WellTyped T h s → ((statement_step E D (Some s) n P).status ≡ stuck → ⊥)
         → Inside W s P.values P.cells
     unfolding statement_step
     inside (Plain s) n w l t u = inside-simple s n.next w l t u
@@ -221,13 +219,13 @@ module _ (T : List ℤ) (h : Sections) (E : Environment) (D W S : List ℕ) wher
 
   -- ---- a point that is going, with a statement due
 
-  step-serves : (s : Statement) (m n : Successors) (P : Point) → Serves s m n → statement_step E D (Read s) n P ≡ statement_step E D (Read s) m P
+  step-serves : (s : Statement) (m n : Successors) (P : Point) → Serves s m n → statement_step E D (Some s) n P ≡ statement_step E D (Some s) m P
   unfolding statement_step
   step-serves (Plain s) m n P e =
       ap (λ (k : ℕ). after_checks (failing (in_force E P.rows) P.values s) P k (performed E D s (memory_of P))) (sym e)
-  step-serves (If c x y) m n P e = ap (λ (k : Successors). statement_step E D (Read (If c x y)) k P) (sym e)
-  step-serves (While c x) m n P e = ap (λ (k : Successors). statement_step E D (Read (While c x)) k P) (sym e)
-  step-serves (Bundle x) m n P e = ap (λ (k : Successors). statement_step E D (Read (Bundle x)) k P) (sym e)
+  step-serves (If c x y) m n P e = ap (λ (k : Successors). statement_step E D (Some (If c x y)) k P) (sym e)
+  step-serves (While c x) m n P e = ap (λ (k : Successors). statement_step E D (Some (While c x)) k P) (sym e)
+  step-serves (Bundle x) m n P e = ap (λ (k : Successors). statement_step E D (Some (Bundle x)) k P) (sym e)
   step-serves (Call c) m n P e = refl
 
   -- The points after the next one are the later points.
@@ -257,22 +255,22 @@ module _ (T : List ℤ) (h : Sections) (E : Environment) (D W S : List ℕ) wher
     abbrev here : Statement
     here = (R.reads P.due due).0
 
-    abbrev reads : statement_at T h P.due ≡ Read here
+    abbrev reads : statement_at T h P.due ≡ Some here
     reads = (R.reads P.due due).1
 
-    after_is : after P ≡ statement_step E D (Read here) (entries_at S P.due) P
+    after_is : after P ≡ statement_step E D (Some here) (entries_at S P.due) P
     unfolding next_point
     after_is =
         ap (λ (s : Status). next_point T h E D s P) g
         ∙ (ap (λ (b : Bool). step_if_due T h E D b P) (lt-ltb P.due h.statements due)
-        ∙ (ap (λ (r : StatementRead). statement_step E D r (successors_of T h E D P.due) P) reads
+        ∙ (ap (λ (r : Option Statement). statement_step E D r (successors_of T h E D P.due) P) reads
         ∙ step-serves here (entries_at S P.due) (successors_of T h E D P.due) P (R.successors P.due due here reads)))
 
     free : (after P).status ≡ stuck → ⊥
     unfolding point_after
     free e = R.unstuck 1 e
 
-    free-here : (statement_step E D (Read here) (entries_at S P.due) P).status ≡ stuck → ⊥
+    free-here : (statement_step E D (Some here) (entries_at S P.due) P).status ≡ stuck → ⊥
     free-here e = free (ap (λ (Q : Point). Q.status) after_is ∙ e)
 
     point-stepped : Stepped E P (after P) h.objects (bare_move T h W D S P.due P.values P.cells)
@@ -300,10 +298,10 @@ module _ (T : List ℤ) (h : Sections) (E : Environment) (D W S : List ℕ) wher
               inside P R.origins R.objects here (entries_at S P.due) R.ends (read-limits T h P.due here reads).0
               (read-typed T h P.due here reads) free-here;
           known = λ m s e.
-              let r : statement_at T h P.due ≡ Read (Plain s) = reads ∙ ap Read e in
+              let r : statement_at T h P.due ≡ Some (Plain s) = reads ∙ ap Some e in
               rw R.ends
               (failing-same T h E P.rows P.values s (read-limits T h P.due (Plain s) r).0 (read-typed T h P.due (Plain s) r)
-              ∙ (ap (λ (x : StatementRead). failing_at (in_force E P.rows) x P.values) (sym r) ∙ R.known 0 due m));
+              ∙ (ap (λ (x : Option Statement). failing_at (in_force E P.rows) x P.values) (sym r) ∙ R.known 0 due m));
         }
 
     -- What the run needs holds of the next point too, with the ends in force there.
@@ -368,14 +366,14 @@ module _ (T : List ℤ) (h : Sections) (E : Environment) (D S : List ℕ) where
       ap (λ (i : ℕ). result (Stopped i (check_of k P.due)) (ends_of E P.rows) P.values P.cells) e
       ∙ ap (λ (s : Status). result (outcome_shown h s P.steps P.due) (ends_of E P.rows) P.values P.cells) (sym g)
 
-  followed : (s : Status) (a n b : ℕ) (F : ℕ → Result) (W vs cs : List ℕ) (X : Result) → (s ≡ going → F a ≡ X)
+  followed : (s : Status) (a n b : ℕ) (F : ℕ → BareResult) (W vs cs : List ℕ) (X : BareResult) → (s ≡ going → F a ≡ X)
       → ((k : ℕ) → s ≡ stopped k → result (Stopped (n + 1) (check_of k a)) W vs cs ≡ X) →
       (s ≡ stuck → ⊥) → follow (step_shown s a) F n b W vs cs ≡ X
   followed going a n b F W vs cs X f c u = f refl
   followed (stopped k) a n b F W vs cs X f c u = c k refl
   followed stuck a n b F W vs cs X f c u = absurd (u refl)
 
-  by-test : (b : Bool) (x y X : Result) → (b ≡ true → x ≡ X) → (b ≡ false → y ≡ X) → cond b x y ≡ X
+  by-test : (b : Bool) (x y X : BareResult) → (b ≡ true → x ≡ X) → (b ≡ false → y ≡ X) → cond b x y ≡ X
   by-test true x y X f c = f refl
   by-test false x y X f c = c refl
 

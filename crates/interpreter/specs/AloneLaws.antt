@@ -1,5 +1,5 @@
 -- A routine by itself that is begun: the points of its own machine are those of the set of one, so that of its run it is left to show where it ends.
-use Rattle.std.specs.Prelude.{ℕ, ◌≡◌, ◌≢◌, true, List, [], ◌∷◌, ℤ, length}
+use Rattle.std.specs.Prelude.{ℕ, ◌≡◌, ◌≢◌, true, List, [], ◌∷◌, ℤ, length, Ok, Some}
 use Rattle.std.proofs.Math.Path.{refl, sym, ap}
 use Rattle.std.proofs.Common.{subst, ◌∙◌}
 use Rattle.answers.specs.Answers.{Answer, reads}
@@ -10,10 +10,8 @@ use Rattle.statements.specs.declared.CallSite.{CallSite}
 use Rattle.statements.specs.declared.Simple.{Simple}
 use Rattle.statements.specs.declared.Statement.{Statement}
 use Rattle.statements.specs.declared.Statement.TheVariants.{Plain, Call}
-use Rattle.statements.specs.declared.StatementRead.TheVariants.{Read}
 use Rattle.table.specs.Form.{form_of, sections_of}
 use Rattle.table.specs.FormLaws.{formed-sections}
-use Rattle.table.specs.declared.Form.TheVariants.{WellFormed}
 use Rattle.rules.specs.Calls.{routine_at}
 use Rattle.rules.specs.Sets.{members, routine_of, routines_of}
 use Rattle.rules.specs.Verdict.{environment_of}
@@ -53,7 +51,7 @@ module _ (T : List ℤ) (h : Sections) (D cs vs os : List ℕ) where
   answer_alone t = answer_of h (point_alone t).status (point_alone t).steps (point_alone t).due
 
 -- With the sections as they are read off the table.
-module _ (T L : List ℤ) (formed : form_of T ≡ WellFormed (sections_of T)) (accepts : faults [] T L ≡ []) (D cs vs os : List ℕ)
+module _ (T L : List ℤ) (formed : form_of T ≡ Ok (sections_of T)) (accepts : faults [] T L ≡ []) (D cs vs os : List ℕ)
     (begun : Begun (sections_of T) (environment_of T (sections_of T)) D cs vs os) where
   state-alone : (t : ℕ) → state_of (T ∷ []) (lends D cs vs os) t ≡ stack [] 0 (point_alone T (sections_of T) D cs vs os t)
   unfolding routines_of members
@@ -78,7 +76,7 @@ module _ (T L : List ℤ) (formed : form_of T ≡ WellFormed (sections_of T)) (a
         cells = c ∙ ap (λ (K : Stack). K.point.cells) e;
       })
 
-module _ (T : List ℤ) (h : Sections) (L : List ℤ) (formed : form_of T ≡ WellFormed h) (accepts : faults [] T L ≡ []) (D cs vs os : List ℕ)
+module _ (T : List ℤ) (h : Sections) (L : List ℤ) (formed : form_of T ≡ Ok h) (accepts : faults [] T L ≡ []) (D cs vs os : List ℕ)
     (begun : Begun h (environment_of T h) D cs vs os) where
   pub unstuck : (t : ℕ) → (point_alone T h D cs vs os t).status ≢ stuck
   unstuck t = (sound T h L formed accepts D cs vs os begun t).has-step
@@ -87,7 +85,7 @@ module _ (T : List ℤ) (h : Sections) (L : List ℤ) (formed : form_of T ≡ We
   rows_long t = (sound T h L formed accepts D cs vs os begun t).rows_long
 
   -- A routine by itself that is accepted comes to no call.
-  pub calls-none : (t : ℕ) (c : CallSite) → statement_at T h (point_alone T h D cs vs os t).due ≡ Read (Call c) → ⊥
+  pub calls-none : (t : ℕ) (c : CallSite) → statement_at T h (point_alone T h D cs vs os t).due ≡ Some (Call c) → ⊥
   calls-none t =
       let E = environment_of T h in
       let S = begun-setting T h L formed accepts D cs vs os begun in
@@ -101,7 +99,7 @@ module _ (T : List ℤ) (h : Sections) (L : List ℤ) (formed : form_of T ≡ We
   safe-here a e = ap (λ (g : Sections). safe_at store T g L a) (formed-sections T h formed) ∙ reported-safe T L a e
 
   -- A reported statement is of kinds 1 to 10 and 14,
-  pub report-plain : (a : ℕ) → reported_at store T L a ≡ true → (s : Statement) → statement_at T h a ≡ Read s → (x : Simple) × (s ≡ Plain x)
+  pub report-plain : (a : ℕ) → reported_at store T L a ≡ true → (s : Statement) → statement_at T h a ≡ Some s → (x : Simple) × (s ≡ Plain x)
   unfolding safe_at
   report-plain a e s r = safe-plain T h (environment_of T h) L a s (rw r at (safe-here a e))
 
@@ -129,7 +127,7 @@ module _ (T : List ℤ) (h : Sections) (L : List ℤ) (formed : form_of T ≡ We
   point-alone t =
       let e = formed-sections T h formed in
       subst (λ (g : Sections). state_of (T ∷ []) (lends D cs vs os) t ≡ stack [] 0 (point_alone T g D cs vs os t)) (sym e)
-      (state-alone T L (subst (λ (g : Sections). form_of T ≡ WellFormed g) e formed) accepts D cs vs os
+      (state-alone T L (subst (λ (g : Sections). form_of T ≡ Ok g) e formed) accepts D cs vs os
       (subst (λ (g : Sections). Begun g (environment_of T g) D cs vs os) e begun) t)
 
   -- A RUN THAT ENDS WHERE THE ROUTINE'S MACHINE ENDS IS AS CLAIMED, at every point.
@@ -137,7 +135,7 @@ module _ (T : List ℤ) (h : Sections) (L : List ℤ) (formed : form_of T ≡ We
       → cs' ≡ (point_alone T h D cs vs os t).cells → Ran (T ∷ []) (lends D cs vs os) L t (leaves r vs' cs')
   ran-alone t r vs' cs' a v c =
       let e = formed-sections T h formed in
-      ran-read T L (subst (λ (g : Sections). form_of T ≡ WellFormed g) e formed) accepts D cs vs os
+      ran-read T L (subst (λ (g : Sections). form_of T ≡ Ok g) e formed) accepts D cs vs os
       (subst (λ (g : Sections). Begun g (environment_of T g) D cs vs os) e begun) t r vs' cs'
       (subst (λ (g : Sections). reads r ≡ answer_alone T g D cs vs os t) e a) (subst (λ (g : Sections). vs' ≡ (point_alone T g D cs vs os t).values) e v)
       (subst (λ (g : Sections). cs' ≡ (point_alone T g D cs vs os t).cells) e c)

@@ -8,18 +8,18 @@ use Rattle.answers.specs.declared.stops.Outcome.{Outcome}
 use Rattle.answers.specs.declared.stops.Outcome.TheVariants.{Done, Spent, Stopped}
 
 -- A run's end: its outcome, and the ends in force, values and cells then.
-pub record Result : Type 0 where
+pub record BareResult : Type 0 where
   pub outcome : Outcome
   pub ends : List ℕ
   pub values : List ℕ
   pub cells : List ℕ
 
-abbrev pub result : Outcome → List ℕ → List ℕ → List ℕ → Result
+abbrev pub result : Outcome → List ℕ → List ℕ → List ℕ → BareResult
 result o W vs cs = record { outcome = o; ends = W; values = vs; cells = cs }
 
 -- After a step from the statement a, with n steps made before it, to the ends W, the values vs and the cells cs. A call is no step of this routine alone: the
 -- run is given up where it is due, before the limit is used.
-abbrev pub follow : Step → (ℕ → Result) → ℕ → ℕ → List ℕ → List ℕ → List ℕ → Result
+abbrev pub follow : Step → (ℕ → BareResult) → ℕ → ℕ → List ℕ → List ℕ → List ℕ → BareResult
 follow (Go b) go n a W vs cs = go b
 follow (Stop c) go n a W vs cs = result (Stopped (n + 1) c) W vs cs
 follow Call go n a W vs cs = result (Spent n a) W vs cs
@@ -37,7 +37,7 @@ Onward Call A = Unit {0}
 
 -- From the statement due with n steps made: done where nothing is due, spent where the limit is used (or, before that, a call is due), else the step, which
 -- may change the ends.
-unfoldable pub bare_run : List ℤ → Sections → List ℕ → List ℕ → List ℕ → ℕ → ℕ → ℕ → List ℕ → List ℕ → Result
+unfoldable pub bare_run : List ℤ → Sections → List ℕ → List ℕ → List ℕ → ℕ → ℕ → ℕ → List ℕ → List ℕ → BareResult
 bare_run T h W D S zero n a vs cs = cond (ltb a h.statements) (result (Spent n a) W vs cs) (result (Done n) W vs cs)
 bare_run T h W D S (suc l) n a vs cs =
     let m = bare_move T h W D S a vs cs in
@@ -53,7 +53,7 @@ SafeRun T h W D S (suc l) a vs cs =
     IfTrue (ltb a h.statements) (Ready T h W S a vs cs × Onward m.said (λ b. SafeRun T h m.ends D S l b m.values m.cells))
 
 -- A run of the code ends with the result o.
-pub record Ends (o : Result) (r : Outcome) (W vs cs : List ℕ) : Type 0 where
+pub record Ends (o : BareResult) (r : Outcome) (W vs cs : List ℕ) : Type 0 where
   pub outcome : r ≡ o.outcome
   pub ends : W ≡ o.ends
   pub values : vs ≡ o.values

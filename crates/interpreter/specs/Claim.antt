@@ -2,7 +2,7 @@
 -- a run of a set of routines; a routine by itself is a set of one. `run` promises `RunJudged` and `run_set` `SetRunJudged` for each input; demand 3 about a
 -- whole run, `WholeRun`, follows (`whole_run` in ClaimLaws); `check` promises `Judged` (rules/ByChains). By the language each call ends, touches only what it
 -- is lent, and writes neither table, directory nor origins; table words are signed, other words and the allowance unsigned 32-bit numbers.
-use Rattle.std.specs.Prelude.{ℕ, ◌+◌, ◌-◌, ◌≤◌, ◌<◌, ◌≡◌, ◌≢◌, ◌↔◌, true, false, cond, List, [], ◌∷◌, ltb, ℤ, length, get_or}
+use Rattle.std.specs.Prelude.{ℕ, ◌+◌, ◌-◌, ◌≤◌, ◌<◌, ◌≡◌, ◌≢◌, ◌↔◌, true, false, cond, List, [], ◌∷◌, ltb, ℤ, length, get_or, Some}
 use Rattle.answers.specs.Answers.{Answer, reads}
 use Rattle.answers.specs.Answers as says
 use Rattle.answers.specs.declared.refusals.Refusal.{Refusal}
@@ -13,7 +13,6 @@ use Rattle.words.specs.declared.sections.Sections.{Sections}
 use Rattle.conditions.specs.declared.Condition.{Condition}
 use Rattle.statements.specs.Statements.{statement_at}
 use Rattle.statements.specs.declared.Statement.TheVariants.{While}
-use Rattle.statements.specs.declared.StatementRead.TheVariants.{Read}
 use Rattle.blocks.specs.Tree.{tree}
 use Rattle.blocks.specs.Layout.{also}
 use Rattle.listed.specs.Entries.{entries_of, EntriesHold}
@@ -125,7 +124,7 @@ module _ (Ts : List (List ℤ)) (l : Lent) where
     -- Document 02, point 7: "At every point of a run the last cell of each terminated object is 0."
     pub last-zero : LastZero (running t).environment l.directory (running t).sections.objects (point_of t).cells
     -- Document 02, point 9: each listed fact means "x <= y + k at every test": where its while is due.
-    pub listed : (c : Condition) (n : ℕ) → statement_at (running t).table (running t).sections (point_of t).due ≡ Read (While c n)
+    pub listed : (c : Condition) (n : ℕ) → statement_at (running t).table (running t).sections (point_of t).due ≡ Some (While c n)
         → EntriesHold (entries_of L (point_of t).due) (value (point_of t).values)
     -- "No reported access stops a run at 2 or 3, whoever wrote the list": it fails no check. (What is reported: `Reported` in rules/ByChains.)
     pub reported : (d : Decider) → DecidesTable (running t).table d → reported_at (by_chains d) (running t).table L (point_of t).due ≡ true

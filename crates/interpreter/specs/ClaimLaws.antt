@@ -1,11 +1,10 @@
 -- The proof of the claim about a run: from the soundness theorem and from the agreement of the code's run with the plain machine.
-use Rattle.std.specs.Prelude.{ℕ, ◌-◌, ◌*◌, ◌<◌, ◌≤◌, ◌≡◌, refl, Bool, true, List, [], ◌∷◌, ℤ, length}
+use Rattle.std.specs.Prelude.{ℕ, ◌-◌, ◌*◌, ◌<◌, ◌≤◌, ◌≡◌, refl, Bool, true, List, [], ◌∷◌, ℤ, length, Err, Ok, Result, Some}
 use Rattle.std.proofs.Common.{sym, ap, ◌∙◌, arith, le-leb}
 use Rattle.answers.specs.declared.refusals.Refusal.{Refusal}
 use Rattle.words.specs.declared.sections.Sections.{Sections}
 use Rattle.table.specs.Form.{form_of}
 use Rattle.table.specs.FormLaws.{well-formed, formed-sections}
-use Rattle.table.specs.declared.Form.TheVariants.{WellFormed, Refused}
 use Rattle.blocks.specs.Flow.{table_flow}
 use Rattle.blocks.specs.Written.{written, Written}
 use Rattle.rules.specs.BoundsRules.{own_rows}
@@ -16,14 +15,13 @@ use Rattle.blocks.specs.Layout.{also}
 use Rattle.rules.specs.Verdict.{environment_of, verdict_of}
 use Rattle.rules.specs.Sets.{members, routines_of}
 use Rattle.rules.specs.Stored.{faults, store}
-use Rattle.rules.specs.declared.Verdict.TheVariants as verdict
 use Rattle.rules.specs.declared.Environment.{Environment}
 use Rattle.machine.specs.Soundness.{Begun}
 use Rattle.answers.specs.Answers.{reads}
 use Rattle.entry.specs.Entry.{entry_refusals}
 use Rattle.interpreter.specs.BegunLaws.{entry-begun}
 use Rattle.entry.specs.Ends.{ends_of}
-use Rattle.interpreter.specs.BareRun.{Result, Ends, SafeRun, bare_run}
+use Rattle.interpreter.specs.BareRun.{BareResult, Ends, SafeRun, bare_run}
 use Rattle.interpreter.specs.Slots.{Laid}
 use Rattle.interpreter.specs.StartLaws.{admitted, start-laid, start-safe, start-agrees}
 use Rattle.interpreter.specs.Agreement.{result_shown, PassesAt}
@@ -42,19 +40,14 @@ use Rattle.statements.specs.Statements.{statement_at}
 use Rattle.statements.specs.declared.Simple.{Simple}
 use Rattle.statements.specs.declared.Statement.{Statement}
 use Rattle.statements.specs.declared.Statement.TheVariants.{Plain}
-use Rattle.statements.specs.declared.StatementRead.TheVariants.{Read}
 use Rattle.entry.specs.Entered.{entered}
-use Rattle.entry.specs.declared.EntryVerdict.{EntryVerdict}
-use Rattle.entry.specs.declared.EntryVerdict.TheVariants as entry
 use Rattle.interpreter.specs.Starts.{Small, Launched, First, Starts}
-use Rattle.interpreter.specs.declared.starts.Start.{Start}
-use Rattle.interpreter.specs.declared.starts.Start.TheVariants as begin
 use Rattle.answers.specs.declared.stops.Outcome.TheVariants as outcome
 use Rattle.answers.specs.declared.stops.Outcome.{Outcome}
 
 -- ---- the contract of `run`
 
-module _ (T : List ℤ) (h : Sections) (L : List ℤ) (formed : form_of T ≡ WellFormed h) (accepts : faults [] T L ≡ []) (D cs vs os : List ℕ) (small : Small cs vs)
+module _ (T : List ℤ) (h : Sections) (L : List ℤ) (formed : form_of T ≡ Ok h) (accepts : faults [] T L ≡ []) (D cs vs os : List ℕ) (small : Small cs vs)
     (none : entry_refusals h (environment_of T h) D cs vs os ≡ []) where
   pub begun : Begun h (environment_of T h) D cs vs os
   begun = entry-begun h (environment_of T h) D cs vs os (admitted h (environment_of T h) D cs vs os none) small.values-small small.cells-small
@@ -69,7 +62,7 @@ module _ (T : List ℤ) (h : Sections) (L : List ℤ) (formed : form_of T ≡ We
   report-first : (M : List ℕ) → Reports T L M → (a : ℕ) → a < h.statements → reported M a ≡ true → reported_at store T L a ≡ true
   report-first M m a l e = sym (m a (omega (arith, l, (well-formed T h formed).limits.statements))) ∙ e
 
-  pub run-plain : (M : List ℕ) → Reports T L M → (a : ℕ) → a < h.statements → reported M a ≡ true → (s : Statement) → statement_at T h a ≡ Read s
+  pub run-plain : (M : List ℕ) → Reports T L M → (a : ℕ) → a < h.statements → reported M a ≡ true → (s : Statement) → statement_at T h a ≡ Some s
       → (x : Simple) × (s ≡ Plain x)
   run-plain M m a l e = report-plain T h L formed accepts D cs vs os begun a (report-first M m a l e)
 
@@ -92,27 +85,27 @@ module _ (T : List ℤ) (h : Sections) (L : List ℤ) (formed : form_of T ≡ We
       = start-agrees T h D cs vs os w M (well-formed T h formed) (clear [] T h L formed accepts).laid room (admitted h (environment_of T h) D cs vs os none)
       (unstuck T h L formed accepts D cs vs os begun) (rows_long T h L formed accepts D cs vs os begun) (run-plain M m) (run-passes M m) limit in
       ran-alone T h L formed accepts D cs vs os begun limit r vs' cs'
-      (ap reads (e.outcome ∙ ap (λ (o : Result). o.outcome) agrees) ∙ reads_at T h L formed accepts D cs vs os begun limit)
-      (e.values ∙ ap (λ (o : Result). o.values) agrees) (e.cells ∙ ap (λ (o : Result). o.cells) agrees)
+      (ap reads (e.outcome ∙ ap (λ (o : BareResult). o.outcome) agrees) ∙ reads_at T h L formed accepts D cs vs os begun limit)
+      (e.values ∙ ap (λ (o : BareResult). o.values) agrees) (e.cells ∙ ap (λ (o : BareResult). o.cells) agrees)
 
 -- ---- refusals of a run
 
 -- A table with no fault is well formed.
-pub no-form-refused : (T L : List ℤ) (r : Refusal) → faults [] T L ≡ [] → form_of T ≡ Refused r → ⊥
+pub no-form-refused : (T L : List ℤ) (r : Refusal) → faults [] T L ≡ [] → form_of T ≡ Err r → ⊥
 no-form-refused T L r e f = let p = faults-clear [] T L e in let q = p.1.form in let z : ◌≡◌ {A = ℕ} 0 1 = cc in omega arith
 
 -- Of an accepted table the faults of a run are those of the entry.
-pub entry-only : (T : List ℤ) (h : Sections) (L : List ℤ) (D cs vs os : List ℕ) → form_of T ≡ WellFormed h → faults [] T L ≡ []
+pub entry-only : (T : List ℤ) (h : Sections) (L : List ℤ) (D cs vs os : List ℕ) → form_of T ≡ Ok h → faults [] T L ≡ []
     → run_faults T L (lends D cs vs os) store ≡ entry_refusals h (environment_of T h) D cs vs os
 unfolding run_faults also routines_of members
 entry-only T h L D cs vs os f e = rw e (ap (λ (g : Sections). entry_refusals g (environment_of T g) D cs vs os) (sym (formed-sections T h f)))
 
-pub entered-none : (rs : List Refusal) → entered rs ≡ entry.Begun → rs ≡ []
+pub entered-none : (rs : List Refusal) → entered rs ≡ Ok tt → rs ≡ []
 unfolding entered
 entered-none [] e = refl
 entered-none (r ∷ rs) e = cc
 
-pub begun-ran : (T : List ℤ) (h : Sections) (L : List ℤ) (D cs vs os : List ℕ) (limit : ℕ) (r : Outcome) (vs' cs' : List ℕ) → form_of T ≡ WellFormed h
+pub begun-ran : (T : List ℤ) (h : Sections) (L : List ℤ) (D cs vs os : List ℕ) (limit : ℕ) (r : Outcome) (vs' cs' : List ℕ) → form_of T ≡ Ok h
     → faults [] T L ≡ []
     → entry_refusals h (environment_of T h) D cs vs os ≡ [] → Ran (T ∷ []) (lends D cs vs os) L limit (leaves r vs' cs')
     → RunAnswer T L (lends D cs vs os) (run_faults T L (lends D cs vs os) store) limit (leaves r vs' cs')
@@ -121,8 +114,8 @@ begun-ran T h L D cs vs os limit r vs' cs' f e n a = rw (entry-only T h L D cs v
 
 -- ---- what the code has in hand where the loop begins
 
-pub launched : {T : List ℤ} {h : Sections} {L : List ℤ} {D cs vs os W S S₀ : List ℕ} {E' : Environment} {v : EntryVerdict} {b : Bool} (w : List ℕ)
-    → form_of T ≡ WellFormed h → faults [] T L ≡ [] → Small cs vs → E' ≡ environment_of T h → v ≡ entered (entry_refusals h E' D cs vs os) → v ≡ entry.Begun
+pub launched : {T : List ℤ} {h : Sections} {L : List ℤ} {D cs vs os W S S₀ : List ℕ} {E' : Environment} {v : Result (Unit {0}) Refusal} {b : Bool} (w : List ℕ)
+    → form_of T ≡ Ok h → faults [] T L ≡ [] → Small cs vs → E' ≡ environment_of T h → v ≡ entered (entry_refusals h E' D cs vs os) → v ≡ Ok tt
     → W ≡ ends_of E' own_rows
     → Written T h w b S₀ → length w ≡ 2048 → (M : List ℕ) → Reports T L M → S ≡ marks M h.statements S₀ → Launched T h L D cs vs os W S
 launched {T} {h} {L} {D} {cs} {vs} {os} {W} {S} {S₀} {E'} {v} w f a l e q g k s n M m j =
@@ -159,12 +152,12 @@ module _ {T : List ℤ} {h : Sections} {L : List ℤ} {D cs vs os W S : List ℕ
 -- ---- refusals of `prepare`
 
 -- The verdict was a refusal.
-pub check-refused : (T L : List ℤ) (D cs vs os : List ℕ) (r : Refusal) → verdict.Refused r ≡ verdict_of (faults [] T L)
+pub check-refused : (T L : List ℤ) (D cs vs os : List ℕ) (r : Refusal) → Err r ≡ verdict_of (faults [] T L)
     → First (run_faults T L (lends D cs vs os) store) r
 unfolding run_faults also verdict_of
 check-refused T L D cs vs os r a = go (faults [] T L) a
   where
-    go : (fs : List Refusal) → verdict.Refused r ≡ verdict_of fs → First (also fs (entry_faults (T ∷ []) (lends D cs vs os))) r
+    go : (fs : List Refusal) → Err r ≡ verdict_of fs → First (also fs (entry_faults (T ∷ []) (lends D cs vs os))) r
     go [] a = let z : ◌≡◌ {A = ℕ} 0 1 = cc in absurd (omega arith)
     go (f ∷ fs) a = let e : f ≡ r = cc in (
       also fs (entry_faults (T ∷ []) (lends D cs vs os)),
@@ -172,12 +165,12 @@ check-refused T L D cs vs os r a = go (faults [] T L) a
     )
 
 -- The entry refuses.
-pub entry-refused : (T : List ℤ) (h : Sections) (L : List ℤ) (D cs vs os : List ℕ) (r : Refusal) → form_of T ≡ WellFormed h → faults [] T L ≡ []
-    → entered (entry_refusals h (environment_of T h) D cs vs os) ≡ entry.Refused r → First (run_faults T L (lends D cs vs os) store) r
+pub entry-refused : (T : List ℤ) (h : Sections) (L : List ℤ) (D cs vs os : List ℕ) (r : Refusal) → form_of T ≡ Ok h → faults [] T L ≡ []
+    → entered (entry_refusals h (environment_of T h) D cs vs os) ≡ Err r → First (run_faults T L (lends D cs vs os) store) r
 unfolding entered
 entry-refused T h L D cs vs os r f e q = rw (entry-only T h L D cs vs os f e) (go (entry_refusals h (environment_of T h) D cs vs os) q)
   where
-    go : (rs : List Refusal) → entered rs ≡ entry.Refused r → First rs r
+    go : (rs : List Refusal) → entered rs ≡ Err r → First rs r
     go [] q = let z : ◌≡◌ {A = ℕ} 0 1 = cc in absurd (omega arith)
     go (x ∷ rs) q = let e : x ≡ r = cc in (rs, ap (λ (y : Refusal). y ∷ rs) e)
 
@@ -187,11 +180,11 @@ pub first-refused : (T L : List ℤ) (l : Lent) (limit : ℕ) (r : Refusal) → 
 unfolding RunAnswer
 first-refused T L l limit r (rest, e) = rw e (record { answer = refl; routine = refl; values = refl; cells = refl })
 
-pub started-refused : (s : Start) (T L : List ℤ) (l : Lent) (W S : List ℕ) (r : Refusal) → s ≡ begin.Refused r → Starts s T L l W S
+pub started-refused : (s : Result Sections Refusal) (T L : List ℤ) (l : Lent) (W S : List ℕ) (r : Refusal) → s ≡ Err r → Starts s T L l W S
     → First (run_faults T L l store) r
 started-refused s T L l W S r e x = rw e at x
 
-pub started-launched : {s : Start} {h : Sections} (T L : List ℤ) (l : Lent) (W S : List ℕ) → s ≡ begin.Begun h → Starts s T L l W S
+pub started-launched : {s : Result Sections Refusal} {h : Sections} (T L : List ℤ) (l : Lent) (W S : List ℕ) → s ≡ Ok h → Starts s T L l W S
     → Launched T h L l.directory l.cells l.values l.origins W S
 started-launched T L l W S e x = rw e at x
 

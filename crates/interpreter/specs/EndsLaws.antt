@@ -1,6 +1,8 @@
 -- Laws of the ends laid out for the loop: the checks by them are the checks by what is declared.
+use Rattle.table.specs.declared.variables.BoundsRow.{BoundsRow}
+use Rattle.table.specs.declared.variables.Variable.{Variable}
 use Prim.Native.Nat.{ℕ, zero, suc, ◌+◌, ◌-◌, ◌*◌, ◌/◌, ◌%◌, ◌^◌, ◌<◌, ◌≤◌}
-use Rattle.std.specs.Prelude.{◌≡◌, ◌≢◌, Bool, ◌||◌, cond, ◌&&◌, List, [], ◌∷◌, eqb, ℤ, get_or, set}
+use Rattle.std.specs.Prelude.{◌≡◌, ◌≢◌, Bool, ◌||◌, cond, ◌&&◌, List, [], ◌∷◌, eqb, ℤ, get_or, set, None, Option, Some}
 use Rattle.std.proofs.Math.Path.{refl, ap, ap₂}
 use Rattle.std.proofs.Common.{◌∙◌, sym, add-one, get_or-set_same, get_or-set_other}
 use Rattle.std.proofs.Math.Decide.{ℕ_discrete}
@@ -24,14 +26,10 @@ use Rattle.table.specs.Variables.{variable_at, row_at}
 use Rattle.table.specs.VariableLaws.{variable-read-typed, variable-read-limits, row-read-typed}
 use Rattle.table.specs.declared.variables.End.{End}
 use Rattle.table.specs.declared.variables.Variable.TheVariants.{Integer, Pointer}
-use Rattle.table.specs.declared.variables.RowRead.{RowRead}
-use Rattle.table.specs.declared.variables.VariableRead.{VariableRead}
-use Rattle.table.specs.declared.variables.VariableRead.TheVariants.{Read, Unread}
 use Rattle.rules.specs.BoundsRules.{nothing_known, declared, row_bound, in_force, rows_after, element_size, sized, is_string}
 use Rattle.rules.specs.BoundsTrue.{declared-in-force}
 use Rattle.rules.specs.EnvironmentLaws.{sizes-small}
 use Rattle.rules.specs.Verdict.{bounds_of, environment_of, row_bounds}
-use Rattle.rules.specs.declared.KnownEnd.TheVariants.{Unknown}
 use Rattle.rules.specs.declared.Bounds.{Bounds}
 use Rattle.rules.specs.declared.Environment.{Environment}
 use Rattle.machine.specs.Machine.{value, end_value, end_of, lower_end, upper_end, address, none, first_of, access_failing, load_failing}
@@ -41,7 +39,6 @@ use Rattle.checks.specs.Checked.{bounds_in, declared_in, size_in, string_in, Nam
 use Rattle.checks.specs.CheckLaws.{size-in}
 use Rattle.steps.specs.Bare.{copied, ends_after}
 use Rattle.steps.specs.CopiedLaws.{copied-long, copied-inside, copied-outside}
-use Rattle.table.specs.declared.variables.RowRead.TheVariants as row
 
 pub ends-long : (E : Environment) (R : List ℕ) → length (ends_of E R) ≡ 512
 unfolding ends_of
@@ -267,7 +264,7 @@ module _ (T : List ℤ) (h : Sections) where
   end-fits e l t (suc zero) = index-fits e.integer l t.integer
   end-fits e l t (suc (suc n)) = (omega (arith, t.constant.high), λ m. absurd (omega (arith, m)))
 
-  none-fits : (j : ℕ) → EndNumber j (end_number (end_of Unknown) j)
+  none-fits : (j : ℕ) → EndNumber j (end_number (end_of None) j)
   unfolding end_number
   none-fits zero = (omega arith, λ m. omega arith)
   none-fits (suc zero) = (omega arith, λ m. omega arith)
@@ -282,19 +279,19 @@ module _ (T : List ℤ) (h : Sections) where
       go true e = ((p j).0, λ k m. (p j).1 (omega (arith, m, ltb-true j 3 e)))
       go false e = ((q (j - 3)).0, λ k m. (q (j - 3)).1 (omega (arith, k, m, ltb-false j 3 e)))
 
-  variable-fits : (v : ℕ) (r : VariableRead) → variable_at T h v ≡ r → (j : ℕ) → BoundsNumber j (bounds_number (bounds_of r) j)
-  variable-fits v Unread e j = bounds-fits nothing_known none-fits none-fits j
-  variable-fits v (Read Integer) e j = bounds-fits nothing_known none-fits none-fits j
-  variable-fits v (Read (Pointer s low high)) e j =
+  variable-fits : (v : ℕ) (r : Option Variable) → variable_at T h v ≡ r → (j : ℕ) → BoundsNumber j (bounds_number (bounds_of r) j)
+  variable-fits v None e j = bounds-fits nothing_known none-fits none-fits j
+  variable-fits v (Some Integer) e j = bounds-fits nothing_known none-fits none-fits j
+  variable-fits v (Some (Pointer s low high)) e j =
       let t = variable-read-typed T h v (Pointer s low high) e in
       let l = (variable-read-limits T h v (Pointer s low high) e).0 in
-      bounds-fits (bounds_of (Read (Pointer s low high))) (end-fits low l t.lower) (end-fits high l t.upper) j
+      bounds-fits (bounds_of (Some (Pointer s low high))) (end-fits low l t.lower) (end-fits high l t.upper) j
 
-  row_fits : (r : ℕ) (x : RowRead) → row_at T h r ≡ x → Limits h → (j : ℕ) → BoundsNumber j (bounds_number (row_bounds x) j)
-  row_fits r row.Unread e l j = bounds-fits nothing_known none-fits none-fits j
-  row_fits r (row.Read low high) e l j =
-      let t = row-read-typed T h r low high e in
-      bounds-fits (row_bounds (row.Read low high)) (end-fits low l t.lower) (end-fits high l t.upper) j
+  row_fits : (r : ℕ) (x : Option BoundsRow) → row_at T h r ≡ x → Limits h → (j : ℕ) → BoundsNumber j (bounds_number (row_bounds x) j)
+  row_fits r None e l j = bounds-fits nothing_known none-fits none-fits j
+  row_fits r (Some b) e l j =
+      let t = row-read-typed T h r b.lower b.upper e in
+      bounds-fits (row_bounds (Some b)) (end-fits b.lower l t.lower) (end-fits b.upper l t.upper) j
 
   -- The bounds of a list that is tabulated, or none.
   list-fits : (n : ℕ) (f : ℕ → Bounds) → ((i j : ℕ) → BoundsNumber j (bounds_number (f i) j)) → (i j : ℕ)

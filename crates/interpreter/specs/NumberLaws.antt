@@ -1,6 +1,7 @@
 -- A run stops with a check of number 1 to 6, which the enum of checks holds with its statement.
+use Rattle.statements.specs.declared.Statement.{Statement}
 use Prim.Native.Nat.{ℕ, zero, suc, ◌≤◌}
-use Rattle.std.specs.Prelude.{◌≡◌, refl, Bool, true, false, not, ◌||◌, ◌&&◌, List, leb, ltb, eqb, ℤ}
+use Rattle.std.specs.Prelude.{◌≡◌, refl, Bool, true, false, not, ◌||◌, ◌&&◌, List, leb, ltb, eqb, ℤ, None, Option, Some}
 use Rattle.std.proofs.Common.{sym, subst, arith}
 use Rattle.sums.specs.Numbers.{bias}
 use Rattle.words.specs.declared.sections.Sections.{Sections}
@@ -9,8 +10,6 @@ use Rattle.statements.specs.declared.Simple.{Simple}
 use Rattle.statements.specs.declared.Simple.TheVariants.{Literal, AddConstant, Arithmetic, Null, Address, PointerOffset, PointerIndex, Load, Store}
 use Rattle.statements.specs.declared.Simple.TheVariants as simple
 use Rattle.statements.specs.declared.Statement.TheVariants.{Plain, If, While, Bundle, Call}
-use Rattle.statements.specs.declared.StatementRead.{StatementRead}
-use Rattle.statements.specs.declared.StatementRead.TheVariants.{Read, Unread}
 use Rattle.blocks.specs.Flow.{Successors}
 use Rattle.rules.specs.BoundsRules.{in_force, is_string}
 use Rattle.rules.specs.declared.Environment.{Environment}
@@ -101,15 +100,15 @@ branched-held : (b : Bool) (P : Point) (n : Successors) → Held (branched b P n
 branched-held true P n = tt
 branched-held false P n = tt
 
-statement-held : (E : Environment) (D : List ℕ) (s : StatementRead) (n : Successors) (P : Point) → Held (statement_step E D s n P).status
+statement-held : (E : Environment) (D : List ℕ) (s : Option Statement) (n : Successors) (P : Point) → Held (statement_step E D s n P).status
 unfolding statement_step
-statement-held E D (Read (Plain s)) n P =
+statement-held E D (Some (Plain s)) n P =
     checks-held (failing (in_force E P.rows) P.values s) P n.next (performed E D s (memory_of P)) (failing-numbered (in_force E P.rows) P.values s)
-statement-held E D (Read (If c x y)) n P = branched-held (condition_holds P.values c) P n
-statement-held E D (Read (While c x)) n P = branched-held (condition_holds P.values c) P n
-statement-held E D (Read (Bundle x)) n P = tt
-statement-held E D (Read (Call x)) n P = tt
-statement-held E D Unread n P = tt
+statement-held E D (Some (If c x y)) n P = branched-held (condition_holds P.values c) P n
+statement-held E D (Some (While c x)) n P = branched-held (condition_holds P.values c) P n
+statement-held E D (Some (Bundle x)) n P = tt
+statement-held E D (Some (Call x)) n P = tt
+statement-held E D None n P = tt
 
 module _ (T : List ℤ) (h : Sections) (E : Environment) (D : List ℕ) where
   due-held : (b : Bool) (P : Point) → Held P.status → Held (step_if_due T h E D b P).status

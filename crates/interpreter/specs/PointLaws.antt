@@ -1,5 +1,5 @@
 -- What holds at every point of a begun run of accepted routines: demand 3 (`AtPoint`). So of a run it is left to show where it ends (`EndsAt`).
-use Rattle.std.specs.Prelude.{ℕ, ◌+◌, ◌-◌, ◌≤◌, ◌<◌, ◌≡◌, ◌≢◌, ◌↔◌, ◌⊎◌, Bool, false, List, [], ◌∷◌, ltb, ℤ, length, get_or}
+use Rattle.std.specs.Prelude.{ℕ, ◌+◌, ◌-◌, ◌≤◌, ◌<◌, ◌≡◌, ◌≢◌, ◌↔◌, ◌⊎◌, Bool, false, List, [], ◌∷◌, ltb, ℤ, length, get_or, Some}
 use Rattle.std.proofs.Math.Path.{refl, subst}
 use Rattle.std.proofs.Common.{sym, ap, ◌∙◌, inl, inr, eq-or-lt_of_le, add-one, arith, lt-ltb, le-ltb, ltb-true, ltb-false}
 use Rattle.std.proofs.Math.Bool.{true}
@@ -12,7 +12,6 @@ use Rattle.statements.specs.Statements.{statement_at}
 use Rattle.statements.specs.StatementLaws.{read-typed}
 use Rattle.statements.specs.declared.Simple.TheVariants.{Address}
 use Rattle.statements.specs.declared.Statement.TheVariants.{Plain, While}
-use Rattle.statements.specs.declared.StatementRead.TheVariants.{Read}
 use Rattle.table.specs.Form.{sections_of}
 use Rattle.blocks.specs.Tree.{tree}
 use Rattle.listed.specs.Entries.{entries_of, EntriesHold}
@@ -261,7 +260,7 @@ module _ (Ts : List (List ℤ)) (l : Lent) (L : List ℤ) (setting : SetSetting 
 
   -- ---- point 9
 
-  listed : (t : ℕ) (c : Condition) (n : ℕ) → statement_at (running Ts l t).table (running Ts l t).sections (state t).point.due ≡ Read (While c n)
+  listed : (t : ℕ) (c : Condition) (n : ℕ) → statement_at (running Ts l t).table (running Ts l t).sections (state t).point.due ≡ Some (While c n)
       → EntriesHold (entries_of L (state t).point.due) (value (state t).point.values)
   listed t c n e =
       let T = (running Ts l t).table in

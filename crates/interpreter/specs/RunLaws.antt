@@ -8,7 +8,7 @@ use borrow.Author.Tests.{lt-ltb, le-ltb}
 use Rattle.words.specs.declared.sections.Sections.{Sections}
 use Rattle.checks.specs.Checked.{size_in, Named}
 use Rattle.steps.specs.Bare.{bare_move, Ready, Prepared, Moves}
-use Rattle.interpreter.specs.BareRun.{Result, follow, bare_run, Onward, SafeRun, Ends}
+use Rattle.interpreter.specs.BareRun.{BareResult, follow, bare_run, Onward, SafeRun, Ends}
 use Rattle.answers.specs.declared.stops.Check.{Check}
 use Rattle.checks.specs.declared.Step.{Step}
 use Rattle.checks.specs.declared.Step.TheVariants.{Go, Stop, Call}
@@ -16,7 +16,7 @@ use Rattle.answers.specs.declared.stops.Outcome.{Outcome}
 use Rattle.answers.specs.declared.stops.Outcome.TheVariants.{Done, Spent, Stopped}
 
 -- A run that is the same as another ends as that does.
-pub carry : {o p : Result} {r : Outcome} {W vs cs : List ℕ} → o ≡ p → Ends p r W vs cs → Ends o r W vs cs
+pub carry : {o p : BareResult} {r : Outcome} {W vs cs : List ℕ} → o ≡ p → Ends p r W vs cs → Ends o r W vs cs
 carry e m = rw e m
 
 -- Buffers of the same length serve as well.
@@ -36,7 +36,7 @@ still-prepared W' ws l b s n e p =
     }
 
 module _ (T : List ℤ) (h : Sections) (W D S : List ℕ) where
-  abbrev run : ℕ → ℕ → ℕ → List ℕ → List ℕ → Result
+  abbrev run : ℕ → ℕ → ℕ → List ℕ → List ℕ → BareResult
   run l n a vs cs = bare_run T h W D S l n a vs cs
 
   abbrev Safe : ℕ → ℕ → List ℕ → List ℕ → Type 0

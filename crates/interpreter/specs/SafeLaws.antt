@@ -1,5 +1,5 @@
 -- Point 9: a statement that is shown safe is an access, and fails no check where the claim holds.
-use Rattle.std.specs.Prelude.{ℕ, ◌≡◌, refl, true, List, [], ◌∷◌, ℤ}
+use Rattle.std.specs.Prelude.{ℕ, ◌≡◌, refl, true, List, [], ◌∷◌, ℤ, None, Option, Some}
 use Rattle.std.proofs.lemmas.Bool.{false≢true}
 use Rattle.answers.specs.declared.refusals.Refusal.{Refusal}
 use Rattle.words.specs.declared.sections.Sections.{Sections}
@@ -7,8 +7,6 @@ use Rattle.statements.specs.Statements.{statement_at}
 use Rattle.statements.specs.declared.Simple.{Simple}
 use Rattle.statements.specs.declared.Statement.{Statement}
 use Rattle.statements.specs.declared.Statement.TheVariants.{Plain, If, While, Bundle, Call}
-use Rattle.statements.specs.declared.StatementRead.{StatementRead}
-use Rattle.statements.specs.declared.StatementRead.TheVariants.{Read, Unread}
 use Rattle.table.specs.Form.{sections_of}
 use Rattle.blocks.specs.Tree.{tree}
 use Rattle.rules.specs.BoundsRules.{in_force}
@@ -31,18 +29,18 @@ reported-safe T L a e = go (faults [] T L) e
 
 module _ (T : List ℤ) (h : Sections) (E : Environment) (L : List ℤ) where
   -- What is shown safe is of kinds 1 to 10 and 14.
-  pub safe-plain : (a : ℕ) (s : Statement) → read_safe store E (Read s) (state_before store E L (tree T h) new_state a) ≡ true → (x : Simple) × (s ≡ Plain x)
+  pub safe-plain : (a : ℕ) (s : Statement) → read_safe store E (Some s) (state_before store E L (tree T h) new_state a) ≡ true → (x : Simple) × (s ≡ Plain x)
   safe-plain a (Plain x) q = (x, refl)
   safe-plain a (If c n m) q = absurd (false≢true q)
   safe-plain a (While c n) q = absurd (false≢true q)
   safe-plain a (Bundle n) q = absurd (false≢true q)
   safe-plain a (Call c) q = absurd (false≢true q)
 
-  pub safe-passes : (D : List ℕ) (room : ℕ) (P : Point) → Sound T h E D room L P → (r : StatementRead) → statement_at T h P.due ≡ r
+  pub safe-passes : (D : List ℕ) (room : ℕ) (P : Point) → Sound T h E D room L P → (r : Option Statement) → statement_at T h P.due ≡ r
       → read_safe store E r (state_before store E L (tree T h) new_state P.due) ≡ true → failing_at (in_force E P.rows) r P.values ≡ none
-  safe-passes D room P S (Read (Plain s)) e q = S.safe s e q
-  safe-passes D room P S (Read (If c n m)) e q = absurd (false≢true q)
-  safe-passes D room P S (Read (While c n)) e q = absurd (false≢true q)
-  safe-passes D room P S (Read (Bundle n)) e q = absurd (false≢true q)
-  safe-passes D room P S (Read (Call c)) e q = absurd (false≢true q)
-  safe-passes D room P S Unread e q = absurd (false≢true q)
+  safe-passes D room P S (Some (Plain s)) e q = S.safe s e q
+  safe-passes D room P S (Some (If c n m)) e q = absurd (false≢true q)
+  safe-passes D room P S (Some (While c n)) e q = absurd (false≢true q)
+  safe-passes D room P S (Some (Bundle n)) e q = absurd (false≢true q)
+  safe-passes D room P S (Some (Call c)) e q = absurd (false≢true q)
+  safe-passes D room P S None e q = absurd (false≢true q)

@@ -1,5 +1,6 @@
 -- What one step of a set's machine does, by the statement due and the checks.
-use Rattle.std.specs.Prelude.{ℕ, zero, suc, ◌+◌, ◌≤◌, ◌<◌, ◌≡◌, ◌≢◌, ◌↔◌, Bool, ◌&&◌, cond, leb}
+use Rattle.statements.specs.declared.Statement.{Statement}
+use Rattle.std.specs.Prelude.{ℕ, zero, suc, ◌+◌, ◌≤◌, ◌<◌, ◌≡◌, ◌≢◌, ◌↔◌, Bool, ◌&&◌, cond, leb, None, Option, Some}
 use Rattle.std.proofs.Math.Path.{refl, sym}
 use Rattle.std.proofs.Common.{ap, subst, ◌∙◌, arith}
 use Rattle.std.proofs.Math.Bool.{true, false}
@@ -11,8 +12,6 @@ use Rattle.words.specs.SectionsLaws.{both}
 use Rattle.statements.specs.Statements.{statement_at}
 use Rattle.statements.specs.declared.CallSite.{CallSite}
 use Rattle.statements.specs.declared.Statement.TheVariants.{Plain, If, While, Bundle, Call}
-use Rattle.statements.specs.declared.StatementRead.{StatementRead}
-use Rattle.statements.specs.declared.StatementRead.TheVariants.{Read, Unread}
 use Rattle.rules.specs.BoundsRules.{in_force}
 use Rattle.rules.specs.Calls.{Routine}
 use Rattle.machine.specs.Machine.{Failing, none, fails, Status, going, stopped, stuck, Point, halted, statement_step, successors_of, next_point}
@@ -94,7 +93,7 @@ module _ (rs : List Routine) (D : List ℕ) where
         }
 
     module _ (g : P.status ≡ going) (d : P.due < (sections_of rs D K.routine).statements) where
-      own-next : (s : StatementRead) → statement_at (table_of rs D K.routine) (sections_of rs D K.routine) P.due ≡ s
+      own-next : (s : Option Statement) → statement_at (table_of rs D K.routine) (sections_of rs D K.routine) P.due ≡ s
           → ((own_step rs D K).point.status ≢ stuck)
           → StackFacts (failing_at (in_force (environment_of rs D K.routine) P.rows) s P.values) K (own_step rs D K)
       own-next s e u =
@@ -103,22 +102,22 @@ module _ (rs : List Routine) (D : List ℕ) where
           let q : Q ≡ statement_step (environment_of rs D n) D s (successors_of (table_of rs D n) (sections_of rs D n) (environment_of rs D n) D P.due) P =
           ap (λ (x : Status). next_point (table_of rs D n) (sections_of rs D n) (environment_of rs D n) D x P) g
           ∙ (next-going (table_of rs D n) (sections_of rs D n) (environment_of rs D n) D P d
-          ∙ ap (λ (x : StatementRead). statement_step (environment_of rs D n) D x
+          ∙ ap (λ (x : Option Statement). statement_step (environment_of rs D n) D x
           (successors_of (table_of rs D n) (sections_of rs D n) (environment_of rs D n) D P.due) P) e) in
           own-facts _ Q
           (subst (λ (X : Point). StepFacts (failing_at (in_force (environment_of rs D n) P.rows) s P.values) P X) (sym q)
           (step-facts (environment_of rs D n) D s _ P (λ z. u (settled-status K.callers n Q ∙ (ap (λ (X : Point). X.status) q ∙ z)))))
 
-      by_kind : (s : StatementRead) → statement_at (table_of rs D K.routine) (sections_of rs D K.routine) P.due ≡ s
+      by_kind : (s : Option Statement) → statement_at (table_of rs D K.routine) (sections_of rs D K.routine) P.due ≡ s
           → ((stack_step rs D s K).point.status ≢ stuck)
           → StackFacts (failing_at (in_force (environment_of rs D K.routine) P.rows) s P.values) K (stack_step rs D s K)
       unfolding stack_step
-      by_kind (Read (Call c)) e u = call_facts c
-      by_kind (Read (Plain s)) e u = own-next _ e u
-      by_kind (Read (If c x y)) e u = own-next _ e u
-      by_kind (Read (While c x)) e u = own-next _ e u
-      by_kind (Read (Bundle x)) e u = own-next _ e u
-      by_kind Unread e u = own-next _ e u
+      by_kind (Some (Call c)) e u = call_facts c
+      by_kind (Some (Plain s)) e u = own-next _ e u
+      by_kind (Some (If c x y)) e u = own-next _ e u
+      by_kind (Some (While c x)) e u = own-next _ e u
+      by_kind (Some (Bundle x)) e u = own-next _ e u
+      by_kind None e u = own-next _ e u
 
       next-is : next_stack rs D K ≡ stack_step rs D (statement_at (table_of rs D K.routine) (sections_of rs D K.routine) P.due) K
       unfolding next_stack

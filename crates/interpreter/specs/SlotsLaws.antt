@@ -1,6 +1,6 @@
 -- A run in slots is the run on the lent values: each step reads and sets the same values.
 use Prim.Native.Nat.{ℕ, zero, suc, ◌+◌, ◌-◌, ◌%◌, ◌^◌, ◌<◌, ◌≤◌}
-use Rattle.std.specs.Prelude.{◌≡◌, Bool, true, false, cond, List, ltb, ℤ, length, get_or, set}
+use Rattle.std.specs.Prelude.{◌≡◌, Bool, true, false, cond, List, ltb, ℤ, length, get_or, set, Some}
 use Rattle.std.proofs.Math.Path.{refl, ap, ap₂}
 use Rattle.std.proofs.Common.{sym, ◌∙◌, add-one, arith, ltb-true, ltb-false, length-set, get_or-set_same, get_or-set_other}
 use Rattle.std.proofs.Math.Decide.{ℕ_discrete}
@@ -20,7 +20,6 @@ use Rattle.statements.specs.declared.Simple.TheVariants.{Literal, AddConstant, A
 use Rattle.statements.specs.declared.Simple.TheVariants.{PointerIndex, Load, Store, Check as Test, Declare}
 use Rattle.statements.specs.declared.Statement.{Statement}
 use Rattle.statements.specs.declared.Statement.TheVariants.{Plain, If, While, Bundle, Call}
-use Rattle.statements.specs.declared.StatementRead.TheVariants.{Read}
 use Rattle.blocks.specs.Flow.{Successors}
 use Rattle.blocks.specs.Shape.{entries_at}
 use Rattle.table.specs.declared.variables.End.{End}
@@ -33,7 +32,7 @@ use Rattle.checks.specs.declared.Step.{Step}
 use Rattle.checks.specs.declared.Step.TheVariants.{Go, Stop}
 use Rattle.checks.specs.declared.Step.TheVariants as step
 use Rattle.steps.specs.Bare.{Move, values_after, cells_after, changed_unless, simple_move, statement_move, bare_move, InsideSimple, Inside, Ready}
-use Rattle.interpreter.specs.BareRun.{Result, result, follow, bare_run, IfTrue, Onward, SafeRun, Ends}
+use Rattle.interpreter.specs.BareRun.{BareResult, result, follow, bare_run, IfTrue, Onward, SafeRun, Ends}
 use Rattle.interpreter.specs.Slots.{slots_of, SameValues, Laid}
 use Rattle.answers.specs.declared.stops.Outcome.{Outcome}
 use Rattle.answers.specs.declared.stops.Outcome.TheVariants.{Done, Spent}
@@ -192,7 +191,7 @@ module _ (T : List ℤ) (h : Sections) (W D : List ℕ) (vs us cs : List ℕ) (s
   branched c x y = ap (λ (b : Bool). Go (cond b x y)) (same-condition vs us s c)
 
   module _ (S : List ℕ) (a : ℕ) where
-    same-statement : (U : List ℤ) (x : Statement) → statement_at U h a ≡ Read x
+    same-statement : (U : List ℤ) (x : Statement) → statement_at U h a ≡ Some x
         → SameMove vs us (statement_move W D x a (entries_at S a) vs cs) (statement_move W D x a (entries_at S a) us cs)
     unfolding statement_move
     same-statement U (Plain x) e = same-simple U x a (entries_at S a).next (read-typed U h a (Plain x) e)
@@ -239,7 +238,7 @@ module _ (T : List ℤ) (h : Sections) (W D : List ℕ) (vs us cs : List ℕ) (s
 -- ---- the run
 
 -- The result in slots (p) beside that on the lent values (o).
-pub record SameResult (vs : List ℕ) (o p : Result) : Type 0 where
+pub record SameResult (vs : List ℕ) (o p : BareResult) : Type 0 where
   pub outcome : p.outcome ≡ o.outcome
   pub ends : p.ends ≡ o.ends
   pub cells : p.cells ≡ o.cells

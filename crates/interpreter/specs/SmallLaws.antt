@@ -2,14 +2,13 @@
 use Prim.Native.Nat.{ℕ, zero, suc, ◌+◌, ◌^◌, ◌<◌, ◌≤◌}
 use Rattle.std.proofs.Math.Path.{◌≡◌, refl}
 use Rattle.std.proofs.Common.{sym, ap, ◌∙◌, add-one, ltb-true}
-use Rattle.std.specs.Prelude.{Bool, true, false, cond, List, [], ◌∷◌, ltb, ℤ, length}
+use Rattle.std.specs.Prelude.{Bool, true, false, cond, List, [], ◌∷◌, ltb, ℤ, length, Ok}
 use native.Mathlib.Omega.{arith}
 use Rattle.answers.specs.Answers.{Answer, done, spent, stopped, refused, reads}
 use Rattle.answers.specs.declared.refusals.Refusal.{Refusal}
 use Rattle.words.specs.declared.sections.Sections.{Sections}
 use Rattle.table.specs.Form.{form_of, sections_of}
 use Rattle.table.specs.FormLaws.{well-formed}
-use Rattle.table.specs.declared.Form.TheVariants as form
 use Rattle.blocks.specs.LayoutLaws.{no-first}
 use Rattle.rules.specs.FactSets.{FactSets}
 use Rattle.rules.specs.CallLaws.{AllFormed}
@@ -109,7 +108,7 @@ module _ (Ts : List (List ℤ)) (l : Lent) (formed : AllFormed (routines_of Ts))
 
 -- ---- a routine by itself
 
-alone-formed : (T : List ℤ) → form_of T ≡ form.WellFormed (sections_of T) → AllFormed (routines_of (T ∷ []))
+alone-formed : (T : List ℤ) → form_of T ≡ Ok (sections_of T) → AllFormed (routines_of (T ∷ []))
 unfolding routines_of members
 alone-formed T f zero l = record { formed = well-formed T (sections_of T) f; environment = refl }
 alone-formed T f (suc n) l = absurd (omega arith)

@@ -1,6 +1,6 @@
 -- What a run that is begun has at its start, and the whole run from there.
 use Prim.Native.Nat.{ℕ, zero, suc, ◌+◌, ◌*◌, ◌<◌, ◌≤◌}
-use Rattle.std.specs.Prelude.{◌≡◌, Bool, false, not, ◌||◌, ◌&&◌, cond, List, [], ◌∷◌, ◌++◌, ltb, eqb, ℤ, length, get_or}
+use Rattle.std.specs.Prelude.{◌≡◌, Bool, false, not, ◌||◌, ◌&&◌, cond, List, [], ◌∷◌, ◌++◌, ltb, eqb, ℤ, length, get_or, Some}
 use Rattle.std.proofs.Math.Path.{refl, ap, subst}
 use Rattle.std.proofs.Common.{sym, ◌∙◌, ⊎_elim, eq-or-lt_of_le}
 use Rattle.std.proofs.Math.Bool.{true}
@@ -20,7 +20,6 @@ use Rattle.statements.specs.Statements.{statement_at}
 use Rattle.statements.specs.declared.Simple.{Simple}
 use Rattle.statements.specs.declared.Statement.{Statement}
 use Rattle.statements.specs.declared.Statement.TheVariants.{Plain, If, While, Bundle, Call}
-use Rattle.statements.specs.declared.StatementRead.TheVariants.{Read}
 use Rattle.blocks.specs.Flow.{Successors, successors, table_flow, table_entry}
 use Rattle.blocks.specs.Shape.{entries_at}
 use Rattle.blocks.specs.Written.{written}
@@ -190,9 +189,9 @@ module _ (T : List ℤ) (h : Sections) (D cs vs os w M : List ℕ)
 
   module _ (unstuck : (t : ℕ) → (point_after T h E D t (start T h E D cs vs os)).status ≡ stuck → ⊥)
       (rows_long : (t : ℕ) → length (point_after T h E D t (start T h E D cs vs os)).rows ≡ 16)
-      (plain : (a : ℕ) → a < h.statements → reported M a ≡ true → (s : Statement) → statement_at T h a ≡ Read s → (x : Simple) × (s ≡ Plain x))
+      (plain : (a : ℕ) → a < h.statements → reported M a ≡ true → (s : Statement) → statement_at T h a ≡ Some s → (x : Simple) × (s ≡ Plain x))
       (passes : (t : ℕ) → PassesAt T h E M (point_after T h E D t (start T h E D cs vs os))) where
-    serves : (a : ℕ) → a < h.statements → (s : Statement) → statement_at T h a ≡ Read s → Serves s (entries_at S a) (successors_of T h E D a)
+    serves : (a : ℕ) → a < h.statements → (s : Statement) → statement_at T h a ≡ Some s → Serves s (entries_at S a) (successors_of T h E D a)
     serves a l s r = go (reported M a) refl
       where
         go : (b : Bool) → reported M a ≡ b → Serves s (entries_at S a) (successors_of T h E D a)

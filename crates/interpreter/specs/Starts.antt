@@ -1,10 +1,9 @@
 -- What a run begins with: a fault refuses it, or what its loop needs is laid out. (The dispatcher begins each routine so, and serves it later.)
-use Rattle.std.specs.Prelude.{ℕ, ◌*◌, ◌≤◌, ◌≡◌, List, [], ◌∷◌, ℤ, length, get_or}
+use Rattle.std.specs.Prelude.{ℕ, ◌*◌, ◌≤◌, ◌≡◌, List, [], ◌∷◌, ℤ, length, get_or, Err, Ok, Result}
 use Rattle.sums.specs.Numbers.{max_value}
 use Rattle.answers.specs.declared.refusals.Refusal.{Refusal}
 use Rattle.words.specs.declared.sections.Sections.{Sections}
 use Rattle.table.specs.Form.{form_of}
-use Rattle.table.specs.declared.Form.TheVariants.{WellFormed}
 use Rattle.blocks.specs.Flow.{table_flow}
 use Rattle.blocks.specs.Written.{written}
 use Rattle.rules.specs.BoundsRules.{own_rows}
@@ -14,8 +13,6 @@ use Rattle.entry.specs.Entry.{entry_refusals}
 use Rattle.entry.specs.Ends.{ends_of}
 use Rattle.interpreter.specs.Claim.{Lent, run_faults}
 use Rattle.interpreter.specs.Marks.{marks, Reports}
-use Rattle.interpreter.specs.declared.starts.Start.{Start}
-use Rattle.interpreter.specs.declared.starts.Start.TheVariants as begin
 
 -- The words that are lent are of 32 bits.
 pub record Small (cs vs : List ℕ) : Type 0 where
@@ -24,7 +21,7 @@ pub record Small (cs vs : List ℕ) : Type 0 where
 
 -- Nothing refuses the run; W has the declared ends, S the successors of its statements, with marks where they are reported.
 pub record Launched (T : List ℤ) (h : Sections) (L : List ℤ) (D cs vs os W S : List ℕ) : Type 0 where
-  pub formed : form_of T ≡ WellFormed h
+  pub formed : form_of T ≡ Ok h
   pub accepts : faults [] T L ≡ []
   pub small : Small cs vs
   pub none : entry_refusals h (environment_of T h) D cs vs os ≡ []
@@ -40,6 +37,6 @@ abbrev pub First : List Refusal → Refusal → Type 0
 First fs r = (rest : List Refusal) × (fs ≡ r ∷ rest)
 
 -- What `prepare` promises, by the store's facts: the first fault, or what the loop begins with is laid out.
-abbrev pub Starts : Start → List ℤ → List ℤ → Lent → List ℕ → List ℕ → Type 0
-Starts (begin.Refused r) T L l W S = First (run_faults T L l store) r
-Starts (begin.Begun h) T L l W S = Launched T h L l.directory l.cells l.values l.origins W S
+abbrev pub Starts : Result Sections Refusal → List ℤ → List ℤ → Lent → List ℕ → List ℕ → Type 0
+Starts (Err r) T L l W S = First (run_faults T L l store) r
+Starts (Ok h) T L l W S = Launched T h L l.directory l.cells l.values l.origins W S

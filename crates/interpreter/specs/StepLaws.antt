@@ -1,12 +1,11 @@
 -- What one step of the plain machine does, by the statement due and the checks: for the claim about every point.
-use Rattle.std.specs.Prelude.{ℕ, ◌+◌, ◌≤◌, ◌<◌, ◌≡◌, ◌≢◌, ◌↔◌, Bool, true, false, List, ltb, ℤ}
+use Rattle.statements.specs.declared.Statement.{Statement}
+use Rattle.std.specs.Prelude.{ℕ, ◌+◌, ◌≤◌, ◌<◌, ◌≡◌, ◌≢◌, ◌↔◌, Bool, true, false, List, ltb, ℤ, None, Option, Some}
 use Rattle.std.proofs.Math.Path.{refl}
 use Rattle.std.proofs.Common.{sym, ap, subst, ◌∙◌, arith, add-one, lt-ltb, le-ltb, ltb-true, ltb-false}
 use Rattle.words.specs.declared.sections.Sections.{Sections}
 use Rattle.statements.specs.Statements.{statement_at}
 use Rattle.statements.specs.declared.Statement.TheVariants.{Plain, If, While, Bundle, Call}
-use Rattle.statements.specs.declared.StatementRead.{StatementRead}
-use Rattle.statements.specs.declared.StatementRead.TheVariants.{Read, Unread}
 use Rattle.blocks.specs.Flow.{Successors}
 use Rattle.rules.specs.BoundsRules.{in_force}
 use Rattle.rules.specs.declared.Environment.{Environment}
@@ -52,15 +51,15 @@ branch-facts : (b : Bool) (P : Point) (n : Successors) → StepFacts none P (bra
 branch-facts true P n = moves P (branched true P n) refl refl
 branch-facts false P n = moves P (branched false P n) refl refl
 
-pub step-facts : (E : Environment) (D : List ℕ) (s : StatementRead) (n : Successors) (P : Point) → (statement_step E D s n P).status ≢ stuck
+pub step-facts : (E : Environment) (D : List ℕ) (s : Option Statement) (n : Successors) (P : Point) → (statement_step E D s n P).status ≢ stuck
     → StepFacts (failing_at (in_force E P.rows) s P.values) P (statement_step E D s n P)
 unfolding statement_step
-step-facts E D (Read (Plain s)) n P u = simple-facts (failing (in_force E P.rows) P.values s) (performed E D s (memory_of P)) P n.next u
-step-facts E D (Read (If c x y)) n P u = branch-facts (condition_holds P.values c) P n
-step-facts E D (Read (While c x)) n P u = branch-facts (condition_holds P.values c) P n
-step-facts E D (Read (Bundle x)) n P u = moves P (moved P (memory_of P) n.next) refl refl
-step-facts E D (Read (Call c)) n P u = absurd (u refl)
-step-facts E D Unread n P u = absurd (u refl)
+step-facts E D (Some (Plain s)) n P u = simple-facts (failing (in_force E P.rows) P.values s) (performed E D s (memory_of P)) P n.next u
+step-facts E D (Some (If c x y)) n P u = branch-facts (condition_holds P.values c) P n
+step-facts E D (Some (While c x)) n P u = branch-facts (condition_holds P.values c) P n
+step-facts E D (Some (Bundle x)) n P u = moves P (moved P (memory_of P) n.next) refl refl
+step-facts E D (Some (Call c)) n P u = absurd (u refl)
+step-facts E D None n P u = absurd (u refl)
 
 module _ (T : List ℤ) (h : Sections) (E : Environment) (D : List ℕ) where
   -- The next point of one that goes on.

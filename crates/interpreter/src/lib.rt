@@ -8,7 +8,7 @@ ghost use Rattle.interpreter.specs.Claim.{RunJudged};
 
 use answers::stops::Outcome;
 use runs::resume;
-use starts::{Start, prepare};
+use starts::prepare;
 
 // Checks the routine with its list of loop facts and what is lent, then runs it, `limit` steps at most. Cells and values are changed in place; a refusal
 // changes nothing.
@@ -41,8 +41,8 @@ pub fn run(
         &mut successors,
     );
     match start {
-        Start::Refused(refusal) => Outcome::Refused(refusal),
-        Start::Begun(sections) => {
+        Err(refusal) => Outcome::Refused(refusal),
+        Ok(sections) => {
             resume(
                 table,
                 sections,

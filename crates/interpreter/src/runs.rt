@@ -8,6 +8,7 @@ ghost use Rattle.interpreter.specs.Slots.{slots_of, Laid};
 use answers::stops::Outcome;
 use checks::Step;
 use machine::value_at;
+use std::array;
 use steps::advance;
 use words::sections::Sections;
 
@@ -69,11 +70,7 @@ fn run_slots(
 fn load_slots(values: &[u32]) -> [u32; 17]
     ensures { result ≡ slots_of values.now }
 {
-    let mut slots = [0u32; 17];
-    for x in 0..17 {
-        slots[x] = value_at(values, x) as u32;
-    }
-    slots
+    array::from_fn(|x| value_at(values, x) as u32)
 }
 
 // What the slots have, for each lent value.
@@ -81,11 +78,7 @@ fn store_slots(slots: [u32; 17], values: &mut [u32])
     requires { length values.old ≤ 17 }
     ensures { values.new ≡ tabulate (length values.old) (λ x. get_or slots x 0) }
 {
-    let mut x = 0;
-    while x < values.len() {
-        values[x] = slots[x];
-        x += 1;
-    }
+    values.copy_from_slice(&slots[..values.len()]);
 }
 
 // Goes on from the statement `first` with `made` steps made, up to `limit` of them, with the ends, values and cells as they are.

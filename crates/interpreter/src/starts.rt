@@ -1,7 +1,6 @@
 // What a run begins with: the routine and what is lent are checked, and what the loop needs is laid out.
-ghost use Rattle.std.specs.Prelude.{◌≡◌, cond, [], ◌+◌, ◌*◌, ◌<◌, ◌≤◌, length, set};
+ghost use Rattle.std.specs.Prelude.{◌≡◌, cond, [], ◌+◌, ◌*◌, ◌<◌, ◌≤◌, length, set, Ok};
 ghost use Rattle.table.specs.Form.{form_of};
-ghost use Rattle.table.specs.declared.Form.TheVariants.{WellFormed};
 ghost use Rattle.rules.specs.Stored.{faults};
 ghost use Rattle.steps.specs.Bare.{mark};
 ghost use Rattle.interpreter.specs.Marks.{marks, Reports};
@@ -11,30 +10,19 @@ use answers::refusals::Refusal;
 use blocks::flow::write_successors;
 use checker::check;
 use entry::ends::lay_ends;
-use entry::{EntryVerdict, enter};
+use entry::enter;
 use reports::{Report, has};
-use rules::{Verdict, read_environment};
+use rules::read_environment;
 use steps::MARK;
-use table::{Form, read_form};
+use table::read_form;
 use words::sections::Sections;
-
-// What a run begins with: a refusal, or the sections of its table.
-#[derive(Clone, Copy)]
-pub enum Start {
-    Refused(Refusal),
-    Begun(Sections),
-}
 
 // What is laid out, into the slice that is lent for it.
 pub fn copy_ends(laid: [u64; 512], ends: &mut [u64])
     requires { length ends.old ≡ 512 }
     ensures { ends.new ≡ laid }
 {
-    let mut i = 0;
-    while i < 512 {
-        ends[i] = laid[i];
-        i += 1;
-    }
+    ends.copy_from_slice(&laid);
 }
 
 // A statement that is reported, marked: its second successor is not asked for.
@@ -52,10 +40,8 @@ fn mark_reported(report: Report, count: usize, successors: &mut [u32])
     requires { (count ≤ 1024) × (2 * count ≤ length successors.old) }
     ensures { successors.new ≡ marks report.words count successors.old }
 {
-    let mut at = 0;
-    while at < count {
+    for at in 0..count {
         mark_one(successors, at, has(report, at));
-        at += 1;
     }
 }
 
@@ -71,8 +57,8 @@ fn prepare_sections(
     ends: &mut [u64],
     successors: &mut [u32],
     report: Report,
-) -> Start
-    requires table_value { (form_of table.now ≡ WellFormed sections) × (faults [] table.now listed.now ≡ []) × Reports table.now listed.now report.words }
+) -> Result<Sections, Refusal>
+    requires table_value { (form_of table.now ≡ Ok sections) × (faults [] table.now listed.now ≡ []) × Reports table.now listed.now report.words }
     requires ends_len { (length ends.old ≡ 512) × (length successors.old ≡ 2048) }
     ensures { Starts result table.now listed.now (record {
       directory = directory.entry.now;
@@ -82,19 +68,14 @@ fn prepare_sections(
     }) ends.new successors.new }
 {
     let environment = read_environment(table, sections);
-    let entry = enter(sections, environment, directory, cells, values, origins);
-    match entry {
-        EntryVerdict::Refused(refusal) => Start::Refused(refusal),
-        EntryVerdict::Begun => {
-            copy_ends(lay_ends(environment), ends);
-            write_successors(table, sections, successors);
-            mark_reported(report, sections.statements, successors);
-            Start::Begun(sections)
-        }
-    }
+    enter(sections, environment, directory, cells, values, origins)?;
+    copy_ends(lay_ends(environment), ends);
+    write_successors(table, sections, successors);
+    mark_reported(report, sections.statements, successors);
+    Ok(sections)
 }
 
-// Of an accepted table. (Its form is right, so the first arm is never taken; it answers what it would mean.)
+// Of an accepted table. (Its form is right, so `?` never ends it here; it would answer what that means.)
 // Not inlined: its locals would stand on the stack below the check.
 #[inline(never)]
 fn prepare_accepted(
@@ -107,7 +88,7 @@ fn prepare_accepted(
     ends: &mut [u64],
     successors: &mut [u32],
     report: Report,
-) -> Start
+) -> Result<Sections, Refusal>
     requires listed_value { (faults [] table.now listed.now ≡ []) × Reports table.now listed.now report.words }
     requires ends_len { (length ends.old ≡ 512) × (length successors.old ≡ 2048) }
     ensures { Starts result table.now listed.now (record {
@@ -117,16 +98,10 @@ fn prepare_accepted(
       origins = origins.now;
     }) ends.new successors.new }
 {
-    let form = read_form(table);
-    match form {
-        Form::Refused(refusal) => Start::Refused(refusal),
-        Form::WellFormed(sections) => {
-            prepare_sections(
-                table, sections, listed, directory, cells, values, origins, ends, successors,
-                report,
-            )
-        }
-    }
+    let sections = read_form(table)?;
+    prepare_sections(
+        table, sections, listed, directory, cells, values, origins, ends, successors, report,
+    )
 }
 
 // Checks the routine with its list of loop facts and what is lent, and lays out what the loop needs, in slices of 512 and 2,048 numbers.
@@ -139,7 +114,7 @@ pub fn prepare(
     origins: &[u32],
     ends: &mut [u64],
     successors: &mut [u32],
-) -> Start
+) -> Result<Sections, Refusal>
     requires { (length ends.old ≡ 512) × (length successors.old ≡ 2048) }
     ensures { Starts result table.now listed.now (record {
       directory = directory.entry.now;
@@ -148,15 +123,8 @@ pub fn prepare(
       origins = origins.now;
     }) ends.new successors.new }
 {
-    let checked = check(table, listed);
-    let verdict = checked.verdict;
-    let report = checked.report;
-    match verdict {
-        Verdict::Refused(refusal) => Start::Refused(refusal),
-        Verdict::Accepted => {
-            prepare_accepted(
-                table, listed, directory, cells, values, origins, ends, successors, report,
-            )
-        }
-    }
+    let report = check(table, listed)?;
+    prepare_accepted(
+        table, listed, directory, cells, values, origins, ends, successors, report,
+    )
 }

@@ -4,10 +4,10 @@ ghost use Rattle.text.specs.Text.{text_of, decimal, Grown, Line};
 ghost use Rattle.lines.specs.Report.{refused_text, stopped_text, entry_text, entry_line, left_line, row_line, first_row_line, corrected_line};
 
 use answers::refusals::Refusal;
-use answers::stops::{Check, Outcome, check_number, check_statement};
+use answers::stops::{Check, Outcome};
 use text::Text;
 
-// A phrase and a number behind it.
+// A phrase and a number behind it. Callers widen by `as`: with `u64::from` their answers, which name the number itself, do not close.
 fn put(text: Text, phrase: &[u8], n: u64) -> Text
     requires { text.len + length phrase.now + 20 ≤ 120 }
     ensures { Grown (text_of text) (phrase.now ++ decimal 20 n) text.len result × (result.len ≤ text.len + length phrase.now + 20) }
@@ -20,11 +20,11 @@ fn put_refusal(text: Text, r: Refusal) -> Text
     requires { text.len ≤ 25 }
     ensures { Grown (text_of text) (refused_text r) text.len result × (result.len ≤ text.len + 94) }
 {
-    let number = answers::refusals::refusal_number(r);
-    let place = answers::refusals::refusal_place(r);
+    let number = r.number();
+    let place = r.place();
     let start = put(text, b": refused ", number as u64);
     if number == 8 {
-        let pointer = answers::refusals::refusal_pointer(r);
+        let pointer = r.pointer();
         let at = put(start, b" at statement ", place as u64);
         return put(at, b", pointer ", pointer as u64);
     }
@@ -35,8 +35,8 @@ fn put_check(text: Text, check: Check) -> Text
     requires { text.len ≤ 25 }
     ensures { Grown (text_of text) (stopped_text check) text.len result × (result.len ≤ text.len + 94) }
 {
-    let number = check_number(check);
-    let place = check_statement(check);
+    let number = check.number();
+    let place = check.statement();
     let start = put(text, b": stopped at check ", number as u64);
     put(start, b" at statement ", place as u64)
 }

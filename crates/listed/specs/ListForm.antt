@@ -1,6 +1,8 @@
 -- Cause 17 by form (document 02, point 9): "when one is cut short, unsorted, or names no while, no variable (-1 twice too), two of different kinds or a k
 -- beyond 65,536 either way (found after 6, before the walk)".
+use Rattle.statements.specs.declared.Statement.{Statement}
 use Rattle.std.specs.Prelude.{ℕ, ◌+◌, ◌-◌, ◌*◌, Bool, true, false, ◌&&◌, ◌||◌, cond, List, [], ◌∷◌, ℤ, length, leb, ltb, eqb}
+use Rattle.std.specs.Prelude.{Err, None, Ok, Option, Result, Some}
 use Rattle.sums.specs.Numbers.{bias}
 use Rattle.answers.specs.declared.refusals.Refusal.{Refusal}
 use Rattle.answers.specs.declared.refusals.Refusal.TheVariants.{LoopFact}
@@ -10,20 +12,16 @@ use Rattle.words.specs.declared.sections.Sections.{Sections}
 use Rattle.conditions.specs.Conditions.{same_kind}
 use Rattle.statements.specs.Statements.{statement_at}
 use Rattle.statements.specs.declared.Statement.TheVariants.{Plain, If, While, Bundle, Call}
-use Rattle.statements.specs.declared.StatementRead.{StatementRead}
-use Rattle.statements.specs.declared.StatementRead.TheVariants.{Read, Unread}
 use Rattle.table.specs.Form.{lowest_from}
 use Rattle.listed.specs.Entries.{while_word, left_word, right_word, offset_word, entry_count}
-use Rattle.listed.specs.declared.ListForm.{ListForm}
-use Rattle.listed.specs.declared.ListForm.TheVariants as form
 
-abbrev pub is_while : StatementRead → Bool
-is_while (Read (Plain s)) = false
-is_while (Read (If c n m)) = false
-is_while (Read (While c n)) = true
-is_while (Read (Bundle n)) = false
-is_while (Read (Call c)) = false
-is_while Unread = false
+abbrev pub is_while : Option Statement → Bool
+is_while (Some (Plain s)) = false
+is_while (Some (If c n m)) = false
+is_while (Some (While c n)) = true
+is_while (Some (Bundle n)) = false
+is_while (Some (Call c)) = false
+is_while None = false
 
 unfoldable pub names_while : List ℤ → Sections → ℕ → Bool
 names_while T h w = is_while (statement_at T h (plain w)) && leb bias w
@@ -54,6 +52,6 @@ list_faults T h L =
     (cond (ltb (lowest_entry T h L) (entry_count L)) (LoopFact (lowest_entry T h L) ∷ []) [])
 
 -- The first of these faults, as the code answers it.
-unfoldable pub list_form : List Refusal → ListForm
-list_form [] = form.Right
-list_form (r ∷ rs) = form.Refused r
+unfoldable pub list_form : List Refusal → Result (Unit {0}) Refusal
+list_form [] = Ok tt
+list_form (r ∷ rs) = Err r

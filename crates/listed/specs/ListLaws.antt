@@ -1,5 +1,7 @@
 -- What the form of a list says: as the code finds it, and of each entry.
+use Rattle.statements.specs.declared.Statement.{Statement}
 use Rattle.std.specs.Prelude.{ℕ, ◌+◌, ◌*◌, ◌/◌, ◌≤◌, ◌<◌, ◌≡◌, Bool, true, false, cond, ◌&&◌, ◌||◌, List, [], ◌∷◌, ℤ, length, leb, ltb}
+use Rattle.std.specs.Prelude.{Err, Ok, Option, Result}
 use Rattle.std.proofs.Math.Path.{refl}
 use Rattle.std.proofs.Common.{sym, ◌∙◌, ap, arith}
 use Rattle.std.proofs.lemmas.Bool.{false≢true}
@@ -12,12 +14,9 @@ use Rattle.words.specs.declared.Fields.{Fields}
 use Rattle.conditions.specs.Conditions.{same_kind, condition_right}
 use Rattle.sums.specs.Numbers.{bias}
 use Rattle.statements.specs.Statements.{statement_at}
-use Rattle.statements.specs.declared.StatementRead.{StatementRead}
 use Rattle.table.specs.Searches.{holds-below}
 use Rattle.listed.specs.Entries.{entry_count}
 use Rattle.listed.specs.ListForm.{is_while, names_while, entry_right, lowest_entry, list_faults, list_form}
-use Rattle.listed.specs.declared.ListForm.{ListForm}
-use Rattle.listed.specs.declared.ListForm.TheVariants as form
 
 -- The condition x < y is right exactly where x and y are of one kind.
 pub less-right : (T : List ℤ) (h : Sections) (f : Fields) → f.second ≡ bias → f.third ≡ bias → condition_right T h f ≡ same_kind T h f.first f.fourth
@@ -30,16 +29,16 @@ less-right T h f s t =
     go false = refl
 
 module _ (T : List ℤ) (h : Sections) (L : List ℤ) where
-  pub list-long : 1024 < length L → form.Refused (LoopFact 256) ≡ list_form (list_faults T h L)
+  pub list-long : 1024 < length L → Err (LoopFact 256) ≡ list_form (list_faults T h L)
   unfolding list_form list_faults
   list-long l = rw (lt-ltb 1024 (length L) l) refl
 
   module _ (short : length L ≤ 1024) {e n : ℕ} (at : e ≡ lowest_entry T h L) (count : n ≡ entry_count L) where
-    pub list-faulty : e < n → form.Refused (LoopFact e) ≡ list_form (list_faults T h L)
+    pub list-faulty : e < n → Err (LoopFact e) ≡ list_form (list_faults T h L)
     unfolding list_form list_faults
     list-faulty l = rw (le-ltb 1024 (length L) short, ← at, ← count, lt-ltb e n l) refl
 
-    pub list_right : n ≤ e → form.Right ≡ list_form (list_faults T h L)
+    pub list_right : n ≤ e → Ok tt ≡ list_form (list_faults T h L)
     unfolding list_form list_faults
     list_right l = rw (le-ltb 1024 (length L) short, ← at, ← count, le-ltb e n l) refl
 
@@ -66,13 +65,13 @@ unfolding list_faults
 none-listed T h = ap (λ (b : Bool). cond b (LoopFact (lowest_entry T h []) ∷ []) []) (le-ltb (lowest_entry T h []) 0 (omega arith))
 
 -- The list of a well-formed verdict.
-pub form-clear : (xs : List Refusal) {l : ListForm} → l ≡ list_form xs → l ≡ form.Right → xs ≡ []
+pub form-clear : (xs : List Refusal) {l : Result (Unit {0}) Refusal} → l ≡ list_form xs → l ≡ Ok tt → xs ≡ []
 unfolding list_form
 form-clear [] e p = refl
 form-clear (x ∷ xs) e p = cc
 
 -- Whether a word names a while, by what is read.
-pub while-answer : (T : List ℤ) (h : Sections) (w : ℕ) {p : ℕ} {r : StatementRead} → p ≡ plain w → r ≡ statement_at T h p → (x : StatementRead) → r ≡ x
+pub while-answer : (T : List ℤ) (h : Sections) (w : ℕ) {p : ℕ} {r : Option Statement} → p ≡ plain w → r ≡ statement_at T h p → (x : Option Statement) → r ≡ x
     → (is_while x && leb bias w) ≡ names_while T h w
 unfolding names_while
-while-answer T h w e q x s = ap (λ (y : StatementRead). is_while y && leb bias w) (sym s ∙ (q ∙ ap (statement_at T h) e))
+while-answer T h w e q x s = ap (λ (y : Option Statement). is_while y && leb bias w) (sym s ∙ (q ∙ ap (statement_at T h) e))

@@ -7,27 +7,21 @@ ghost use Rattle.listed.specs.Entries.{entry_count, entry_at, belongs};
 ghost use Rattle.listed.specs.ListForm.{names_while, names_variable, sides_right, in_order, entry_right, lowest_entry, list_faults, list_form};
 
 use answers::refusals::Refusal;
+use arrays::lowest;
 use conditions::condition_right;
-use statements::{Statement, StatementRead, read_statement};
+use statements::{Statement, read_statement};
 use sums::BIAS;
 use words::field::{index_of, is_constant, plain};
 use words::sections::{Sections, names_integer, names_pointer};
 use words::{Fields, word};
 
 // An entry: its number in the list, and left <= right + offset, with the bias in the offset; 16 stands for zero.
-#[derive(Clone, Copy)]
+#[derive(Clone, Copy, Debug, PartialEq, Eq)]
 pub struct Entry {
     pub number: usize,
     pub left: usize,
     pub right: usize,
     pub offset: u64,
-}
-
-// What cause 17 says of the list's form.
-#[derive(Clone, Copy)]
-pub enum ListForm {
-    Right,
-    Refused(Refusal),
 }
 
 // How many entries a list of at most 1,024 words has.
@@ -62,22 +56,12 @@ fn names_while(table: &[i32], sections: Sections, w: u64) -> bool
     ensures { result ≡ names_while table.now sections w }
 {
     let read = read_statement(table, sections, plain(w));
-    let StatementRead::Read(statement) = read else {
+    let Some(statement) = read else {
         return false;
     };
     match statement {
-        Statement::Plain(_) => false,
-        Statement::If {
-            condition: _,
-            then_count: _,
-            else_count: _,
-        } => false,
-        Statement::While {
-            condition: _,
-            count: _,
-        } => BIAS <= w,
-        Statement::Bundle { count: _ } => false,
-        Statement::Call(_) => false,
+        Statement::While { .. } => BIAS <= w,
+        _ => false,
     }
 }
 
@@ -143,27 +127,22 @@ fn lowest_entry(table: &[i32], sections: Sections, listed: &[i32]) -> usize
     requires { length listed.now ≤ 1024 }
     ensures { result ≡ lowest_entry table.now sections listed.now }
 {
-    let n = entry_count(listed);
-    let mut i = 0;
-    while i < n {
-        if !entry_right(table, sections, listed, i) {
-            return i;
-        }
-        i += 1;
-    }
-    i
+    lowest(
+        entry_count(listed),
+        |e| !entry_right(table, sections, listed, e),
+    )
 }
 
 // Cause 17 by form, over the whole list.
-pub fn check_list(table: &[i32], sections: Sections, listed: &[i32]) -> ListForm
+pub fn check_list(table: &[i32], sections: Sections, listed: &[i32]) -> Result<(), Refusal>
     ensures { result ≡ list_form (list_faults table.now sections listed.now) }
 {
     if listed.len() > 1024 {
-        return ListForm::Refused(Refusal::LoopFact(256));
+        return Err(Refusal::LoopFact(256));
     }
     let entry = lowest_entry(table, sections, listed);
     if entry < entry_count(listed) {
-        return ListForm::Refused(Refusal::LoopFact(entry));
+        return Err(Refusal::LoopFact(entry));
     }
-    ListForm::Right
+    Ok(())
 }

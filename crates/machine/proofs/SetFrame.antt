@@ -1,7 +1,8 @@
 -- The frame law of a set: a step reads and writes only cells of a set R of objects, where R holds every origin and every object that any routine takes the
 -- address of. Point 14: "An object that any routine of the set takes the address of counts as reachable."
+use Rattle.statements.specs.declared.Statement.{Statement}
 use Prim.Native.Nat.{ℕ, zero, suc}
-use Rattle.std.specs.Prelude.{◌≡◌, Bool, ◌&&◌, length, get_or}
+use Rattle.std.specs.Prelude.{◌≡◌, Bool, ◌&&◌, length, get_or, None, Option, Some}
 use Rattle.std.proofs.Math.Path.{refl}
 use Rattle.std.proofs.Common.{sym, ap, subst, ◌∙◌, inr, arith, ltb-true, ltb-false}
 use Rattle.std.proofs.Math.Logic.{inl}
@@ -14,8 +15,6 @@ use Rattle.arrays.specs.TabulateLaws.{get_d_tabulate, length-tabulate}
 use Rattle.statements.specs.Statements.{statement_at}
 use Rattle.statements.specs.declared.CallSite.{CallSite}
 use Rattle.statements.specs.declared.Statement.TheVariants.{Plain, If, While, Bundle, Call}
-use Rattle.statements.specs.declared.StatementRead.{StatementRead}
-use Rattle.statements.specs.declared.StatementRead.TheVariants.{Read, Unread}
 use Rattle.rules.specs.Calls.{Routine, argument}
 use Rattle.machine.specs.Machine.{Point, start}
 use Rattle.machine.specs.Points.{Reachable}
@@ -115,16 +114,16 @@ module _ (rs : List Routine) (D : List ℕ) where
         let f = next-framed (table_of rs D n) (sections_of rs D n) (environment_of rs D n) D R (names n) K.point.status K.point o.running in
         settled-framed K K.callers n _ f.origins o.callers f.long f.elsewhere
 
-    step-framed : (K : Stack) → StackOrigins D R K → (s : StatementRead) → StackFramed D R K (stack_step rs D s K)
+    step-framed : (K : Stack) → StackOrigins D R K → (s : Option Statement) → StackFramed D R K (stack_step rs D s K)
     unfolding stack_step
-    step-framed K o (Read (Call c)) =
+    step-framed K o (Some (Call c)) =
         settled-framed K (waiting rs D K c ∷ K.callers) c.callee (begun rs D c K.point) (made-origins c _ K.point.origins o.running)
         (o.running, o.callers) refl (λ i e. refl)
-    step-framed K o (Read (Plain s)) = own-framed K o
-    step-framed K o (Read (If c x y)) = own-framed K o
-    step-framed K o (Read (While c x)) = own-framed K o
-    step-framed K o (Read (Bundle x)) = own-framed K o
-    step-framed K o Unread = own-framed K o
+    step-framed K o (Some (Plain s)) = own-framed K o
+    step-framed K o (Some (If c x y)) = own-framed K o
+    step-framed K o (Some (While c x)) = own-framed K o
+    step-framed K o (Some (Bundle x)) = own-framed K o
+    step-framed K o None = own-framed K o
 
     pub next-stack-framed : (K : Stack) → StackOrigins D R K → StackFramed D R K (next_stack rs D K)
     unfolding next_stack
@@ -159,17 +158,17 @@ module _ (rs : List Routine) (D : List ℕ) where
         alike-settled K.callers n _ _ (next-alike (table_of rs D n) (sections_of rs D n) (environment_of rs D n) D R (names n) K.point
         (with_cells K.point ds) o.running (alike-with D R K.point ds s))
 
-    step-alike : (K : Stack) (ds : List ℕ) → StackOrigins D R K → SameCells D R K.point.cells ds → (s : StatementRead)
+    step-alike : (K : Stack) (ds : List ℕ) → StackOrigins D R K → SameCells D R K.point.cells ds → (s : Option Statement)
         → StackAlike D R (stack_step rs D s K) (stack_step rs D s (stack_with K ds))
     unfolding stack_step
-    step-alike K ds o s (Read (Call c)) =
+    step-alike K ds o s (Some (Call c)) =
         alike-settled (waiting rs D K c ∷ K.callers) c.callee (begun rs D c K.point) (begun rs D c (with_cells K.point ds))
         (record { rest = refl; memory = s })
-    step-alike K ds o s (Read (Plain x)) = own-alike K ds o s
-    step-alike K ds o s (Read (If c x y)) = own-alike K ds o s
-    step-alike K ds o s (Read (While c x)) = own-alike K ds o s
-    step-alike K ds o s (Read (Bundle x)) = own-alike K ds o s
-    step-alike K ds o s Unread = own-alike K ds o s
+    step-alike K ds o s (Some (Plain x)) = own-alike K ds o s
+    step-alike K ds o s (Some (If c x y)) = own-alike K ds o s
+    step-alike K ds o s (Some (While c x)) = own-alike K ds o s
+    step-alike K ds o s (Some (Bundle x)) = own-alike K ds o s
+    step-alike K ds o s None = own-alike K ds o s
 
     with-next : (K : Stack) (ds : List ℕ) → StackOrigins D R K → SameCells D R K.point.cells ds
         → StackAlike D R (next_stack rs D K) (next_stack rs D (stack_with K ds))

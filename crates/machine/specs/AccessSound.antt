@@ -1,6 +1,6 @@
 -- An access through a pointer whose declared bounds are true lies in the origin object, where no check fails.
 use Prim.Native.Nat.{ℕ, suc, ◌+◌, ◌≤◌, ◌<◌, ◌-◌, ◌*◌, ◌^◌}
-use Rattle.std.specs.Prelude.{◌≡◌, ◌≢◌, Bool, ◌||◌, ◌&&◌, List, leb, get_or}
+use Rattle.std.specs.Prelude.{◌≡◌, ◌≢◌, Bool, ◌||◌, ◌&&◌, List, leb, get_or, Some}
 use Rattle.std.proofs.Math.Path.{refl}
 use Rattle.std.proofs.Common.{sym, ◌∙◌, inl, inr, arith}
 use Rattle.std.proofs.Math.Bool.{true, false, not}
@@ -22,7 +22,6 @@ use Rattle.rules.specs.BoundsRules.{declared, element_size, is_string, is_termin
 use Rattle.rules.specs.BoundsTrue.{end_at, BoundsHold, Proper, end_below}
 use Rattle.rules.specs.BoundsRules as bounds_rules
 use Rattle.rules.specs.EnvironmentLaws.{DeclaredEnds}
-use Rattle.rules.specs.declared.KnownEnd.TheVariants.{Known}
 use Rattle.rules.specs.declared.Environment.{Environment}
 use Rattle.machine.specs.Machine.{value, lower_end, upper_end, low, high, in_origin, Failing, none, address, load_failing, store_failing}
 use Rattle.machine.specs.Machine.{first_of, access_failing, Memory, beyond, terminator_failing}
@@ -84,7 +83,7 @@ module _ (E : Environment) (D : List ℕ) (objects : ℕ) (m : Memory) (p : ℕ)
 
   pub ends-inside : (l u : ℕ) → BoundsHold l u (declared E p) (value m.values) → (l ≤ lower_end E m.values p) × (upper_end E m.values p ≤ u)
   ends-inside l u b =
-      let c : BoundsHold l u (record { size = element_size E p; lower = Known ends.low; upper = Known ends.high }) (value m.values) = rw
+      let c : BoundsHold l u (record { size = element_size E p; lower = Some ends.low; upper = Some ends.high }) (value m.values) = rw
       ends.bounds at b in
       (omega (arith, c.lower.1, lower-value), omega (arith, c.upper.1, upper-value))
 
@@ -178,8 +177,8 @@ module _ (E : Environment) (D : List ℕ) (objects : ℕ) (m : Memory) (p : ℕ)
 
   ends-pass : (f : FactSet) (i k : ℕ) → Holds f (value m.values) → InRange (value m.values) → p < 17 → i < 17
       → (shown f zero_var p (bias - 1)
-      && (known_at_most f (element_size E p) (Known ends.low) (element_size E p) (Known (record { pointer = p; integer = i; constant = k }))
-      && known_at_most f (element_size E p) (Known (record { pointer = p; integer = i; constant = k + 1 })) (element_size E p) (Known ends.high))) ≡ true
+      && (known_at_most f (element_size E p) (Some ends.low) (element_size E p) (Some (record { pointer = p; integer = i; constant = k }))
+      && known_at_most f (element_size E p) (Some (record { pointer = p; integer = i; constant = k + 1 })) (element_size E p) (Some ends.high))) ≡ true
       → Safe (address E m.values p i k)
   unfolding bounds_rules.known_at_most
   ends-pass f i k h g hp hi t =

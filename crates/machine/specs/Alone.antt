@@ -1,6 +1,7 @@
 -- A routine by itself is a set of one: a call there is refused by 19, so none is ever due, and the machine of the set makes the routine's own steps.
+use Rattle.statements.specs.declared.Statement.{Statement}
 use Prim.Native.Nat.{ℕ, zero, suc, ◌<◌}
-use Rattle.std.specs.Prelude.{◌≡◌, Bool, ◌&&◌, ℤ, length}
+use Rattle.std.specs.Prelude.{◌≡◌, Bool, ◌&&◌, ℤ, length, None, Ok, Option, Some}
 use Rattle.std.proofs.Math.Path.{refl, ap}
 use Rattle.std.proofs.Common.{◌∙◌, arith}
 use Rattle.std.proofs.Math.Bool.{true, false}
@@ -9,12 +10,9 @@ use Rattle.std.proofs.Math.Dec.{ltb}
 use Rattle.statements.specs.Statements.{statement_at}
 use Rattle.statements.specs.declared.CallSite.{CallSite}
 use Rattle.statements.specs.declared.Statement.TheVariants.{Plain, If, While, Bundle, Call}
-use Rattle.statements.specs.declared.StatementRead.{StatementRead}
-use Rattle.statements.specs.declared.StatementRead.TheVariants.{Read, Unread}
 use Rattle.blocks.specs.Tree.{tree}
 use Rattle.table.specs.Form.{form_of, sections_of}
 use Rattle.table.specs.FormLaws.{well-formed}
-use Rattle.table.specs.declared.Form.TheVariants.{WellFormed}
 use Rattle.listed.specs.ListForm.{list_faults}
 use Rattle.rules.specs.AcceptedLaws.{clear}
 use Rattle.rules.specs.Calls.{Routine}
@@ -40,21 +38,21 @@ module _ (r : Routine) (D : List ℕ) where
   next s P = next_point r.table r.sections r.environment D s P
 
   abbrev NoCall : Point → Type 0
-  NoCall P = (c : CallSite) → statement_at r.table r.sections P.due ≡ Read (Call c) → ⊥
+  NoCall P = (c : CallSite) → statement_at r.table r.sections P.due ≡ Some (Call c) → ⊥
 
   own_alone : (P : Point) → own_step alone D (stack [] 0 P) ≡ stack [] 0 (next P.status P)
   unfolding settled
   own_alone P = refl
 
-  step-alone : (P : Point) → NoCall P → (s : StatementRead) → statement_at r.table r.sections P.due ≡ s
+  step-alone : (P : Point) → NoCall P → (s : Option Statement) → statement_at r.table r.sections P.due ≡ s
       → stack_step alone D s (stack [] 0 P) ≡ stack [] 0 (next P.status P)
   unfolding stack_step
-  step-alone P n (Read (Call c)) e = absurd (n c e)
-  step-alone P n (Read (Plain s)) e = own_alone P
-  step-alone P n (Read (If c x y)) e = own_alone P
-  step-alone P n (Read (While c x)) e = own_alone P
-  step-alone P n (Read (Bundle x)) e = own_alone P
-  step-alone P n Unread e = own_alone P
+  step-alone P n (Some (Call c)) e = absurd (n c e)
+  step-alone P n (Some (Plain s)) e = own_alone P
+  step-alone P n (Some (If c x y)) e = own_alone P
+  step-alone P n (Some (While c x)) e = own_alone P
+  step-alone P n (Some (Bundle x)) e = own_alone P
+  step-alone P n None e = own_alone P
 
   next-alone : (P : Point) → NoCall P → next_stack alone D (stack [] 0 P) ≡ stack [] 0 (next P.status P)
   unfolding next_stack next_point
@@ -90,7 +88,7 @@ module _ (r : Routine) (D : List ℕ) where
 
 -- ---- a routine by itself that is begun is a set in its setting
 
-module _ (T L : List ℤ) (formed : form_of T ≡ WellFormed (sections_of T)) (accepts : faults [] T L ≡ []) (D cs vs os : List ℕ)
+module _ (T L : List ℤ) (formed : form_of T ≡ Ok (sections_of T)) (accepts : faults [] T L ≡ []) (D cs vs os : List ℕ)
     (begun : Begun (sections_of T) (environment_of T (sections_of T)) D cs vs os) where
   abbrev one : List Routine
   one = routine_of T ∷ []

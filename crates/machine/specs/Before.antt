@@ -1,6 +1,6 @@
 -- The facts before a statement that is due. What point 11 rests on: they do not contradict, since they are true of some values. What the report of point 9
 -- rests on: before a statement that is no head of a block they are true of the values now.
-use Rattle.std.specs.Prelude.{ℕ, ◌+◌, ◌≤◌, ◌<◌, false, ℤ}
+use Rattle.std.specs.Prelude.{ℕ, ◌+◌, ◌≤◌, ◌<◌, false, ℤ, Some}
 use Rattle.std.proofs.Math.Path.{◌≡◌, ap}
 use Rattle.std.proofs.Common.{◌∙◌, arith}
 use Rattle.std.proofs.Math.Logic.{inl, inr}
@@ -14,7 +14,6 @@ use Rattle.words.specs.declared.sections.Sections.{Sections}
 use Rattle.statements.specs.Statements.{statement_at}
 use Rattle.statements.specs.declared.Simple.{Simple}
 use Rattle.statements.specs.declared.Statement.TheVariants.{Plain, While}
-use Rattle.statements.specs.declared.StatementRead.TheVariants.{Read}
 use Rattle.blocks.specs.Tree.{Block, nil, plain, branch, loop, bundle, call, unread}
 use Rattle.blocks.specs.Shape.{size, Numbered, Reads}
 use Rattle.rules.specs.Stored.{store}
@@ -62,8 +61,8 @@ module _ (T : List ℤ) (h : Sections) (E : Environment) (D : List ℕ) (room : 
 
   pub record Before (U : State FactSet) (d : ℕ) (m : Memory) : Type 0 where
     pub consistent : contradictory U.facts ≡ false
-    pub facts : (s : Simple) → statement_at T h d ≡ Read (Plain s) → Holds U.facts (value m.values)
-    pub rows : (s : Simple) → statement_at T h d ≡ Read (Plain s) → m.rows ≡ U.rows
+    pub facts : (s : Simple) → statement_at T h d ≡ Some (Plain s) → Holds U.facts (value m.values)
+    pub rows : (s : Simple) → statement_at T h d ≡ Some (Plain s) → m.rows ≡ U.rows
 
   here : (U : State FactSet) (K : List Bounds) (d : ℕ) (m : Memory) → Good h E D room U K m → Before U d m
   here U K d m g = record { consistent = holds-clear _ _ g.facts; facts = λ s e. g.facts; rows = λ s e. g.rows }
@@ -100,7 +99,7 @@ module _ (T : List ℤ) (h : Sections) (E : Environment) (D : List ℕ) (room : 
       (before-due r (a + 1 + size t + size e) _ d m n.3 r₀.3 i)
   -- Before a loop the facts were true of some values, though these may be others by now.
   before-due (loop a c t r) lo W d m n r₀ (inl (w, inl i)) =
-      let read : statement_at T h d ≡ Read (While c (size t)) = ap (statement_at T h) i.0.0 ∙ r₀.0 in
+      let read : statement_at T h d ≡ Some (While c (size t)) = ap (statement_at T h) i.0.0 ∙ r₀.0 in
       rw (eq-eqb d a i.0.0) (record {
         consistent = holds-clear _ _ w.held;
         facts = λ s e. let z : ◌≡◌ {A = ℕ} 0 1 = cc in absurd

@@ -1,5 +1,6 @@
 -- A step from inside a block of an accepted routine stays inside, or leaves the block for what follows it; and it changes only what the block assigns.
-use Rattle.std.specs.Prelude.{ℕ, ◌+◌, ◌≡◌, ◌⊎◌, Bool, ℤ, length}
+use Rattle.statements.specs.declared.Statement.{Statement}
+use Rattle.std.specs.Prelude.{ℕ, ◌+◌, ◌≡◌, ◌⊎◌, Bool, ℤ, length, None, Option, Some}
 use Rattle.std.proofs.Math.Path.{refl}
 use Rattle.std.proofs.Common.{◌∙◌}
 use Rattle.std.proofs.Math.Logic.{inl, inr}
@@ -17,8 +18,6 @@ use Rattle.statements.specs.declared.Simple.{Simple}
 use Rattle.statements.specs.declared.Simple.TheVariants.{Literal, AddConstant, Arithmetic, Null, Address}
 use Rattle.statements.specs.declared.Simple.TheVariants.{PointerOffset, PointerIndex, Load, Store, Check, Declare}
 use Rattle.statements.specs.declared.Statement.TheVariants.{Plain, If, While, Bundle, Call}
-use Rattle.statements.specs.declared.StatementRead.{StatementRead}
-use Rattle.statements.specs.declared.StatementRead.TheVariants.{Read, Unread}
 use Rattle.blocks.specs.Tree.{Block, nil, plain, branch, loop, bundle, call, unread, target, targets, call_target, assigned}
 use Rattle.blocks.specs.Flow.{Successors, successors, entry, lead}
 use Rattle.blocks.specs.Shape.{size}
@@ -64,13 +63,13 @@ checked G P n none (done m) k = leads n m (k refl)
 checked G P n none no_step k = absurd (k refl)
 
 -- The step of a routine in which a call is one step too, where `ret` is what its callee leaves.
-unfoldable pub frame_step : Environment → List ℕ → Returned → StatementRead → Successors → Point → Point
-frame_step E D ret (Read (Plain s)) n P = statement_step E D (Read (Plain s)) n P
-frame_step E D ret (Read (If c x y)) n P = statement_step E D (Read (If c x y)) n P
-frame_step E D ret (Read (While c x)) n P = statement_step E D (Read (While c x)) n P
-frame_step E D ret (Read (Bundle x)) n P = statement_step E D (Read (Bundle x)) n P
-frame_step E D ret (Read (Call c)) n P = moved P (returned_to (memory_of P) c ret) n.next
-frame_step E D ret Unread n P = statement_step E D Unread n P
+unfoldable pub frame_step : Environment → List ℕ → Returned → Option Statement → Successors → Point → Point
+frame_step E D ret (Some (Plain s)) n P = statement_step E D (Some (Plain s)) n P
+frame_step E D ret (Some (If c x y)) n P = statement_step E D (Some (If c x y)) n P
+frame_step E D ret (Some (While c x)) n P = statement_step E D (Some (While c x)) n P
+frame_step E D ret (Some (Bundle x)) n P = statement_step E D (Some (Bundle x)) n P
+frame_step E D ret (Some (Call c)) n P = moved P (returned_to (memory_of P) c ret) n.next
+frame_step E D ret None n P = statement_step E D None n P
 
 into : {A B C : Type 0} → B ⊎ C → (A ⊎ B) ⊎ C
 into (inl b) = inl (inr b)
@@ -203,7 +202,7 @@ module _ (T : List ℤ) (h : Sections) (E : Environment) (D : List ℕ) (room : 
     abbrev step : Point → Point
     step P = frame_step E D ret (statement_at T h P.due) (f P.due) P
 
-    step-at : (P : Point) (a : ℕ) (r : StatementRead) (s : Successors) → P.due ≡ a → statement_at T h a ≡ r → f a ≡ s → step P ≡ frame_step E D ret r s P
+    step-at : (P : Point) (a : ℕ) (r : Option Statement) (s : Successors) → P.due ≡ a → statement_at T h a ≡ r → f a ≡ s → step P ≡ frame_step E D ret r s P
     step-at P a r s d e q = rw (d, e, q)
 
     abbrev Goal : Block → State FactSet → ℕ → Memory → ℕ → Memory → Type 0

@@ -1,5 +1,5 @@
 -- A call of an accepted routine: the bounds of the callee's parameters are true where it begins, and what it leaves keeps the caller's facts and bounds.
-use Rattle.std.specs.Prelude.{ℕ, ◌+◌, ◌-◌, ◌*◌, ◌≤◌, ◌<◌, ◌≡◌, ◌≢◌, ◌⊎◌, Bool, not, ◌&&◌, ◌||◌, ltb, ℤ, length, get_or}
+use Rattle.std.specs.Prelude.{ℕ, ◌+◌, ◌-◌, ◌*◌, ◌≤◌, ◌<◌, ◌≡◌, ◌≢◌, ◌⊎◌, Bool, not, ◌&&◌, ◌||◌, ltb, ℤ, length, get_or, None, Option, Some}
 use Rattle.std.proofs.Math.Path.{refl}
 use Rattle.std.proofs.Common.{sym, ap, ◌∙◌, inl, inr, arith}
 use Rattle.std.proofs.Math.Bool.{true, false, cond}
@@ -35,8 +35,6 @@ use Rattle.rules.specs.CallLaws.{RoutineFormed, Fits, fits, argument-below, inte
 use Rattle.rules.specs.EnvironmentLaws.{Declares, DeclaredEnds, Named, OwnEnds, own-ends}
 use Rattle.rules.specs.Stored.{store, bounds_shown, bounds_after, new_state, called_state, declared_in}
 use Rattle.rules.specs.Verdict.{environment_of}
-use Rattle.rules.specs.declared.KnownEnd.{KnownEnd}
-use Rattle.rules.specs.declared.KnownEnd.TheVariants.{Known, Unknown}
 use Rattle.rules.specs.declared.Bounds.{Bounds}
 use Rattle.rules.specs.declared.Effect.TheVariants.{Keep, Forget}
 use Rattle.rules.specs.declared.Environment.{Environment}
@@ -155,22 +153,22 @@ module _ (T : List ℤ) (h : Sections) (E : Environment) (D : List ℕ) (room : 
       → end_at w s e ≡ v (argument c e.pointer) + s * v (argument c e.integer) + e.constant
   put-value s e p q = rw (parameter-value e.pointer p, integer-value e.integer q)
 
-  lower-put : (lo s : ℕ) (e : KnownEnd) → end_fits c e ≡ true → ProperEnd e → LowerHolds lo s (argument_end c e) v → LowerHolds lo s e w
+  lower-put : (lo s : ℕ) (e : Option End) → end_fits c e ≡ true → ProperEnd e → LowerHolds lo s (argument_end c e) v → LowerHolds lo s e w
   unfolding end_fits argument_end
-  lower-put lo s Unknown q k l = absurd (false≢true q)
-  lower-put lo s (Known e) q k l =
+  lower-put lo s None q k l = absurd (false≢true q)
+  lower-put lo s (Some e) q k l =
       let p = both (is_parameter c e.pointer) (eqb e.integer zero_var || is_parameter c e.integer) q in
       (k, omega (arith, l.1, put-value s e p.0 p.1))
 
-  upper-put : (hi s : ℕ) (e : KnownEnd) → end_fits c e ≡ true → ProperEnd e → UpperHolds hi s (argument_end c e) v → UpperHolds hi s e w
+  upper-put : (hi s : ℕ) (e : Option End) → end_fits c e ≡ true → ProperEnd e → UpperHolds hi s (argument_end c e) v → UpperHolds hi s e w
   unfolding end_fits argument_end
-  upper-put hi s Unknown q k l = absurd (false≢true q)
-  upper-put hi s (Known e) q k l =
+  upper-put hi s None q k l = absurd (false≢true q)
+  upper-put hi s (Some e) q k l =
       let p = both (is_parameter c e.pointer) (eqb e.integer zero_var || is_parameter c e.integer) q in
       (k, omega (arith, l.1, put-value s e p.0 p.1))
 
   -- The end with the arguments put in names a pointer and an integer of the caller.
-  end-proper : (e : End) → EndTyped r.table r.sections e → end_fits c (Known e) ≡ true → ProperEnd (argument_end c (Known e))
+  end-proper : (e : End) → EndTyped r.table r.sections e → end_fits c (Some e) ≡ true → ProperEnd (argument_end c (Some e))
   unfolding end_fits argument_end
   end-proper e t q =
       let p = both (is_parameter c e.pointer) (eqb e.integer zero_var || is_parameter c e.integer) q in
@@ -221,7 +219,7 @@ module _ (T : List ℤ) (h : Sections) (E : Environment) (D : List ℕ) (room : 
     typed-ends : OwnEnds r.table r.sections p
     typed-ends = own-ends r.table r.sections formed.formed p (ap (λ (X : Environment). is_pointer X p) (sym formed.environment) ∙ t)
 
-    own-bounds : b ≡ record { size = typed-ends.size; lower = Known typed-ends.low; upper = Known typed-ends.high }
+    own-bounds : b ≡ record { size = typed-ends.size; lower = Some typed-ends.low; upper = Some typed-ends.high }
     own-bounds = ap (λ (X : Environment). declared X p) formed.environment ∙ typed-ends.bounds
 
     lower-proper : ProperEnd b.lower

@@ -1,10 +1,9 @@
 -- The frame of a run: it reads and writes only the cells of a set R of objects, where R holds every object that its pointers can lead to.
-use Rattle.std.specs.Prelude.{ℕ, suc, ◌<◌, ◌≡◌, List, ℤ, length, get_or}
+use Rattle.std.specs.Prelude.{ℕ, suc, ◌<◌, ◌≡◌, List, ℤ, length, get_or, Some}
 use Rattle.words.specs.declared.sections.Sections.{Sections}
 use Rattle.statements.specs.Statements.{statement_at}
 use Rattle.statements.specs.declared.Simple.TheVariants.{Address}
 use Rattle.statements.specs.declared.Statement.TheVariants.{Plain}
-use Rattle.statements.specs.declared.StatementRead.TheVariants.{Read}
 use Rattle.machine.specs.Machine.{Point}
 use Rattle.machine.specs.Points.{CellOf}
 
@@ -14,7 +13,7 @@ Elsewhere D R i = CellOf D R i → ⊥
 
 -- "some kind 5 statement names it": every such object is one of R.
 abbrev pub Names : List ℤ → Sections → (ℕ → Type 0) → Type 0
-Names T h R = (a p o : ℕ) → statement_at T h a ≡ Read (Plain (Address p o)) → R o
+Names T h R = (a p o : ℕ) → statement_at T h a ≡ Some (Plain (Address p o)) → R o
 
 -- Every origin is one of R.
 abbrev pub Origins : (ℕ → Type 0) → List ℕ → Type 0

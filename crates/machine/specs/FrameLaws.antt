@@ -1,8 +1,9 @@
 -- The frame law: a step of two points alike on R's objects gives points alike on them, and touches no cell elsewhere. Then runs.
+use Rattle.statements.specs.declared.Statement.{Statement}
 use Prim.Native.Nat.{ℕ, zero, suc, ◌+◌, ◌-◌, ◌≤◌}
 use Rattle.std.proofs.Math.Path.{◌≡◌, refl}
 use Rattle.std.proofs.Common.{sym, ap, subst, ◌∙◌, inl, inr, get_or-set_other}
-use Rattle.std.specs.Prelude.{◌⊎◌, Bool, List, [], ◌∷◌, leb, ltb, ℤ, length, get_or}
+use Rattle.std.specs.Prelude.{◌⊎◌, Bool, List, [], ◌∷◌, leb, ltb, ℤ, length, get_or, None, Option, Some}
 use Rattle.std.proofs.Math.Bool.{true, false}
 use native.Mathlib.Omega.{arith}
 use borrow.Author.Tests.{leb-true, ltb-true}
@@ -16,8 +17,6 @@ use Rattle.statements.specs.declared.Simple.{Simple}
 use Rattle.statements.specs.declared.Simple.TheVariants.{Literal, AddConstant, Arithmetic, Null, Address}
 use Rattle.statements.specs.declared.Simple.TheVariants.{PointerOffset, PointerIndex, Load, Store, Check, Declare}
 use Rattle.statements.specs.declared.Statement.TheVariants.{Plain, If, While, Bundle, Call}
-use Rattle.statements.specs.declared.StatementRead.{StatementRead}
-use Rattle.statements.specs.declared.StatementRead.TheVariants.{Read, Unread}
 use Rattle.blocks.specs.Flow.{Successors}
 use Rattle.rules.specs.BoundsRules.{in_force}
 use Rattle.rules.specs.declared.Environment.{Environment}
@@ -144,15 +143,15 @@ module _ (D : List ℕ) (R : ℕ → Type 0) where
     branched-framed true n = framed-none P _ origins refl refl
     branched-framed false n = framed-none P _ origins refl refl
 
-    step-framed : (r : StatementRead) (n : Successors) → ((p o : ℕ) → r ≡ Read (Plain (Address p o)) → R o) → Framed D R P (statement_step E D r n P)
+    step-framed : (r : Option Statement) (n : Successors) → ((p o : ℕ) → r ≡ Some (Plain (Address p o)) → R o) → Framed D R P (statement_step E D r n P)
     unfolding statement_step
-    step-framed (Read (Plain s)) n named =
-        checked-framed (failing (in_force E P.rows) P.values s) s n.next (λ p o e. named p o (ap (λ (q : Simple). Read (Plain q)) e))
-    step-framed (Read (If c x y)) n named = branched-framed (condition_holds P.values c) n
-    step-framed (Read (While c x)) n named = branched-framed (condition_holds P.values c) n
-    step-framed (Read (Bundle x)) n named = framed-none P _ origins refl refl
-    step-framed (Read (Call c)) n named = framed-none P _ origins refl refl
-    step-framed Unread n named = framed-none P _ origins refl refl
+    step-framed (Some (Plain s)) n named =
+        checked-framed (failing (in_force E P.rows) P.values s) s n.next (λ p o e. named p o (ap (λ (q : Simple). Some (Plain q)) e))
+    step-framed (Some (If c x y)) n named = branched-framed (condition_holds P.values c) n
+    step-framed (Some (While c x)) n named = branched-framed (condition_holds P.values c) n
+    step-framed (Some (Bundle x)) n named = framed-none P _ origins refl refl
+    step-framed (Some (Call c)) n named = framed-none P _ origins refl refl
+    step-framed None n named = framed-none P _ origins refl refl
 
     -- Steps of two points alike are alike.
     module _ (ds : List ℕ) (same : SameCells D R P.cells ds) where
@@ -206,14 +205,14 @@ module _ (D : List ℕ) (R : ℕ → Type 0) where
       branched-alike true n = alike-with _ ds same
       branched-alike false n = alike-with _ ds same
 
-      step-alike : (r : StatementRead) (n : Successors) → Alike D R (statement_step E D r n P) (statement_step E D r n other)
+      step-alike : (r : Option Statement) (n : Successors) → Alike D R (statement_step E D r n P) (statement_step E D r n other)
       unfolding statement_step
-      step-alike (Read (Plain s)) n = checked-alike (failing (in_force E P.rows) P.values s) s n.next
-      step-alike (Read (If c x y)) n = branched-alike (condition_holds P.values c) n
-      step-alike (Read (While c x)) n = branched-alike (condition_holds P.values c) n
-      step-alike (Read (Bundle x)) n = alike-with _ ds same
-      step-alike (Read (Call c)) n = alike-with _ ds same
-      step-alike Unread n = alike-with _ ds same
+      step-alike (Some (Plain s)) n = checked-alike (failing (in_force E P.rows) P.values s) s n.next
+      step-alike (Some (If c x y)) n = branched-alike (condition_holds P.values c) n
+      step-alike (Some (While c x)) n = branched-alike (condition_holds P.values c) n
+      step-alike (Some (Bundle x)) n = alike-with _ ds same
+      step-alike (Some (Call c)) n = alike-with _ ds same
+      step-alike None n = alike-with _ ds same
 
 -- ---- THE FRAME LAW
 

@@ -1,5 +1,7 @@
 -- The paper's section "The plain machine", sentence by sentence.
+use Rattle.statements.specs.declared.Statement.{Statement}
 use Rattle.std.specs.Prelude.{ℕ, zero, suc, ◌+◌, ◌-◌, ◌*◌, ◌%◌, ◌^◌, Bool, true, false, not, ◌&&◌, ◌||◌, List, leb, ltb, eqb, ℤ, length, get_or, set}
+use Rattle.std.specs.Prelude.{None, Option, Some}
 use Rattle.sums.specs.Numbers.{bias, max_value}
 use Rattle.words.specs.declared.sections.Sections.{Sections}
 use Rattle.conditions.specs.Conditions.{relates}
@@ -9,13 +11,9 @@ use Rattle.statements.specs.declared.Simple.{Simple}
 use Rattle.statements.specs.declared.Simple.TheVariants.{Literal, AddConstant, Arithmetic, Null, Address}
 use Rattle.statements.specs.declared.Simple.TheVariants.{PointerOffset, PointerIndex, Load, Store, Check, Declare}
 use Rattle.statements.specs.declared.Statement.TheVariants.{Plain, If, While, Bundle, Call}
-use Rattle.statements.specs.declared.StatementRead.{StatementRead}
-use Rattle.statements.specs.declared.StatementRead.TheVariants.{Read, Unread}
 use Rattle.table.specs.declared.variables.End.{End}
 use Rattle.blocks.specs.Flow.{Successors, successors, table_flow, table_entry}
 use Rattle.rules.specs.BoundsRules.{declared, own_rows, in_force, rows_after, element_size, is_string, is_terminated, upper_limit}
-use Rattle.rules.specs.declared.KnownEnd.{KnownEnd}
-use Rattle.rules.specs.declared.KnownEnd.TheVariants.{Known, Unknown}
 use Rattle.rules.specs.declared.Environment.{Environment}
 
 -- ---- values, ends and objects
@@ -30,9 +28,9 @@ abbrev pub end_value : List ℕ → ℕ → End → ℕ
 end_value vs s e = value vs e.pointer + s * value vs e.integer + e.constant
 
 -- The end of a declared bound; an integer has none.
-abbrev pub end_of : KnownEnd → End
-end_of (Known e) = e
-end_of Unknown = record { pointer = 0; integer = 0; constant = 0 }
+abbrev pub end_of : Option End → End
+end_of (Some e) = e
+end_of None = record { pointer = 0; integer = 0; constant = 0 }
 
 abbrev pub lower_end : Environment → List ℕ → ℕ → ℕ
 lower_end E vs p = end_value vs (element_size E p) (end_of (declared E p).lower)
@@ -240,14 +238,14 @@ branched false P s = moved P (memory_of P) s.other
 
 -- "An if, a bundle, or a while whose condition holds makes its block (of an if the chosen one) due from its first statement. After any other statement, and
 -- after a while whose condition fails, the next in the same block is due." The successors are those of the flow.
-unfoldable pub statement_step : Environment → List ℕ → StatementRead → Successors → Point → Point
-statement_step E D (Read (Plain s)) n P = after_checks (failing (in_force E P.rows) P.values s) P n.next (performed E D s (memory_of P))
-statement_step E D (Read (If c x y)) n P = branched (condition_holds P.values c) P n
-statement_step E D (Read (While c x)) n P = branched (condition_holds P.values c) P n
-statement_step E D (Read (Bundle x)) n P = moved P (memory_of P) n.next
+unfoldable pub statement_step : Environment → List ℕ → Option Statement → Successors → Point → Point
+statement_step E D (Some (Plain s)) n P = after_checks (failing (in_force E P.rows) P.values s) P n.next (performed E D s (memory_of P))
+statement_step E D (Some (If c x y)) n P = branched (condition_holds P.values c) P n
+statement_step E D (Some (While c x)) n P = branched (condition_holds P.values c) P n
+statement_step E D (Some (Bundle x)) n P = moved P (memory_of P) n.next
 -- A call is no step of a routine by itself: it makes another routine run (`SetMachine`).
-statement_step E D (Read (Call c)) n P = lost P
-statement_step E D Unread n P = lost P
+statement_step E D (Some (Call c)) n P = lost P
+statement_step E D None n P = lost P
 
 module _ (T : List ℤ) (h : Sections) (E : Environment) (D : List ℕ) where
   abbrev pub successors_of : ℕ → Successors

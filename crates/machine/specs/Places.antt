@@ -1,5 +1,5 @@
 -- Where a point stands in a block of an accepted routine, and what then holds there.
-use Rattle.std.specs.Prelude.{ℕ, ◌+◌, ◌≡◌, ◌⊎◌, List, [], ◌∷◌, ℤ, length}
+use Rattle.std.specs.Prelude.{ℕ, ◌+◌, ◌≡◌, ◌⊎◌, List, [], ◌∷◌, ℤ, length, Some}
 use Rattle.chains.proofs.Sound.{InRange, Holds}
 use Rattle.facts.specs.declared.FactSet.{FactSet}
 use Rattle.words.specs.declared.sections.Sections.{Sections}
@@ -7,7 +7,6 @@ use Rattle.conditions.specs.Conditions.{negated_of}
 use Rattle.statements.specs.Statements.{statement_at}
 use Rattle.statements.specs.declared.Simple.{Simple}
 use Rattle.statements.specs.declared.Statement.TheVariants.{Plain, If, While, Bundle, Call}
-use Rattle.statements.specs.declared.StatementRead.TheVariants.{Read}
 use Rattle.blocks.specs.Tree.{Block, nil, plain, branch, loop, bundle, call, unread, assigned}
 use Rattle.blocks.specs.Flow.{Successors, successors, entry, lead}
 use Rattle.blocks.specs.Shape.{size, ReadsLine, Reads, RightLine, Right}
@@ -27,22 +26,22 @@ module _ (T : List ℤ) (h : Sections) (f : ℕ → Successors) where
   abbrev pub LinkedLine : ℕ → List Simple → ℕ → Type 0
   LinkedLine a [] after = Unit {0}
   LinkedLine a (s ∷ ss) after =
-      (statement_at T h a ≡ Read (Plain s)) × (f a ≡ successors a (lead (a + 1) (length ss) after) (lead (a + 1) (length ss) after))
+      (statement_at T h a ≡ Some (Plain s)) × (f a ≡ successors a (lead (a + 1) (length ss) after) (lead (a + 1) (length ss) after))
       × LinkedLine (a + 1) ss after
 
   abbrev pub Linked : Block → ℕ → Type 0
   Linked nil after = Unit {0}
-  Linked (plain a s r) after = (statement_at T h a ≡ Read (Plain s)) × (f a ≡ successors a (entry r after) (entry r after)) × Linked r after
+  Linked (plain a s r) after = (statement_at T h a ≡ Some (Plain s)) × (f a ≡ successors a (entry r after) (entry r after)) × Linked r after
   Linked (branch a c t e r) after =
-      (statement_at T h a ≡ Read (If c (size t) (size e))) × (f a ≡ successors a (entry t (entry r after)) (entry e (entry r after)))
+      (statement_at T h a ≡ Some (If c (size t) (size e))) × (f a ≡ successors a (entry t (entry r after)) (entry e (entry r after)))
       × Linked t (entry r after) × Linked e (entry r after) × Linked r after
   Linked (loop a c t r) after =
-      (statement_at T h a ≡ Read (While c (size t))) × (f a ≡ successors a (entry t a) (entry r after)) × Linked t a × Linked r after
+      (statement_at T h a ≡ Some (While c (size t))) × (f a ≡ successors a (entry t a) (entry r after)) × Linked t a × Linked r after
   Linked (bundle a ss r) after =
-      (statement_at T h a ≡ Read (Bundle (length ss)))
+      (statement_at T h a ≡ Some (Bundle (length ss)))
       × (f a ≡ successors a (lead (a + 1) (length ss) (entry r after)) (lead (a + 1) (length ss) (entry r after)))
       × LinkedLine (a + 1) ss (entry r after) × Linked r after
-  Linked (call a c r) after = (statement_at T h a ≡ Read (Call c)) × (f a ≡ successors a (entry r after) (entry r after)) × Linked r after
+  Linked (call a c r) after = (statement_at T h a ≡ Some (Call c)) × (f a ≡ successors a (entry r after) (entry r after)) × Linked r after
   Linked (unread a) after = ⊥
 
   linked-line : (a : ℕ) (ss : List Simple) (after : ℕ) → ReadsLine T h a ss → RightLine f a ss after → LinkedLine a ss after

@@ -1,14 +1,13 @@
 -- Points of a run (document 01, "The plain machine"): which are in a bundle, the access that the step from a point performs, the cells outside of all
 -- objects, the last cells of terminated ones.
-use Rattle.std.specs.Prelude.{ℕ, ◌+◌, ◌-◌, ◌≤◌, ◌<◌, suc, ◌≡◌, Bool, true, false, ◌&&◌, ◌||◌, List, ltb, ℤ, length, get_or, ◌⊎◌}
+use Rattle.statements.specs.declared.Statement.{Statement}
+use Rattle.std.specs.Prelude.{ℕ, ◌+◌, ◌-◌, ◌≤◌, ◌<◌, suc, ◌≡◌, Bool, true, false, ◌&&◌, ◌||◌, List, ltb, ℤ, length, get_or, ◌⊎◌, None, Option, Some}
 use Rattle.words.specs.declared.sections.Sections.{Sections}
 use Rattle.statements.specs.Statements.{statement_at}
 use Rattle.statements.specs.declared.Simple.{Simple}
 use Rattle.statements.specs.declared.Simple.TheVariants.{Literal, AddConstant, Arithmetic, Null, Address}
 use Rattle.statements.specs.declared.Simple.TheVariants.{PointerOffset, PointerIndex, Load, Store, Check, Declare}
 use Rattle.statements.specs.declared.Statement.TheVariants.{Plain, If, While, Bundle, Call}
-use Rattle.statements.specs.declared.StatementRead.{StatementRead}
-use Rattle.statements.specs.declared.StatementRead.TheVariants.{Read, Unread}
 use Rattle.blocks.specs.Tree.{Block, nil, plain, branch, loop, bundle, call, unread}
 use Rattle.rules.specs.BoundsRules.{is_terminated, in_force}
 use Rattle.rules.specs.Calls.{Routine, routine_at}
@@ -48,13 +47,13 @@ abbrev pub unless_failing : Failing → Access → Access
 unless_failing none a = a
 unless_failing (fails n) a = no_access
 
-abbrev pub statement_access : Environment → StatementRead → Memory → Access
-statement_access E (Read (Plain s)) m = unless_failing (failing (in_force E m.rows) m.values s) (simple_access E s m)
-statement_access E (Read (If c x y)) m = no_access
-statement_access E (Read (While c x)) m = no_access
-statement_access E (Read (Bundle x)) m = no_access
-statement_access E (Read (Call c)) m = no_access
-statement_access E Unread m = no_access
+abbrev pub statement_access : Environment → Option Statement → Memory → Access
+statement_access E (Some (Plain s)) m = unless_failing (failing (in_force E m.rows) m.values s) (simple_access E s m)
+statement_access E (Some (If c x y)) m = no_access
+statement_access E (Some (While c x)) m = no_access
+statement_access E (Some (Bundle x)) m = no_access
+statement_access E (Some (Call c)) m = no_access
+statement_access E None m = no_access
 
 abbrev pub access_if : Bool → Access → Access
 access_if true a = a
@@ -75,13 +74,13 @@ abbrev pub LastZero : Environment → List ℕ → ℕ → List ℕ → Type 0
 LastZero E D objects cs = (o : ℕ) → o < objects → is_terminated E o ≡ true → get_or cs (high D o - 1) 0 ≡ 0
 
 -- "a named check fails at the statement due": the first such check. Heads of blocks have none.
-abbrev pub failing_at : Environment → StatementRead → List ℕ → Failing
-failing_at E (Read (Plain s)) vs = failing E vs s
-failing_at E (Read (If c x y)) vs = none
-failing_at E (Read (While c x)) vs = none
-failing_at E (Read (Bundle x)) vs = none
-failing_at E (Read (Call c)) vs = none
-failing_at E Unread vs = none
+abbrev pub failing_at : Environment → Option Statement → List ℕ → Failing
+failing_at E (Some (Plain s)) vs = failing E vs s
+failing_at E (Some (If c x y)) vs = none
+failing_at E (Some (While c x)) vs = none
+failing_at E (Some (Bundle x)) vs = none
+failing_at E (Some (Call c)) vs = none
+failing_at E None vs = none
 
 -- "Each cell read or written lay in the object that the pointer was derived from."
 abbrev pub AccessInside : List ℕ → Access → Type 0
@@ -95,7 +94,7 @@ AccessInside D (access a origin) = in_origin D origin a ≡ true
 -- the set takes the address of counts as reachable."
 abbrev pub Reachable : List Routine → List ℕ → ℕ → Type 0
 Reachable rs os o =
-    ((v : ℕ) × (get_or os v 0 ≡ suc o)) ⊎ ((n a p : ℕ) × (statement_at (routine_at rs n).table (routine_at rs n).sections a ≡ Read (Plain (Address p o))))
+    ((v : ℕ) × (get_or os v 0 ≡ suc o)) ⊎ ((n a p : ℕ) × (statement_at (routine_at rs n).table (routine_at rs n).sections a ≡ Some (Plain (Address p o))))
 
 -- Cell i is a cell of one of the objects R.
 pub record CellOf (D : List ℕ) (R : ℕ → Type 0) (i : ℕ) : Type 0 where

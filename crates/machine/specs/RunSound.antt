@@ -1,9 +1,10 @@
 -- Soundness: at every point of a begun run of an accepted routine the machine has a step or has ended, every access is inside its origin object,
 -- outside bundles the declared bounds of every pointer are true, and the last cell of each terminated object is 0.
+use Rattle.statements.specs.declared.Statement.{Statement}
 use Prim.Native.Nat.{ℕ, zero, suc, ◌≤◌, ◌<◌}
 use Rattle.std.proofs.Math.Path.{◌≡◌, refl}
 use Rattle.std.proofs.Common.{sym, ap, ◌∙◌, inl, inr, arith, ltb-true}
-use Rattle.std.specs.Prelude.{◌≢◌, ◌⊎◌, Bool, true, false, List, [], ltb, ℤ, length}
+use Rattle.std.specs.Prelude.{◌≢◌, ◌⊎◌, Bool, true, false, List, [], ltb, ℤ, length, None, Ok, Option, Some}
 use Rattle.std.proofs.lemmas.Bool.{false≢true}
 use Rattle.facts.specs.Store.{contradictory}
 use Rattle.facts.specs.declared.FactSet.{FactSet}
@@ -21,11 +22,8 @@ use Rattle.statements.specs.declared.Simple.{Simple}
 use Rattle.statements.specs.declared.Simple.TheVariants.{Literal, AddConstant, Arithmetic, Null, Address}
 use Rattle.statements.specs.declared.Simple.TheVariants.{PointerOffset, PointerIndex, Load, Store, Check, Declare}
 use Rattle.statements.specs.declared.Statement.TheVariants.{Plain, If, While, Bundle, Call}
-use Rattle.statements.specs.declared.StatementRead.{StatementRead}
-use Rattle.statements.specs.declared.StatementRead.TheVariants.{Read, Unread}
 use Rattle.table.specs.Form.{form_of}
 use Rattle.table.specs.FormLaws.{well-formed}
-use Rattle.table.specs.declared.Form.TheVariants.{WellFormed}
 use Rattle.blocks.specs.Tree.{tree, assigned}
 use Rattle.blocks.specs.Flow.{successors, table_entry}
 use Rattle.blocks.specs.ShapeLaws.{table-laid}
@@ -131,23 +129,23 @@ module _ (T : List ℤ) (h : Sections) (E : Environment) (D : List ℕ) (room : 
         record { cells = record { long = s.cells-long; small = s.cells-small; last-zero = last_of P w }; small = omega arith }
 
     -- A statement that is no call.
-    pub step_kept : (P : Point) → Invariant P → P.due < h.statements → ((c : CallSite) → statement_at T h P.due ≡ Read (Call c) → ⊥)
+    pub step_kept : (P : Point) → Invariant P → P.due < h.statements → ((c : CallSite) → statement_at T h P.due ≡ Some (Call c) → ⊥)
         → Invariant (statement_step E D (statement_at T h P.due) (successors_of T h E D P.due) P)
     unfolding frame_step
     step_kept P i l n = go (statement_at T h P.due) refl (frame-kept _ (own-return P i) P i l)
       where
-        go : (s : StatementRead) → statement_at T h P.due ≡ s
+        go : (s : Option Statement) → statement_at T h P.due ≡ s
             → Invariant (frame_step E D (record { cells = P.cells; result = 0 }) s (successors_of T h E D P.due) P)
             → Invariant (statement_step E D s (successors_of T h E D P.due) P)
-        go (Read (Plain s)) e k = k
-        go (Read (If c x y)) e k = k
-        go (Read (While c x)) e k = k
-        go (Read (Bundle x)) e k = k
-        go (Read (Call c)) e k = absurd (n c e)
-        go Unread e k = k
+        go (Some (Plain s)) e k = k
+        go (Some (If c x y)) e k = k
+        go (Some (While c x)) e k = k
+        go (Some (Bundle x)) e k = k
+        go (Some (Call c)) e k = absurd (n c e)
+        go None e k = k
 
     -- "a routine by itself is number 0": a call there is refused.
-    pub no_call : callees ≡ [] → (P : Point) → Invariant P → (c : CallSite) → statement_at T h P.due ≡ Read (Call c) → ⊥
+    pub no_call : callees ≡ [] → (P : Point) → Invariant P → (c : CallSite) → statement_at T h P.due ≡ Some (Call c) → ⊥
     no_call alone P i c e = go (somewhere P i)
       where
         go : Somewhere P → ⊥
@@ -211,7 +209,7 @@ module _ (T : List ℤ) (h : Sections) (E : Environment) (D : List ℕ) (room : 
           last = omega (arith, placed.inside, i.below, s.cells-long);
         }
 
-    simple-allowed : (s : Simple) (a : ℕ) (m : Memory) → Steady h room m → Named h m.rows → statement_at T h a ≡ Read (Plain s)
+    simple-allowed : (s : Simple) (a : ℕ) (m : Memory) → Steady h room m → Named h m.rows → statement_at T h a ≡ Some (Plain s)
         → Ready (in_force E m.rows) D h.objects s m → failing (in_force E m.rows) m.values s ≡ none
         → AccessAllowed D (length m.cells) (simple_access E s m)
     unfolding failing
@@ -234,7 +232,7 @@ module _ (T : List ℤ) (h : Sections) (E : Environment) (D : List ℕ) (room : 
     simple-allowed (Declare p i) a m w n r y e = tt
 
     -- The access of the statement that is due at a point, where no check fails.
-    pub due-allowed : (P : Point) → Invariant P → (s : Simple) → statement_at T h P.due ≡ Read (Plain s) → failing (in_force E P.rows) P.values s ≡ none
+    pub due-allowed : (P : Point) → Invariant P → (s : Simple) → statement_at T h P.due ≡ Some (Plain s) → failing (in_force E P.rows) P.values s ≡ none
         → AccessAllowed D (length P.cells) (simple_access E s (memory_of P))
     due-allowed P i s r e = go (somewhere P i)
       where
@@ -246,18 +244,18 @@ module _ (T : List ℤ) (h : Sections) (E : Environment) (D : List ℕ) (room : 
     unfolding access_from
     from-allowed P going i = due (ltb P.due h.statements)
       where
-        checked : (s : Simple) → statement_at T h P.due ≡ Read (Plain s) → (c : Failing) → failing (in_force E P.rows) P.values s ≡ c
+        checked : (s : Simple) → statement_at T h P.due ≡ Some (Plain s) → (c : Failing) → failing (in_force E P.rows) P.values s ≡ c
             → AccessAllowed D (length P.cells) (unless_failing c (simple_access E s (memory_of P)))
         checked s r (fails n) e = tt
         checked s r none e = due-allowed P i s r e
 
-        reads : (r : StatementRead) → statement_at T h P.due ≡ r → AccessAllowed D (length P.cells) (statement_access E r (memory_of P))
-        reads Unread r = tt
-        reads (Read (Plain s)) r = checked s r (failing (in_force E P.rows) P.values s) refl
-        reads (Read (If c x y)) r = tt
-        reads (Read (While c x)) r = tt
-        reads (Read (Bundle x)) r = tt
-        reads (Read (Call x)) r = tt
+        reads : (r : Option Statement) → statement_at T h P.due ≡ r → AccessAllowed D (length P.cells) (statement_access E r (memory_of P))
+        reads None r = tt
+        reads (Some (Plain s)) r = checked s r (failing (in_force E P.rows) P.values s) refl
+        reads (Some (If c x y)) r = tt
+        reads (Some (While c x)) r = tt
+        reads (Some (Bundle x)) r = tt
+        reads (Some (Call x)) r = tt
 
         due : (b : Bool) → AccessAllowed D (length P.cells) (access_if b (statement_access E (statement_at T h P.due) (memory_of P)))
         due true = reads (statement_at T h P.due) refl
@@ -267,7 +265,7 @@ module _ (T : List ℤ) (h : Sections) (E : Environment) (D : List ℕ) (room : 
 
     -- ---- point 9
 
-    listed_of : (P : Point) → Somewhere P → (c : Condition) (n : ℕ) → statement_at T h P.due ≡ Read (While c n)
+    listed_of : (P : Point) → Somewhere P → (c : Condition) (n : ℕ) → statement_at T h P.due ≡ Some (While c n)
         → EntriesTrue (entries_of L P.due) (value P.values)
     listed_of P (inl w) c n e = w.listed c n e
     listed_of P (inr w) c n e = absurd (omega (arith, w.0, read-within T h P.due (While c n) e))
@@ -312,7 +310,7 @@ module _ (T : List ℤ) (h : Sections) (E : Environment) (D : List ℕ) (room : 
     named-of P (inl w) = rw w.good.rows w.good.named
     named-of P (inr w) = rw w.1.rows w.1.named
 
-    safe-of : (P : Point) → Invariant P → (s : Simple) → statement_at T h P.due ≡ Read (Plain s)
+    safe-of : (P : Point) → Invariant P → (s : Simple) → statement_at T h P.due ≡ Some (Plain s)
         → safe_in E (state_before store E L (tree T h) new_state P.due) s ≡ true → failing (in_force E P.rows) P.values s ≡ none
     safe-of P i s r e =
         let w = somewhere P i in
@@ -348,7 +346,7 @@ module _ (T : List ℤ) (h : Sections) (E : Environment) (D : List ℕ) (room : 
 
 -- ---- the theorem
 
-module _ (T : List ℤ) (h : Sections) (L : List ℤ) (formed : form_of T ≡ WellFormed h) (accepts : faults [] T L ≡ []) (D cs vs os : List ℕ)
+module _ (T : List ℤ) (h : Sections) (L : List ℤ) (formed : form_of T ≡ Ok h) (accepts : faults [] T L ≡ []) (D cs vs os : List ℕ)
     (begun : Begun h (environment_of T h) D cs vs os) where
   declares : Declares T h (environment_of T h)
   declares = environment-declares T h (well-formed T h formed)

@@ -1,12 +1,11 @@
 -- The plain machine of a set of routines (document 02, point 14): the routine that runs, and its callers, which wait. A routine by itself is a set of one.
-use Rattle.std.specs.Prelude.{ℕ, zero, suc, ◌+◌, ◌-◌, Bool, true, false, ◌&&◌, cond, List, [], ◌∷◌, leb, ltb, ℤ, length, get_or, set}
+use Rattle.statements.specs.declared.Statement.{Statement}
+use Rattle.std.specs.Prelude.{ℕ, zero, suc, ◌+◌, ◌-◌, Bool, true, false, ◌&&◌, cond, List, [], ◌∷◌, leb, ltb, ℤ, length, get_or, set, None, Option, Some}
 use Rattle.arrays.specs.Tabulate.{tabulate}
 use Rattle.words.specs.declared.sections.Sections.{Sections}
 use Rattle.statements.specs.Statements.{statement_at}
 use Rattle.statements.specs.declared.CallSite.{CallSite}
 use Rattle.statements.specs.declared.Statement.TheVariants.{Plain, If, While, Bundle, Call}
-use Rattle.statements.specs.declared.StatementRead.{StatementRead}
-use Rattle.statements.specs.declared.StatementRead.TheVariants.{Read, Unread}
 use Rattle.blocks.specs.Flow.{table_entry}
 use Rattle.rules.specs.BoundsRules.{own_rows}
 use Rattle.rules.specs.Calls.{Routine, routine_at, argument}
@@ -124,13 +123,13 @@ module _ (rs : List Routine) (D : List ℕ) where
       (next_point (table_of K.routine) (sections_of K.routine) (environment_of K.routine) D K.point.status K.point)
 
   -- "kind 15 calls one"
-  unfoldable pub stack_step : StatementRead → Stack → Stack
-  stack_step (Read (Call c)) K = settled (waiting K c ∷ K.callers) c.callee (begun c K.point)
-  stack_step (Read (Plain s)) K = own_step K
-  stack_step (Read (If c x y)) K = own_step K
-  stack_step (Read (While c x)) K = own_step K
-  stack_step (Read (Bundle x)) K = own_step K
-  stack_step Unread K = own_step K
+  unfoldable pub stack_step : Option Statement → Stack → Stack
+  stack_step (Some (Call c)) K = settled (waiting K c ∷ K.callers) c.callee (begun c K.point)
+  stack_step (Some (Plain s)) K = own_step K
+  stack_step (Some (If c x y)) K = own_step K
+  stack_step (Some (While c x)) K = own_step K
+  stack_step (Some (Bundle x)) K = own_step K
+  stack_step None K = own_step K
 
   -- The next state; a run that has ended stays where it is.
   abbrev pub next_if : Bool → Stack → Stack

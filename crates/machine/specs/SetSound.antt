@@ -1,9 +1,10 @@
 -- Soundness of a set: at every state of a begun run the routine that runs is sound at its point, and the declared bounds of all its callers are true. L is the
 -- list of loop facts of a routine by itself; a set of several is checked with the empty one.
+use Rattle.statements.specs.declared.Statement.{Statement}
 use Prim.Native.Nat.{ℕ, zero, suc, ◌+◌, ◌-◌, ◌<◌}
 use Rattle.std.proofs.Math.Path.{◌≡◌, refl, sym}
 use Rattle.std.proofs.Common.{ap, ◌∙◌, inl, inr, arith, ltb-true}
-use Rattle.std.specs.Prelude.{Bool, ◌&&◌, cond, ℤ, length, get_or}
+use Rattle.std.specs.Prelude.{Bool, ◌&&◌, cond, ℤ, length, get_or, None, Option, Some}
 use Rattle.std.proofs.Math.Bool.{true, false}
 use mathlib.Core.List.{List, [], ◌∷◌}
 use Rattle.std.proofs.Math.Dec.{ltb}
@@ -12,8 +13,6 @@ use Rattle.statements.specs.Statements.{statement_at}
 use Rattle.statements.specs.StatementLaws.{read-typed, read-within}
 use Rattle.statements.specs.declared.CallSite.{CallSite}
 use Rattle.statements.specs.declared.Statement.TheVariants.{Plain, If, While, Bundle, Call}
-use Rattle.statements.specs.declared.StatementRead.{StatementRead}
-use Rattle.statements.specs.declared.StatementRead.TheVariants.{Read, Unread}
 use Rattle.blocks.specs.Tree.{tree}
 use Rattle.listed.specs.ListForm.{list_faults}
 use Rattle.rules.specs.BoundsRules.{is_pointer, in_force}
@@ -49,7 +48,7 @@ with-steps T h E D room s L P i = record { has-step = λ e. let z : ◌≡◌ {A
 -- A statement that is no call, by the status.
 pub next-kept : (T : List ℤ) (h : Sections) (E : Environment) (D : List ℕ) (room : ℕ) → Setting T h E D room → (L : List ℤ) (callees : List Routine)
     → block_faults E L callees (tree T h) new_state ≡ [] → (P : Point) → Invariant T h E D room L P
-    → ((c : CallSite) → statement_at T h P.due ≡ Read (Call c) → ⊥) → (s : Status) → Invariant T h E D room L (next_point T h E D s P)
+    → ((c : CallSite) → statement_at T h P.due ≡ Some (Call c) → ⊥) → (s : Status) → Invariant T h E D room L (next_point T h E D s P)
 unfolding next_point
 next-kept T h E D room S L callees q₀ P i n going = go (ltb P.due h.statements) refl
   where
@@ -89,7 +88,7 @@ module _ (rs : List Routine) (D : List ℕ) (room : ℕ) (L : List ℤ) where
     pub call : CallSite
     pub cells : List ℕ
     pub invariant : Invariant (T F.routine) (h F.routine) (E F.routine) D room L (called_from F cells at)
-    pub read : statement_at (T F.routine) (h F.routine) at ≡ Read (Call call)
+    pub read : statement_at (T F.routine) (h F.routine) at ≡ Some (Call call)
     pub result : F.result ≡ call.result
     pub next : F.due ≡ (successors_of (T F.routine) (h F.routine) (E F.routine) D at).next
 
@@ -174,12 +173,12 @@ module _ (rs : List Routine) (D : List ℕ) (room : ℕ) (L : List ℤ) where
       abbrev SK : Setting (T n) (h n) (E n) D room
       SK = S.setting n i.known
 
-      own-kept : ((c : CallSite) → statement_at (T n) (h n) P.due ≡ Read (Call c) → ⊥) → StackInvariant (own_step rs D K)
+      own-kept : ((c : CallSite) → statement_at (T n) (h n) P.due ≡ Some (Call c) → ⊥) → StackInvariant (own_step rs D K)
       own-kept other = settled-kept K.callers n _ i.known (next-kept (T n) (h n) (E n) D room SK L (before n rs) (S.walked n i.known) P
           i.running other P.status) i.waits
 
       -- The caller as it waits.
-      pub caller-waits : (c : CallSite) → statement_at (T n) (h n) P.due ≡ Read (Call c) → Waits (waiting rs D K c)
+      pub caller-waits : (c : CallSite) → statement_at (T n) (h n) P.due ≡ Some (Call c) → Waits (waiting rs D K c)
       caller-waits c e =
           record {
             known = i.known;
@@ -197,7 +196,7 @@ module _ (rs : List Routine) (D : List ℕ) (room : ℕ) (L : List ℤ) where
         pub below : c.callee < n
         pub invariant : Invariant (T c.callee) (h c.callee) (E c.callee) D room L (begun rs D c P)
 
-      pub calls : (c : CallSite) → statement_at (T n) (h n) P.due ≡ Read (Call c) → Calls c
+      pub calls : (c : CallSite) → statement_at (T n) (h n) P.due ≡ Some (Call c) → Calls c
       calls c e = go (somewhere (T n) (h n) (E n) D room L SK (before n rs) (S.walked n i.known) P i.running)
         where
           go : Somewhere (T n) (h n) (E n) D room L SK (before n rs) (S.walked n i.known) P → Calls c
@@ -217,17 +216,17 @@ module _ (rs : List Routine) (D : List ℕ) (room : ℕ) (L : List ℤ) where
               }
           go (inr w) = absurd (omega (arith, w.0, read-within (T n) (h n) P.due (Call c) e))
 
-      step_kept : (s : StatementRead) → statement_at (T n) (h n) P.due ≡ s → StackInvariant (stack_step rs D s K)
+      step_kept : (s : Option Statement) → statement_at (T n) (h n) P.due ≡ s → StackInvariant (stack_step rs D s K)
       unfolding stack_step
-      step_kept (Read (Call c)) e =
+      step_kept (Some (Call c)) e =
           let k = calls c e in
           settled-kept (waiting rs D K c ∷ K.callers) c.callee (begun rs D c P) (omega (arith, k.below, i.known)) k.invariant
           (k.below, caller-waits c e, i.waits)
-      step_kept (Read (Plain s)) e = own-kept (λ k u. let q : Read (Plain s) ≡ Read (Call k) = sym e ∙ u in let o : ◌≡◌ {A = ℕ} 0 1 = cc in omega arith)
-      step_kept (Read (If c x y)) e = own-kept (λ k u. let q : Read (If c x y) ≡ Read (Call k) = sym e ∙ u in let o : ◌≡◌ {A = ℕ} 0 1 = cc in omega arith)
-      step_kept (Read (While c x)) e = own-kept (λ k u. let q : Read (While c x) ≡ Read (Call k) = sym e ∙ u in let o : ◌≡◌ {A = ℕ} 0 1 = cc in omega arith)
-      step_kept (Read (Bundle x)) e = own-kept (λ k u. let q : Read (Bundle x) ≡ Read (Call k) = sym e ∙ u in let o : ◌≡◌ {A = ℕ} 0 1 = cc in omega arith)
-      step_kept Unread e = own-kept (λ k u. let q : Unread ≡ Read (Call k) = sym e ∙ u in let o : ◌≡◌ {A = ℕ} 0 1 = cc in omega arith)
+      step_kept (Some (Plain s)) e = own-kept (λ k u. let q : Some (Plain s) ≡ Some (Call k) = sym e ∙ u in let o : ◌≡◌ {A = ℕ} 0 1 = cc in omega arith)
+      step_kept (Some (If c x y)) e = own-kept (λ k u. let q : Some (If c x y) ≡ Some (Call k) = sym e ∙ u in let o : ◌≡◌ {A = ℕ} 0 1 = cc in omega arith)
+      step_kept (Some (While c x)) e = own-kept (λ k u. let q : Some (While c x) ≡ Some (Call k) = sym e ∙ u in let o : ◌≡◌ {A = ℕ} 0 1 = cc in omega arith)
+      step_kept (Some (Bundle x)) e = own-kept (λ k u. let q : Some (Bundle x) ≡ Some (Call k) = sym e ∙ u in let o : ◌≡◌ {A = ℕ} 0 1 = cc in omega arith)
+      step_kept None e = own-kept (λ k u. let q : None ≡ Some (Call k) = sym e ∙ u in let o : ◌≡◌ {A = ℕ} 0 1 = cc in omega arith)
 
       next-stack-kept : StackInvariant (next_stack rs D K)
       unfolding next_stack

@@ -1,5 +1,5 @@
 -- What is claimed of every point of a begun run: the paper's demand on the checker and the plain machine together.
-use Rattle.std.specs.Prelude.{ℕ, ◌+◌, ◌*◌, ◌^◌, ◌≤◌, ◌<◌, ◌≡◌, ◌≢◌, true, false, List, ℤ, length, get_or}
+use Rattle.std.specs.Prelude.{ℕ, ◌+◌, ◌*◌, ◌^◌, ◌≤◌, ◌<◌, ◌≡◌, ◌≢◌, true, false, List, ℤ, length, get_or, Some}
 use Rattle.sums.specs.Numbers.{bias, max_value}
 use Rattle.words.specs.declared.sections.Sections.{Sections}
 use Rattle.blocks.specs.Tree.{tree}
@@ -7,7 +7,6 @@ use Rattle.conditions.specs.declared.Condition.{Condition}
 use Rattle.statements.specs.Statements.{statement_at}
 use Rattle.statements.specs.declared.Simple.{Simple}
 use Rattle.statements.specs.declared.Statement.TheVariants.{Plain, While}
-use Rattle.statements.specs.declared.StatementRead.TheVariants.{Read}
 use Rattle.listed.specs.Entries.{entries_of}
 use Rattle.rules.proofs.ListedLaws.{EntriesTrue}
 use Rattle.rules.specs.Stored.{store, new_state, safe_in}
@@ -67,9 +66,9 @@ pub record Sound (T : List ℤ) (h : Sections) (E : Environment) (D : List ℕ) 
   -- Point 7: "At every point of a run the last cell of each terminated object is 0."
   pub last-zero : LastZero E D h.objects P.cells
   -- Point 9: each entry means "x <= y + k at every test", where its while is due.
-  pub listed : (c : Condition) (n : ℕ) → statement_at T h P.due ≡ Read (While c n) → EntriesTrue (entries_of L P.due) (value P.values)
+  pub listed : (c : Condition) (n : ℕ) → statement_at T h P.due ≡ Some (While c n) → EntriesTrue (entries_of L P.due) (value P.values)
   -- Point 9: an access that is shown safe fails no check.
-  pub safe : (s : Simple) → statement_at T h P.due ≡ Read (Plain s) → safe_in E (state_before store E L (tree T h) new_state P.due) s ≡ true
+  pub safe : (s : Simple) → statement_at T h P.due ≡ Some (Plain s) → safe_in E (state_before store E L (tree T h) new_state P.due) s ≡ true
       → failing (in_force E P.rows) P.values s ≡ none
   -- The statement due is one of the table, or the number past the last.
   pub due-within : P.due ≤ h.statements

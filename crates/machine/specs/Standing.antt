@@ -1,6 +1,6 @@
 -- What holds at every place of an accepted routine: the memory is steady, and the statement due may make its access; outside a bundle the declared bounds are
 -- true.
-use Rattle.std.specs.Prelude.{ℕ, ◌+◌, ◌≤◌, ◌<◌, ◌&&◌, ◌||◌, ℤ}
+use Rattle.std.specs.Prelude.{ℕ, ◌+◌, ◌≤◌, ◌<◌, ◌&&◌, ◌||◌, ℤ, Some}
 use Rattle.std.proofs.Math.Path.{◌≡◌, sym, ap}
 use Rattle.std.proofs.Common.{◌∙◌, arith}
 use Rattle.std.proofs.Math.Logic.{inl, inr}
@@ -19,7 +19,6 @@ use Rattle.statements.specs.declared.CallSite.{CallSite}
 use Rattle.statements.specs.declared.Simple.{Simple}
 use Rattle.statements.specs.declared.Statement.{Statement}
 use Rattle.statements.specs.declared.Statement.TheVariants.{Plain, If, While, Bundle, Call}
-use Rattle.statements.specs.declared.StatementRead.TheVariants.{Read}
 use Rattle.blocks.specs.Tree.{Block, nil, plain, branch, loop, bundle, call, unread, assigned}
 use Rattle.blocks.specs.Flow.{Successors, entry}
 use Rattle.blocks.specs.Shape.{size}
@@ -51,12 +50,12 @@ module _ (T : List ℤ) (h : Sections) (E : Environment) (D : List ℕ) (room : 
     pub bounds : List Bounds
     pub good : Good h E D room state bounds m
     pub within : d < h.statements
-    pub ready : (s : Simple) → statement_at T h d ≡ Read (Plain s) → Ready (in_force E m.rows) D h.objects s m
+    pub ready : (s : Simple) → statement_at T h d ≡ Some (Plain s) → Ready (in_force E m.rows) D h.objects s m
     pub declared : in_bundle b d ≡ false → Good h E D room state (declared_in E state) m
     -- Point 9: where a while is due, its entries are true.
-    pub listed : (c : Condition) (n : ℕ) → statement_at T h d ≡ Read (While c n) → EntriesTrue (entries_of L d) (value m.values)
+    pub listed : (c : Condition) (n : ℕ) → statement_at T h d ≡ Some (While c n) → EntriesTrue (entries_of L d) (value m.values)
     -- A call that is due is outside a bundle, and 19 and 20 do not refuse it.
-    pub calling : (c : CallSite) → statement_at T h d ≡ Read (Call c)
+    pub calling : (c : CallSite) → statement_at T h d ≡ Some (Call c)
         → (call_faults callees E d c state.facts (declared_in E state) ≡ []) × Good h E D room state (declared_in E state) m
 
   -- From a part of a block to the block.
@@ -75,7 +74,7 @@ module _ (T : List ℤ) (h : Sections) (E : Environment) (D : List ℕ) (room : 
 
   module _ (S : Setting T h E D room) (f : ℕ → Successors) where
     -- Outside a bundle.
-    standing_here : (b : Block) (a d : ℕ) (s : Statement) (F : State FactSet) (m : Memory) → statement_at T h a ≡ Read s → d ≡ a
+    standing_here : (b : Block) (a d : ℕ) (s : Statement) (F : State FactSet) (m : Memory) → statement_at T h a ≡ Some s → d ≡ a
         → ((c : Condition) (n : ℕ) → s ≡ While c n → EntriesTrue (entries_of L a) (value m.values)) → Good h E D room F (declared_in E F) m
         → ((c : CallSite) → s ≡ Call c → call_faults callees E a c F.facts (declared_in E F) ≡ []) → Standing b d m
     standing_here b a d s F m r e t g k =
@@ -87,7 +86,7 @@ module _ (T : List ℤ) (h : Sections) (E : Environment) (D : List ℕ) (room : 
           ready = λ q u. ready-outside T h E D room S q F m (read-typed T h d (Plain q) u) g;
           declared = λ u. g;
           listed = λ c n u. let same : s ≡ While c n = cc in rw e (t c n same);
-          calling = λ c u. let q : Read s ≡ Read (Call c) = sym r ∙ (ap (statement_at T h) (sym e) ∙ u) in (rw e (k c cc), g);
+          calling = λ c u. let q : Some s ≡ Some (Call c) = sym r ∙ (ap (statement_at T h) (sym e) ∙ u) in (rw e (k c cc), g);
         }
 
     pub record StandingLine (a n d : ℕ) (m : Memory) : Type 0 where
@@ -95,9 +94,9 @@ module _ (T : List ℤ) (h : Sections) (E : Environment) (D : List ℕ) (room : 
       pub bounds : List Bounds
       pub good : Good h E D room state bounds m
       pub within : d < h.statements
-      pub ready : (s : Simple) → statement_at T h d ≡ Read (Plain s) → Ready (in_force E m.rows) D h.objects s m
-      pub listed : (c : Condition) (n : ℕ) → statement_at T h d ≡ Read (While c n) → EntriesTrue (entries_of L d) (value m.values)
-      pub calling : (c : CallSite) → statement_at T h d ≡ Read (Call c) → ⊥
+      pub ready : (s : Simple) → statement_at T h d ≡ Some (Plain s) → Ready (in_force E m.rows) D h.objects s m
+      pub listed : (c : Condition) (n : ℕ) → statement_at T h d ≡ Some (While c n) → EntriesTrue (entries_of L d) (value m.values)
+      pub calling : (c : CallSite) → statement_at T h d ≡ Some (Call c) → ⊥
       pub first : a ≤ d
       pub last : d < a + n
 
@@ -109,7 +108,7 @@ module _ (T : List ℤ) (h : Sections) (E : Environment) (D : List ℕ) (room : 
     standing-line a (s ∷ ss) F K after d m l q (inl i) =
         let e = i.0 in
         let shown = access-passed (access_in E F K s) a (no-first _ _ q) in
-        let read : statement_at T h d ≡ Read (Plain s) = ap (statement_at T h) e ∙ l.0 in
+        let read : statement_at T h d ≡ Some (Plain s) = ap (statement_at T h) e ∙ l.0 in
         record {
           state = F;
           bounds = K;
@@ -117,7 +116,7 @@ module _ (T : List ℤ) (h : Sections) (E : Environment) (D : List ℕ) (room : 
           within = omega (arith, read-within T h a (Plain s) l.0);
           ready = λ t u. let same : s ≡ t = cc in rw (← same) (ready-inside T h E D room S s F K m (read-typed T h a (Plain s) l.0) shown i.1);
           listed = λ c n u. let z : ◌≡◌ {A = ℕ} 0 1 = cc in absurd (omega arith);
-          calling = λ c u. let z : Read (Plain s) ≡ Read (Call c) = sym read ∙ u in let o : ◌≡◌ {A = ℕ} 0 1 = cc in omega arith;
+          calling = λ c u. let z : Some (Plain s) ≡ Some (Call c) = sym read ∙ u in let o : ◌≡◌ {A = ℕ} 0 1 = cc in omega arith;
           first = omega arith;
           last = omega arith;
         }

@@ -3,20 +3,13 @@
 
 ghost use Rattle.std.specs.Prelude.{◌≡◌, ◌*◌, ◌^◌, ◌<◌, ◌≤◌, get_or};
 
-pub fn wide(x: u32) -> u64
-    ensures value { result ≡ x }
-    ensures small { result < 2 ^ 32 }
-{
-    x as u64
-}
-
 // The value of a variable; 0 for the number that stands for zero.
 pub fn value_at(values: &[u32], x: usize) -> u64
     ensures value { result ≡ get_or values.now x 0 }
     ensures small { result < 2 ^ 32 }
 {
     if x < values.len() {
-        return wide(values[x]);
+        return u64::from(values[x]);
     }
     0
 }

@@ -1,9 +1,9 @@
 -- Laws of the loops that look for objects that overlap.
-use Rattle.std.specs.Prelude.{ℕ, zero, suc, ◌+◌, ◌-◌, ◌*◌, ◌≤◌, ◌<◌, min, max, ◌≡◌, refl, ◌≢◌, Bool, true, false, not, cond, List, ltb, length, get_or}
+use Rattle.std.specs.Prelude.{ℕ, zero, suc, ◌+◌, ◌*◌, ◌≤◌, ◌<◌, min, max, ◌≡◌, refl, ◌≢◌, Bool, true, false, not, cond, List, ltb, length, get_or}
 use Rattle.std.proofs.Common.{ap, ◌∙◌, arith, le-ltb, ltb-false}
 use Rattle.machine.specs.Machine.{low, high}
 use Rattle.table.specs.Form.{lowest_from}
-use Rattle.table.specs.Searches.{Passed, passed_none, passed-more, passed-all, passed-fail, holds-below}
+use Rattle.table.specs.Searches.{holds-below}
 use Rattle.machine.specs.Points.{CellOf}
 use Rattle.machine.specs.Frame.{Elsewhere, Own}
 use Rattle.interpreter.specs.AnswerLaws.{never}
@@ -17,23 +17,6 @@ use Rattle.overlaps.specs.SeatOverlaps.{seats_overlap, seat_overlaps}
 use Rattle.seats.specs.SeatAt.{seat_at}
 use Rattle.seats.specs.Seats.{places_of}
 use Rattle.seats.specs.declared.Seat.{Seat}
-
--- Nothing below i is such.
-pub record Clear (f : ℕ → Bool) (n i : ℕ) : Type 0 where
-  pub passed : Passed (λ k. not (f k)) n i
-
-pub clear_none : (f : ℕ → Bool) (n : ℕ) → Clear f n 0
-clear_none f n = record { passed = passed_none (λ k. not (f k)) n }
-
-module _ {f : ℕ → Bool} {n i : ℕ} (p : Clear f n i) where
-  pub clear-more : i < n → f i ≡ false → Clear f n (i + 1)
-  clear-more l e = record { passed = passed-more (λ k. not (f k)) n i p.passed l (ap not e) }
-
-  pub clear-all : n ≤ i → i ≡ lowest f n
-  clear-all l = passed-all (λ k. not (f k)) n i p.passed l
-
-  pub clear-found : i < n → f i ≡ true → i ≡ lowest f n
-  clear-found l e = passed-fail (λ k. not (f k)) n i p.passed l (ap not e)
 
 -- The same of the same numbers.
 from-alike : (f g : ℕ → Bool) (n i : ℕ) → ((k : ℕ) → i ≤ k → k < i + n → f k ≡ g k) → lowest_from f i n ≡ lowest_from g i n

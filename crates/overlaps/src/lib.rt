@@ -7,20 +7,9 @@ ghost use Rattle.overlaps.specs.Overlaps.{lowest, some, share_cell};
 ghost use Rattle.overlaps.specs.SeatOverlaps.{SeatRight, SeatsRight, seats_overlap, seat_overlaps};
 ghost use Rattle.seats.specs.SeatAt.{seat_at};
 
+use arrays::lowest;
 use machine::value_at;
 use seats::Seat;
-
-fn least(a: u64, b: u64) -> u64
-    ensures { result ≡ min a b }
-{
-    if a <= b { a } else { b }
-}
-
-fn most(a: u64, b: u64) -> u64
-    ensures { result ≡ max a b }
-{
-    if a <= b { b } else { a }
-}
 
 // Object k of the directory shares a cell with those from `start` to `end` - 1.
 fn shares(start: u64, end: u64, directory: &[u32], k: usize) -> bool
@@ -29,9 +18,7 @@ fn shares(start: u64, end: u64, directory: &[u32], k: usize) -> bool
 {
     let other = value_at(directory, 2 * k);
     let other_end = other + value_at(directory, 2 * k + 1);
-    let from = most(start, other);
-    let to = least(end, other_end);
-    from < to
+    start.max(other) < end.min(other_end)
 }
 
 // The lowest of `count` objects that shares a cell with those from `start` to `end` - 1, or `count`.
@@ -39,14 +26,7 @@ fn lowest_shared(start: u64, end: u64, directory: &[u32], count: usize) -> usize
     requires { count ≤ 16 }
     ensures { result ≡ lowest (λ k. ltb (max start (low directory.now k)) (min end (high directory.now k))) count }
 {
-    let mut k = 0;
-    while k < count {
-        if shares(start, end, directory, k) {
-            return k;
-        }
-        k += 1;
-    }
-    k
+    lowest(count, |k| shares(start, end, directory, k))
 }
 
 // Object o of the first directory shares a cell with one of the other's.
@@ -65,14 +45,7 @@ fn lowest_overlap(directory: &[u32], count: usize, other: &[u32], others: usize)
     requires { (count ≤ 16) × (others ≤ 16) }
     ensures { result ≡ lowest (λ o. some (λ k. share_cell directory.now o other.now k) others) count }
 {
-    let mut o = 0;
-    while o < count {
-        if shares_any(directory, o, other, others) {
-            return o;
-        }
-        o += 1;
-    }
-    o
+    lowest(count, |o| shares_any(directory, o, other, others))
 }
 
 // Objects of the two seats overlap.
@@ -80,25 +53,15 @@ fn seats_overlap(directories: &[u32], seat: Seat, other: Seat) -> bool
     requires { SeatRight directories.now seat × SeatRight directories.now other }
     ensures { result ≡ seats_overlap directories.now seat other }
 {
-    let sections = seat.sections;
-    let count = sections.objects;
-    let places = seat.places;
-    let span = places.directory;
-    let start = span.start;
-    let end = span.end;
-    let other_sections = other.sections;
-    let others = other_sections.objects;
-    let other_places = other.places;
-    let other_span = other_places.directory;
-    let other_start = other_span.start;
-    let other_end = other_span.end;
+    let own = seat.places.directory;
+    let others = other.places.directory;
     let lowest = lowest_overlap(
-        &directories[start..end],
-        count,
-        &directories[other_start..other_end],
-        others,
+        &directories[own.start..own.end],
+        seat.sections.objects,
+        &directories[others.start..others.end],
+        other.sections.objects,
     );
-    lowest < count
+    lowest < seat.sections.objects
 }
 
 // The lowest routine before r whose objects overlap those of r, or r.
@@ -106,14 +69,7 @@ fn lowest_earlier(directories: &[u32], seats: [Seat; 8], r: usize) -> usize
     requires { (r < 8) × SeatRight directories.now (seat_at seats r) × SeatsRight directories.now seats r }
     ensures { result ≡ lowest (λ e. seats_overlap directories.now (seat_at seats r) (seat_at seats e)) r }
 {
-    let mut e = 0;
-    while e < r {
-        if seats_overlap(directories, seats[r], seats[e]) {
-            return e;
-        }
-        e += 1;
-    }
-    e
+    lowest(r, |e| seats_overlap(directories, seats[r], seats[e]))
 }
 
 // Objects of routine r overlap an earlier one's.
@@ -130,12 +86,5 @@ pub fn first_overlap(directories: &[u32], seats: [Seat; 8], count: usize) -> usi
     requires { (count ≤ 8) × SeatsRight directories.now seats count }
     ensures { result ≡ lowest (seat_overlaps directories.now seats) count }
 {
-    let mut r = 0;
-    while r < count {
-        if overlaps_earlier(directories, seats, r) {
-            return r;
-        }
-        r += 1;
-    }
-    r
+    lowest(count, |r| overlaps_earlier(directories, seats, r))
 }

@@ -1,11 +1,11 @@
 // Where each routine's part lies in a lent slice: the parts one after the other, with a slice of lengths, `kinds` of them a routine.
 #![tactic(auto)]
 
-ghost use Rattle.std.specs.Prelude.{◌≡◌, min, ◌^◌, ◌<◌, ◌≤◌, get_or};
+ghost use Rattle.std.specs.Prelude.{◌≡◌, ◌^◌, ◌<◌, ◌≤◌, get_or};
 ghost use Rattle.parts.specs.Parts.{length_at, start_at, span_of};
 
 // A part of a lent slice: the elements start to end - 1.
-#[derive(Clone, Copy)]
+#[derive(Clone, Copy, Debug, PartialEq, Eq)]
 pub struct Span {
     pub start: usize,
     pub end: usize,
@@ -36,18 +36,10 @@ fn start_of(lengths: &[u32], kinds: usize, kind: usize, r: usize) -> usize
     ensures small { result ≤ 2 ^ 36 }
 {
     let mut start = 0;
-    let mut i = 0;
-    while i < r {
+    for i in 0..r {
         start += length_of(lengths, kinds, kind, i);
-        i += 1;
     }
     start
-}
-
-fn cut(n: usize, end: usize) -> usize
-    ensures { result ≡ min n end }
-{
-    if n <= end { n } else { end }
 }
 
 // Routine r's part of this kind, of a slice of `length` elements.
@@ -59,7 +51,7 @@ pub fn span_of(lengths: &[u32], kinds: usize, kind: usize, r: usize, length: usi
     let start = start_of(lengths, kinds, kind, r);
     let end = start + length_of(lengths, kinds, kind, r);
     Span {
-        start: cut(start, length),
-        end: cut(end, length),
+        start: start.min(length),
+        end: end.min(length),
     }
 }

@@ -1,5 +1,5 @@
 -- The positions of the places that a store holds, that an edit leaves, and that a walk keeps.
-use Rattle.std.specs.Prelude.{ℕ, zero, suc, ◌+◌, ◌-◌, ◌<◌, ◌≤◌, ◌≡◌, Bool, ◌&&◌, ◌||◌, get_or, take, eqb, leb}
+use Rattle.std.specs.Prelude.{ℕ, zero, suc, ◌+◌, ◌-◌, ◌<◌, ◌≤◌, ◌≡◌, Bool, ◌&&◌, ◌||◌, get_or, take, eqb, leb, Err, Result}
 use Rattle.std.proofs.Math.Path.{refl, sym, ap, subst}
 use Rattle.std.proofs.Common.{◌∙◌, ap₂, arith, add-one, eq-eqb, ne_eqb, ltb-true, ltb-false, le-ltb, le-leb}
 use Rattle.std.proofs.Math.Bool.{true, false, cond}
@@ -19,8 +19,6 @@ use Rattle.rules.specs.FactSets.{State}
 use Rattle.rules.specs.Stored.{store, new_state, block_after, block_faults}
 use Rattle.rules.specs.Verdict.{verdict_of}
 use Rattle.rules.specs.declared.Environment.{Environment}
-use Rattle.rules.specs.declared.Verdict.{Verdict}
-use Rattle.rules.specs.declared.Verdict.TheVariants.{Accepted, Refused}
 use Rattle.edits.specs.TopLevel.{is_in, positions_of, top_level}
 use Rattle.edits.specs.Followed.{followed}
 use Rattle.edits.specs.Cuts.{top-past}
@@ -94,7 +92,7 @@ or-second true y e = refl
 or-second false y e = e
 
 -- A walk with this verdict comes to a.
-comes : {v : Verdict} (G : List Refusal) (a b c : ℕ) → Ranged b c G → a < b → v ≡ verdict_of G → comes_to v a ≡ true
+comes : {v : Result (Unit {0}) Refusal} (G : List Refusal) (a b c : ℕ) → Ranged b c G → a < b → v ≡ verdict_of G → comes_to v a ≡ true
 unfolding verdict_of Ranged
 comes [] a b c g p e = rw e
 comes (r ∷ G) a b c g p e = rw e (le-leb a (place r) (omega (arith, g.0.0)))
@@ -111,13 +109,14 @@ module _ (K : List ℕ) (n : ℕ) where
       go true = map-append (λ (x : Place). x.position) P (place_of a w ∷ [])
       go false = refl
 
-  stored_past : (r : Refusal) (A P : List ℕ) → ((x : ℕ) → is_in A x ≡ true → place r < x) → stored K n (Refused r) A P ≡ P
+  stored_past : (r : Refusal) (A P : List ℕ) → ((x : ℕ) → is_in A x ≡ true → place r < x) → stored K n (Err r) A P ≡ P
   unfolding stored is_in
   stored_past r [] P f = refl
   stored_past r (a ∷ A) P f =
       rw (lt-leb a (place r) (f a (or-first (eqb a a) _ (eq-eqb a a refl)))) (stored_past r A P (λ x e. f x (or-second (eqb a x) _ e)))
 
-  step : {v : Verdict} (F G : List Refusal) (a b c : ℕ) (A : List ℕ) (P Q : List Place) (w : State FactSet) → Ranged a b F → Ranged b c G → a < b
+  step : {v : Result (Unit {0}) Refusal} (F G : List Refusal) (a b c : ℕ) (A : List ℕ) (P Q : List Place) (w : State FactSet) → Ranged a b F
+      → Ranged b c G → a < b
       → ((x : ℕ) → is_in A x ≡ true → b ≤ x) → v ≡ verdict_of (also F G)
       → (v ≡ verdict_of G → positions_in Q ≡ stored K n v A (positions_in (kept_at K n P a w)))
       → positions_in (onward F Q (kept_at K n P a w)) ≡ stored K n v (a ∷ A) (positions_in P)
@@ -125,13 +124,14 @@ module _ (K : List ℕ) (n : ℕ) where
   step {v} [] G a b c A P Q w f g p i e q =
       q e ∙ ap (stored K n v A) (at-positions (comes_to v a) P a w (comes G a b c g p e))
   step {v} (r ∷ F) G a b c A P Q w f g p i e q =
-      let Left : Verdict → Type 0 = λ u. positions_in (kept_at K n P a w) ≡ stored K n u (a ∷ A) (positions_in P) in
+      let Left : Result (Unit {0}) Refusal → Type 0 = λ u. positions_in (kept_at K n P a w) ≡ stored K n u (a ∷ A) (positions_in P) in
       subst Left (sym e) (at-positions (leb a (place r)) P a w (le-leb a (place r) f.0.0)
       ∙ sym (stored_past r A _ (λ x y. omega (arith, f.0.1, i x y))))
 
   module _ (E : Environment) where
     -- The first statement t of a block, and the rest r from b on.
-    part : {v : Verdict} (t r : Block) (a b : ℕ) (w : State FactSet) (P : List Place) → Numbered t a → b ≡ a + size t → 0 < size t → Numbered r b
+    part : {v : Result (Unit {0}) Refusal} (t r : Block) (a b : ℕ) (w : State FactSet) (P : List Place) → Numbered t a → b ≡ a + size t → 0 < size t
+        → Numbered r b
         → v ≡ verdict_of (block_faults E [] [] (followed t r) w)
         → ((u : State FactSet) (Q : List Place) → v ≡ verdict_of (block_faults E [] [] r u)
         → positions_in (kept_from K n E r u Q) ≡ stored K n v (positions_of r) (positions_in Q))
@@ -143,7 +143,8 @@ module _ (K : List ℕ) (n : ℕ) where
         (rw z (block-ranged store E t a m w)) (block-ranged store E r b o (block_after E [] t w)) (omega arith) (λ x y. top_from r b x o y)
         (e ∙ ap verdict_of (faults-followed store E [] t r a m w)) (λ y. ih (block_after E [] t w) (kept_at K n P a w) y)
 
-    pub kept-positions : {v : Verdict} (t : Block) (a : ℕ) → Numbered t a → (w : State FactSet) (P : List Place) → v ≡ verdict_of (block_faults E [] [] t w)
+    pub kept-positions : {v : Result (Unit {0}) Refusal} (t : Block) (a : ℕ) → Numbered t a → (w : State FactSet) (P : List Place)
+        → v ≡ verdict_of (block_faults E [] [] t w)
         → positions_in (kept_from K n E t w P) ≡ stored K n v (positions_of t) (positions_in P)
     unfolding kept_from positions_of stored followed size
     kept-positions nil a m w P e = refl
@@ -184,7 +185,7 @@ ascending-more (p ∷ []) a o e = (last_one p a (e (λ z. omega arith)), tt)
 ascending-more (p ∷ (q ∷ P)) a o e =
     let z = last_more p q P in (o.0, ascending-more (q ∷ P) a o.1 (λ y. rw z at (e (λ i. omega arith))))
 
-pub ascending-stored : (K : List ℕ) (n : ℕ) (v : Verdict) (A P : List ℕ) → Ascending P → Ascending (stored K n v A P)
+pub ascending-stored : (K : List ℕ) (n : ℕ) (v : Result (Unit {0}) Refusal) (A P : List ℕ) → Ascending P → Ascending (stored K n v A P)
 unfolding stored
 ascending-stored K n v [] P o = o
 ascending-stored K n v (a ∷ A) P o =
@@ -214,12 +215,12 @@ ascending-staying p (q ∷ (r ∷ P)) o = go (leb q p) (leb r p) (ascending-stay
 
 -- ---- of a whole table, from a place on
 
-stored-append : (K : List ℕ) (n : ℕ) (v : Verdict) (A B P : List ℕ) → stored K n v (A ++ B) P ≡ stored K n v B (stored K n v A P)
+stored-append : (K : List ℕ) (n : ℕ) (v : Result (Unit {0}) Refusal) (A B P : List ℕ) → stored K n v (A ++ B) P ≡ stored K n v B (stored K n v A P)
 unfolding stored
 stored-append K n v [] B P = refl
 stored-append K n v (a ∷ A) B P = stored-append K n v A B _
 
-stored-none : (K : List ℕ) (n : ℕ) (v : Verdict) (A P : List ℕ) → A ≡ [] → stored K n v A P ≡ P
+stored-none : (K : List ℕ) (n : ℕ) (v : Result (Unit {0}) Refusal) (A P : List ℕ) → A ≡ [] → stored K n v A P ≡ P
 unfolding stored
 stored-none K n v A P e = rw e
 
@@ -239,7 +240,8 @@ and_none true false f = refl
 and_none false c f = refl
 
 -- Positions before the last that is kept are passed over.
-stored-before : (K : List ℕ) (n : ℕ) (v : Verdict) (A P : List ℕ) → (length P ≡ 0 → ⊥) → ((x : ℕ) → is_in A x ≡ true → x ≤ last_of P) → stored K n v A P ≡ P
+stored-before : (K : List ℕ) (n : ℕ) (v : Result (Unit {0}) Refusal) (A P : List ℕ) → (length P ≡ 0 → ⊥) → ((x : ℕ) → is_in A x ≡ true → x ≤ last_of P)
+    → stored K n v A P ≡ P
 unfolding stored is_in
 stored-before K n v [] P q f = refl
 stored-before K n v (a ∷ A) P q f =
@@ -267,7 +269,7 @@ top-until t a p n e = go (ltb p (a + size t)) refl
         let z : ◌≡◌ {A = ℕ} 0 1 = cc in absurd (omega arith)
 
 -- The positions kept by the walk from the last of P on, u, are those of the walk over the whole, whose first part is t.
-pub stored-from : (K : List ℕ) (n : ℕ) (v : Verdict) (t u : Block) (P : List ℕ) → Numbered t 0 → size t ≡ last_of P
+pub stored-from : (K : List ℕ) (n : ℕ) (v : Result (Unit {0}) Refusal) (t u : Block) (P : List ℕ) → Numbered t 0 → size t ≡ last_of P
     → stored K n v (positions_of (followed t u)) P ≡ stored K n v (positions_of u) P
 unfolding last_of
 stored-from K n v t u P m e =

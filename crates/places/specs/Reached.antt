@@ -1,6 +1,6 @@
 -- What a walk from the start has come to before a top-level statement, or at the end: the state there, with no fault on the way. The verdict on the table is
 -- that of the walk from there; an edit at or behind it leaves it as it is.
-use Rattle.std.specs.Prelude.{ℕ, ◌+◌, ◌<◌, ◌≤◌, ◌≡◌, ℤ}
+use Rattle.std.specs.Prelude.{ℕ, ◌+◌, ◌<◌, ◌≤◌, ◌≡◌, ℤ, Ok, Result}
 use Rattle.std.proofs.Math.Path.{refl, ap, ap₂}
 use Rattle.std.proofs.Common.{sym, ◌∙◌, arith}
 use mathlib.Core.List.{List, []}
@@ -11,8 +11,6 @@ use Rattle.words.specs.Sections.{object_terminated}
 use Rattle.words.specs.declared.sections.Sections.{Sections}
 use Rattle.table.specs.Variables.{object_at, variable_at, row_at}
 use Rattle.table.specs.Form.{form_of}
-use Rattle.table.specs.declared.Form.TheVariants as form
-use Rattle.table.specs.declared.variables.VariableRead.{VariableRead}
 use Rattle.blocks.specs.Tree.{Block, nil, parse, tree}
 use Rattle.blocks.specs.Layout.{also, layout}
 use Rattle.blocks.specs.Shape.{Laid}
@@ -26,7 +24,6 @@ use Rattle.rules.specs.Verdict.{environment_of, bounds_of, variable_size, row_bo
 use Rattle.rules.specs.Verdict as verdict_rules
 use Rattle.rules.specs.ByChains.{Judged}
 use Rattle.rules.proofs.Decidable.{judged}
-use Rattle.rules.specs.declared.Verdict.{Verdict}
 use Rattle.declared.specs.ForceLaws.{pass}
 use Rattle.edits.specs.Followed.{followed, laid-followed, laid-parsed}
 use Rattle.edits.specs.Cuts.{Cut, cut-first, cut-whole, cut-between}
@@ -86,7 +83,7 @@ module _ {T : List ℤ} {h : Sections} where
       pass _ _ (laid-layout (laid-followed p.cut.front-laid p.cut.back-laid)) ∙ (pass _ _ (none-listed T h) ∙ reached-faults p)
 
   -- THE VERDICT FROM A PLACE is the verdict on the table from nothing.
-  pub reached-judged : {q : ℕ} {w : State FactSet} {v : Verdict} → (p : Reached T h q w) → form_of T ≡ form.WellFormed h
+  pub reached-judged : {q : ℕ} {w : State FactSet} {v : Result (Unit {0}) Refusal} → (p : Reached T h q w) → form_of T ≡ Ok h
       → v ≡ verdict_of (block_faults (environment_of T h) [] [] p.cut.back w) → Judged [] T [] v
   unfolding verdict_rules.faults
   reached-judged {v = v} p f e = judged [] none-formed T [] v (e ∙ ap verdict_of (rw f (sym (reached-section p))))

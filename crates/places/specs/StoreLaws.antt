@@ -1,7 +1,8 @@
 -- Laws of the store: what its code leaves.
-use Rattle.std.specs.Prelude.{ℕ, zero, suc, ◌+◌, ◌-◌, ◌*◌, ◌/◌, ◌<◌, ◌≤◌, min, ◌≡◌, refl, Bool, true, false, ◌&&◌, ◌||◌, cond, length, get_or, set, take, drop}
+use Rattle.std.specs.Prelude.{ℕ, zero, suc, ◌+◌, ◌-◌, ◌*◌, ◌/◌, ◌<◌, ◌≤◌, min, ◌≡◌, refl, Bool, true, false, ◌&&◌, ◌||◌, cond, length, get_or, set, take}
 use Rattle.std.specs.Prelude.{eqb, ltb, leb}
-use Rattle.std.proofs.Common.{sym, ◌∙◌, arith, pos_of_ne-zero, length-set, length-append, get_or-set_same, get_or-set_other, take_all, drop-cons}
+use Rattle.std.specs.List.{list_any}
+use Rattle.std.proofs.Common.{sym, ◌∙◌, arith, pos_of_ne-zero, length-set, length-append, get_or-set_same, get_or-set_other, take_all}
 use Rattle.std.proofs.Math.Path.{ap, ap₂}
 use mathlib.Core.List.{List, [], ◌∷◌, ◌++◌}
 use Rattle.std.proofs.Math.Numerals.{add-one}
@@ -13,7 +14,6 @@ use Rattle.arrays.specs.Overwritten.{Overwritten}
 use Rattle.facts.specs.Words.{loaded, loaded-same, Saved}
 use Rattle.facts.specs.declared.FactSet.{FactSet}
 use Rattle.table.specs.Form.{lowest_from}
-use Rattle.table.specs.Searches.{Passed}
 use Rattle.rules.specs.FactSets.{State}
 use Rattle.rules.specs.Stored.{new_state}
 use Rattle.declared.specs.Force.{state_of}
@@ -38,6 +38,9 @@ count-within S = omega arith
 pub place-within : (S : List ℕ) (j : ℕ) → j < capacity S → place_start j + 307 ≤ length S
 unfolding capacity
 place-within S j p = omega arith
+
+pub place-kept : (S : List ℕ) (j : ℕ) {n : ℕ} → n ≡ place_count S → j < n → 1 + 307 * j + 307 ≤ length S
+place-kept S j e h = place-within S j (omega (arith, e, h, count-within S))
 
 pub places-long : (S : List ℕ) → length (places S) ≡ place_count S
 unfolding places
@@ -164,19 +167,10 @@ pushed_at S a f R e room p q =
 
 -- ---- which are named
 
-drop_all : {A : Type 0} (n : ℕ) (l : List A) → length l ≤ n → drop n l ≡ []
-drop_all zero [] p = refl
-drop_all zero (x ∷ xs) p = absurd (omega arith)
-drop_all (suc n) [] p = refl
-drop_all (suc n) (x ∷ xs) p = drop_all n xs (omega arith)
-
-pub named_none : (K : List ℕ) (a i : ℕ) → length K ≤ i → is_in (drop i K) a ≡ false
+pub named-any : (K : List ℕ) (a : ℕ) → list_any (λ k. eqb k a) K ≡ is_in K a
 unfolding is_in
-named_none K a i p = rw (drop_all i K p)
-
-pub named_more : (K : List ℕ) (a i : ℕ) → i < length K → is_in (drop i K) a ≡ (eqb (get_or K i 0) a || is_in (drop (i + 1) K) a)
-unfolding is_in
-named_more K a i p = rw (add-one, drop-cons K i 0 p)
+named-any [] a = refl
+named-any (k ∷ K) a = ap (λ (b : Bool). eqb k a || b) (named-any K a)
 
 -- ---- the place is kept where it is named, next and fits
 

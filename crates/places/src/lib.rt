@@ -9,8 +9,10 @@ ghost use Rattle.edits.specs.TopLevel.{is_in};
 ghost use Rattle.places.specs.Positions.{capacity, place_count, position_at};
 ghost use Rattle.places.specs.StoreLaws.{Restored, RowsSaved};
 
+use arrays::lowest;
 use facts::FactSet;
 use rules::lookups::Rows;
+use std::array;
 
 // How many places there is room for.
 pub fn capacity(store: &[u64]) -> usize
@@ -46,11 +48,9 @@ pub fn rows_at(store: &[u64], j: usize) -> Rows
     ensures { result.each ≡ rows_at store.now j }
 {
     let start = 1 + 307 * j + 291;
-    let mut next = Rows { each: [0; 16] };
-    for i in 0..16 {
-        next.each[i] = store[start + i] as usize;
+    Rows {
+        each: array::from_fn(|i| store[start + i] as usize),
     }
-    next
 }
 
 pub fn facts_at(store: &[u64], j: usize) -> FactSet
@@ -64,15 +64,7 @@ pub fn facts_at(store: &[u64], j: usize) -> FactSet
 pub fn up_to(store: &[u64], p: usize) -> usize
     ensures { result ≡ up_to (places store.now) p }
 {
-    let n = place_count(store);
-    let mut j = 0;
-    while j < n {
-        if position_at(store, j) > p {
-            return j;
-        }
-        j += 1;
-    }
-    j
+    lowest(place_count(store), |j| position_at(store, j) > p)
 }
 
 // Keeps the first `n` places.
@@ -90,10 +82,8 @@ fn save_rows(rows: Rows, store: &mut [u64], at: usize)
     requires { at + 16 ≤ length store.old }
     ensures { RowsSaved store.old at rows.each store.new }
 {
-    let mut i = 0;
-    while i < 16 {
+    for i in 0..16 {
         store[at + i] = rows.each[i] as u64;
-        i += 1;
     }
 }
 
@@ -114,14 +104,7 @@ fn push(store: &mut [u64], at: usize, facts: FactSet, rows: Rows)
 pub fn is_named(keep: &[u32], at: usize) -> bool
     ensures { result ≡ is_in keep.now at }
 {
-    let mut i = 0;
-    while i < keep.len() {
-        if keep[i] as usize == at {
-            return true;
-        }
-        i += 1;
-    }
-    false
+    keep.iter().any(|kept| *kept as usize == at)
 }
 
 // The position is behind every place that is kept.

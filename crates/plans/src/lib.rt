@@ -11,7 +11,7 @@ ghost use Rattle.plans.specs.Plans.{removed_by, words_by, text_plan, plan_of};
 ghost use Rattle.plans.specs.PlanLaws.{placed};
 
 use answers::refusals::Refusal;
-use edits::{Text, check_text, land, span};
+use edits::{TextFault, check_text, land, span};
 use words::sections::Sections;
 
 // An edit of one top-level statement with its blocks. Of an operation that there is not none is made.
@@ -23,11 +23,11 @@ pub enum Edit {
     Unknown,
 }
 
-// So many statements make room for so many others; or the edit is refused.
+// So many statements make room for so many others.
 #[derive(Clone, Copy)]
-pub enum Plan {
-    Change { removed: usize, added: usize },
-    Refused(Refusal),
+pub struct Splice {
+    pub removed: usize,
+    pub added: usize,
 }
 
 // How many statements go.
@@ -36,9 +36,7 @@ fn removed_by(table: &[i32], sections: Sections, at: usize, edit: Edit) -> usize
 {
     match edit {
         Edit::Insert => 0,
-        Edit::Replace => span(table, sections, at),
-        Edit::Remove => span(table, sections, at),
-        Edit::Unknown => span(table, sections, at),
+        _ => span(table, sections, at),
     }
 }
 
@@ -47,27 +45,30 @@ fn words_by(edit: Edit, size: usize) -> usize
     ensures { result ≡ words_by edit size }
 {
     match edit {
-        Edit::Insert => size,
-        Edit::Replace => size,
-        Edit::Remove => 0,
-        Edit::Unknown => 0,
+        Edit::Insert | Edit::Replace => size,
+        Edit::Remove | Edit::Unknown => 0,
     }
 }
 
 // The text is checked.
-fn plan_text(table: &[i32], sections: Sections, at: usize, removed: usize, text: &[i32]) -> Plan
+fn plan_text(
+    table: &[i32],
+    sections: Sections,
+    at: usize,
+    removed: usize,
+    text: &[i32],
+) -> Result<Splice, Refusal>
     requires { Fits sections 0 sections.statements (length text.now / 7) }
     ensures { result ≡ text_plan at (text_of (text_table table.now sections text.now) (text_sections sections text.now)
         (length text.now)) removed (length text.now / 7) }
 {
-    let judged = check_text(table, sections, text);
-    match judged {
-        Text::Right => Plan::Change {
+    match check_text(table, sections, text) {
+        Ok(()) => Ok(Splice {
             removed,
             added: text.len() / 7,
-        },
-        Text::Record => Plan::Refused(Refusal::StatementRecord(at)),
-        Text::Layout => Plan::Refused(Refusal::BlockLayout(at)),
+        }),
+        Err(TextFault::Record) => Err(Refusal::StatementRecord(at)),
+        Err(TextFault::Layout) => Err(Refusal::BlockLayout(at)),
     }
 }
 
@@ -95,28 +96,28 @@ pub fn plan_edit(
     at: usize,
     edit: Edit,
     text: &[i32],
-) -> Plan
+) -> Result<Splice, Refusal>
     requires { (in_limits sections ≡ true) × Limits sections × (length table.now ≡ table_end sections) }
     ensures { result ≡ plan_of (placed table.now sections from at (removed_by edit (span_of (statement_at table.now sections at))))
         table.now room sections at edit text.now }
 {
     let removed = removed_by(table, sections, at, edit);
     if !is_placed(table, sections, from, at, removed) {
-        return Plan::Refused(Refusal::EditPosition(at));
+        return Err(Refusal::EditPosition(at));
     }
     let words = words_by(edit, text.len());
     let left = 7 * (sections.statements - removed);
     if words > 7168 - left {
-        return Plan::Refused(Refusal::EditPosition(at));
+        return Err(Refusal::EditPosition(at));
     }
     let size = table.len() - 7 * removed + words;
     if size > room {
-        return Plan::Refused(Refusal::EditPosition(at));
+        return Err(Refusal::EditPosition(at));
     }
     match edit {
         Edit::Insert => plan_text(table, sections, at, removed, text),
         Edit::Replace => plan_text(table, sections, at, removed, text),
-        Edit::Remove => Plan::Change { removed, added: 0 },
-        Edit::Unknown => Plan::Refused(Refusal::EditPosition(at)),
+        Edit::Remove => Ok(Splice { removed, added: 0 }),
+        Edit::Unknown => Err(Refusal::EditPosition(at)),
     }
 }

@@ -1,12 +1,11 @@
-// The reader of statements: it holds the table it was lent and the number of the statement due.
-
-// `effects` and `checker` call `read_due`, whose parameters are plain.
+// The reader of statements: it holds the table it was lent and the number of the statement due; the work is `statements::read_statement`'s. `effects`
+// and `checker` call `read_due`, whose parameters are plain.
 #![tactic(auto)]
 
 ghost use Rattle.std.specs.Prelude.{◌≡◌};
 ghost use Rattle.statements.specs.Statements.{statement_at};
 
-use statements::{StatementRead, read_statement};
+use statements::{Statement, read_statement};
 use words::sections::Sections;
 
 #[derive(Clone, Copy)]
@@ -24,7 +23,7 @@ impl<'a> Reader<'a> {
     }
 
     // The statement due.
-    pub fn due(self, sections: Sections) -> StatementRead
+    pub fn due(self, sections: Sections) -> Option<Statement>
         ensures { result ≡ statement_at self.entry.table.now sections self.entry.at }
     {
         read_statement(self.table, sections, self.at)
@@ -32,7 +31,7 @@ impl<'a> Reader<'a> {
 }
 
 // The statement of a number, read by a reader that is made for it.
-pub fn read_due(table: &[i32], sections: Sections, at: usize) -> StatementRead
+pub fn read_due(table: &[i32], sections: Sections, at: usize) -> Option<Statement>
     ensures { result ≡ statement_at table.now sections at }
 {
     Reader::new(table, at).due(sections)

@@ -4,7 +4,6 @@ ghost use Rattle.std.specs.Prelude.{◌≤◌, length};
 
 use crate::{LIMIT, read_table, word_of};
 use answers::stops::Outcome;
-use set_runs::SetRun;
 use std::rt::Files;
 
 // The words of the three tables, one behind the other.
@@ -54,7 +53,7 @@ pub(crate) fn score_day(rt: &(impl Files + Print + Eprint)) {
         &mut ends,
         &mut successors,
     );
-    let SetRun::Ran(ended) = ran else {
+    let Some(ended) = ran else {
         return;
     };
     let outcome = ended.outcome;

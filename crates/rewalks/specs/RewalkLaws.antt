@@ -1,5 +1,5 @@
 -- Laws of the walk from the last place.
-use Rattle.std.specs.Prelude.{ℕ, ◌+◌, ◌-◌, ◌<◌, ◌≤◌, ◌≡◌, Bool, true, false, cond, ℤ, length, get_or}
+use Rattle.std.specs.Prelude.{ℕ, ◌+◌, ◌-◌, ◌<◌, ◌≤◌, ◌≡◌, Bool, true, false, cond, ℤ, length, get_or, Err, Ok, Result}
 use Rattle.std.proofs.Math.Path.{refl}
 use Rattle.std.proofs.Common.{sym, ◌∙◌, ap, ap₂, arith, pos_of_ne-zero}
 use mathlib.Core.List.{List, [], ◌∷◌}
@@ -16,13 +16,9 @@ use Rattle.blocks.specs.LayoutLaws.{none-refused}
 use Rattle.blocks.specs.Parts.{verdict}
 use Rattle.blocks.specs.Shape.{Laid}
 use Rattle.blocks.specs.ShapeLaws.{laid}
-use Rattle.blocks.specs.declared.Layout.{Layout}
-use Rattle.blocks.specs.declared.Layout.TheVariants as layout-variant
 use Rattle.rules.specs.Stored.{new_state}
 use Rattle.rules.specs.BoundsRules.{own_rows}
 use Rattle.rules.specs.Verdict.{verdict_of}
-use Rattle.rules.specs.declared.Verdict.{Verdict}
-use Rattle.rules.specs.declared.Verdict.TheVariants.{Accepted, Refused}
 use Rattle.declared.specs.Force.{state_of}
 use Rattle.edits.specs.TopLevel.{span_of}
 use Rattle.edits.specs.Edited.{is_empty}
@@ -54,32 +50,33 @@ begins-last S {b} {n} e q p f r = record {
 
 -- ---- how far it comes
 
-pub begun_all : (T : List ℤ) (h : Sections) {v : Verdict} → v ≡ Accepted → h.statements ≡ begun_to T h v
+pub begun_all : (T : List ℤ) (h : Sections) {v : Result (Unit {0}) Refusal} → v ≡ Ok tt → h.statements ≡ begun_to T h v
 unfolding begun_to
 begun_all T h e = rw e
 
-pub begun-past : (T : List ℤ) (h : Sections) {v : Verdict} {r : Refusal} {a : ℕ} → v ≡ Refused r → a ≡ place r → h.statements ≤ a
+pub begun-past : (T : List ℤ) (h : Sections) {v : Result (Unit {0}) Refusal} {r : Refusal} {a : ℕ} → v ≡ Err r → a ≡ place r → h.statements ≤ a
     → h.statements ≡ begun_to T h v
 unfolding begun_to
 begun-past T h {v} {r} {a} e f p = rw (e, le-ltb (place r) h.statements (omega arith))
 
-pub begun-at : (T : List ℤ) (h : Sections) {v : Verdict} {r : Refusal} {a s : ℕ} → v ≡ Refused r → a ≡ place r → a < h.statements
+pub begun-at : (T : List ℤ) (h : Sections) {v : Result (Unit {0}) Refusal} {r : Refusal} {a s : ℕ} → v ≡ Err r → a ≡ place r → a < h.statements
     → s ≡ span_of (statement_at T h a) → a + s ≡ begun_to T h v
 unfolding begun_to
 begun-at T h {v} {r} {a} {s} e f p q = rw (e, lt-ltb (place r) h.statements (omega arith), q, f)
 
 -- ---- the layout from there
 
-pub laid_from : (T : List ℤ) (h : Sections) (a : ℕ) {l : Layout} → a ≤ h.statements → l ≡ verdict (block_layout h.statements T h 0 a h.statements)
-    → l ≡ layout-variant.LaidOut → Laid T h 0 a h.statements (rest_of T h a)
+pub laid_from : (T : List ℤ) (h : Sections) (a : ℕ) {l : Result (Unit {0}) Refusal} → a ≤ h.statements
+    → l ≡ verdict (block_layout h.statements T h 0 a h.statements)
+    → l ≡ Ok tt → Laid T h 0 a h.statements (rest_of T h a)
 laid_from T h a {l} q e p = laid h.statements T h 0 a h.statements q (omega arith) (none-refused _ l e p)
 
 -- Refused: its first fault is the verdict, whatever follows.
-first-fault : (F G : List Refusal) {l : Layout} {x : Refusal} → l ≡ verdict F → l ≡ layout-variant.Refused x
-    → (is_empty F ≡ false) × (Refused x ≡ verdict_of (also F G))
+first-fault : (F G : List Refusal) {l : Result (Unit {0}) Refusal} {x : Refusal} → l ≡ verdict F → l ≡ Err x
+    → (is_empty F ≡ false) × (Err x ≡ verdict_of (also F G))
 unfolding verdict is_empty also verdict_of
 first-fault [] G e p = let i : ◌≡◌ {A = ℕ} 0 1 = cc in absurd (omega arith)
-first-fault (y ∷ F) G {x = x} e p = let i : y ≡ x = cc in (refl, ap Refused (sym i))
+first-fault (y ∷ F) G {x = x} e p = let i : y ≡ x = cc in (refl, ap Err (sym i))
 
 layout-within : (T : List ℤ) (h : Sections) (q : ℕ) → q ≤ h.statements → layout_from T h q ≡ block_layout h.statements T h 0 q h.statements
 unfolding layout_from
@@ -91,14 +88,15 @@ stays F S P e = record { long = refl; holds = rw e }
 -- ---- from where the code begins
 
 module _ (T : List ℤ) (h : Sections) (K S : List ℕ) (b : Place) (r : Rewalked) where
-  pub past_end : h.statements < b.position → r.verdict ≡ Refused (BlockLayout b.position) → r.walked ≡ 0 → RewalkedFrom T h K S b r S
+  pub past_end : h.statements < b.position → r.verdict ≡ Err (BlockLayout b.position) → r.walked ≡ 0 → RewalkedFrom T h K S b r S
   unfolding layout_from is_empty also verdict_of
   past_end p v n =
       let z = lt-ltb h.statements b.position p in
       record { verdict = rw z v; walked = rw z n; left = rw z (record { long = refl; holds = refl }) }
 
-  module _ (within : b.position ≤ h.statements) {l : Layout} (said : l ≡ verdict (block_layout h.statements T h 0 b.position h.statements)) where
-    pub not-laid : {x : Refusal} → l ≡ layout-variant.Refused x → r.verdict ≡ Refused x → r.walked ≡ 0 → RewalkedFrom T h K S b r S
+  module _ (within : b.position ≤ h.statements) {l : Result (Unit {0}) Refusal} (said : l ≡ verdict
+      (block_layout h.statements T h 0 b.position h.statements)) where
+    pub not-laid : {x : Refusal} → l ≡ Err x → r.verdict ≡ Err x → r.walked ≡ 0 → RewalkedFrom T h K S b r S
     not-laid p v n =
         let z = layout-within T h b.position within in
         let F = block_layout h.statements T h 0 b.position h.statements in
@@ -108,7 +106,7 @@ module _ (T : List ℤ) (h : Sections) (K S : List ℕ) (b : Place) (r : Rewalke
           left = rw z (stays F S _ (first-fault F [] said p).0);
         }
 
-    pub rewalked : {Q : List ℕ} → l ≡ layout-variant.LaidOut → WalkedOn T h K b.position b.state S r.verdict Q
+    pub rewalked : {Q : List ℕ} → l ≡ Ok tt → WalkedOn T h K b.position b.state S r.verdict Q
         → r.walked ≡ walked_from T h b.position r.verdict → RewalkedFrom T h K S b r Q
     unfolding is_empty also
     rewalked p w n =

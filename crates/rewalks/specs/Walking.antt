@@ -1,5 +1,5 @@
 -- The walk from a place to the end, and the places that it keeps on its way.
-use Rattle.std.specs.Prelude.{ℕ, ◌+◌, ◌-◌, ◌/◌, ◌<◌, ◌≤◌, ◌≡◌, refl, Bool, true, false, cond, ℤ, length}
+use Rattle.std.specs.Prelude.{ℕ, ◌+◌, ◌-◌, ◌/◌, ◌<◌, ◌≤◌, ◌≡◌, refl, Bool, true, false, cond, ℤ, length, Err, Ok, Result}
 use Rattle.std.proofs.Math.Path.{sym, ap}
 use Rattle.std.proofs.Common.{◌∙◌, ap₂, arith}
 use mathlib.Core.List.{List, [], ◌∷◌}
@@ -15,8 +15,6 @@ use Rattle.rules.specs.Calls.{Routine}
 use Rattle.rules.specs.Stored.{store, block_after, block_faults}
 use Rattle.rules.specs.Verdict.{environment_of, verdict_of}
 use Rattle.rules.specs.declared.Environment.{Environment}
-use Rattle.rules.specs.declared.Verdict.{Verdict}
-use Rattle.rules.specs.declared.Verdict.TheVariants.{Accepted, Refused}
 use Rattle.bounds.specs.Touched.{seen_of}
 use Rattle.rules.specs.BoundsRules.{in_force}
 use Rattle.declared.specs.Force.{state_of, Forced}
@@ -47,7 +45,8 @@ pub alone-walks : (E : Environment) (b : Block) (w : State FactSet) (M : List �
 alone-walks E b w M e p = (M, rw e at p)
 
 -- The walk from the statement `from` to the end, from the state w: its verdict is that of the faults from there, and the store holds the places kept.
-pub record WalkedOn (T : List ℤ) (h : Sections) (K : List ℕ) (from : ℕ) (w : State FactSet) (S : List ℕ) (r : Verdict) (Q : List ℕ) : Type 0 where
+pub record WalkedOn (T : List ℤ) (h : Sections) (K : List ℕ) (from : ℕ) (w : State FactSet) (S : List ℕ) (r : Result (Unit {0}) Refusal)
+    (Q : List ℕ) : Type 0 where
   pub said : r ≡ verdict_of (block_faults (environment_of T h) [] [] (rest_of T h from) w)
   pub left : Restored S (kept_from K (capacity S) (environment_of T h) (rest_of T h from) w (places S)) Q
 
@@ -63,7 +62,7 @@ none-parsed : (T : List ℤ) (h : Sections) (a b : ℕ) → parse 0 T h a b ≡ 
 unfolding parse
 none-parsed T h a b = refl
 
-not-onward : (F : List Refusal) {v : Verdict} {x : Refusal} → v ≡ verdict_of F → v ≡ Refused x → (P Q : List Place) → onward F P Q ≡ Q
+not-onward : (F : List Refusal) {v : Result (Unit {0}) Refusal} {x : Refusal} → v ≡ verdict_of F → v ≡ Err x → (P Q : List Place) → onward F P Q ≡ Q
 unfolding verdict_of is_empty
 not-onward [] e p P Q = cc
 not-onward (y ∷ F) e p P Q = refl
@@ -99,7 +98,7 @@ module _ (T : List ℤ) (h : Sections) (K : List ℕ) (from : ℕ) (w₀ : State
       parsed-none = none-parsed T h a b
 
   module _ {at : ℕ} {w : State FactSet} {S : List ℕ} (g : Going T h K from w₀ S₀ at w S) where
-    pub going_done : h.statements ≤ at → WalkedOn T h K from w₀ S₀ Accepted S
+    pub going_done : h.statements ≤ at → WalkedOn T h K from w₀ S₀ (Ok tt) S
     unfolding verdict_of walk_rules.block_faults kept_from
     going_done p =
         let z = nil-clear g.stands.block at h.statements g.stands.laid p in record {
@@ -138,7 +137,7 @@ module _ (T : List ℤ) (h : Sections) (K : List ℕ) (from : ℕ) (w₀ : State
         front-walks : Walks E [] [] s.cut.front w walks.0 r
         front-walks = let z = front-parsed s in rw z at walks.1
 
-        pub going-refused : {v : Verdict} {x : Refusal} → v ≡ r.verdict → v ≡ Refused x → WalkedOn T h K from w₀ S₀ v Q
+        pub going-refused : {v : Result (Unit {0}) Refusal} {x : Refusal} → v ≡ r.verdict → v ≡ Err x → WalkedOn T h K from w₀ S₀ v Q
         going-refused e p =
             let said = refuse-part (block_faults E [] [] s.cut.front w)
             (block_faults E [] [] s.cut.back (block_after E [] s.cut.front w)) (e ∙ front-walks.said) p in record {
@@ -149,7 +148,7 @@ module _ (T : List ℤ) (h : Sections) (K : List ℕ) (from : ℕ) (w₀ : State
               };
             }
 
-        pub going_on : {v : Verdict} → v ≡ r.verdict → v ≡ Accepted → Going T h K from w₀ S₀ stop (state_of r.facts r.rows.each) Q
+        pub going_on : {v : Result (Unit {0}) Refusal} → v ≡ r.verdict → v ≡ Ok tt → Going T h K from w₀ S₀ stop (state_of r.facts r.rows.each) Q
         going_on e p =
             let clear = none-refused (block_faults E [] [] s.cut.front w) (e ∙ front-walks.said) p in
             let now = front-walks.kept clear in record {

@@ -3,19 +3,18 @@
 
 mod walking; // walking.rt: the walk from a place to the end, and the places that it keeps
 
-ghost use Rattle.std.specs.Prelude.{◌≡◌, ◌≤◌, ◌-◌};
+ghost use Rattle.std.specs.Prelude.{◌≡◌, ◌≤◌};
 ghost use Rattle.rules.specs.Ranges.{Measured};
 ghost use Rattle.rules.specs.Verdict.{environment_of};
 ghost use Rattle.places.specs.Places.{places};
 ghost use Rattle.places.specs.Positions.{begun_to};
 ghost use Rattle.rewalks.specs.Rewalks.{Begins, Rewalks};
 
-use answers::refusals::{Refusal, refusal_place};
-use blocks::{Layout, lay_block};
+use answers::refusals::Refusal;
+use blocks::lay_block;
 use edits::span;
 use facts::FactSet;
 use places::{facts_at, place_count, position_at, rows_at};
-use rules::Verdict;
 use rules::lookups::Rows;
 use words::sections::Sections;
 
@@ -30,7 +29,7 @@ struct Begin {
 // The verdict on the table, and how many statements were walked for it.
 #[derive(Clone, Copy)]
 pub struct Rewalked {
-    pub verdict: Verdict,
+    pub verdict: Result<(), Refusal>,
     pub walked: usize,
 }
 
@@ -55,28 +54,18 @@ fn last_place(store: &[u64]) -> Begin
 }
 
 // The number behind the last statement that was begun.
-fn begun_to(table: &[i32], sections: Sections, verdict: Verdict) -> usize
+fn begun_to(table: &[i32], sections: Sections, verdict: Result<(), Refusal>) -> usize
     requires { sections.statements ≤ 1024 }
     ensures { result ≡ begun_to table.now sections verdict }
 {
-    let Verdict::Refused(refusal) = verdict else {
+    let Err(refusal) = verdict else {
         return sections.statements;
     };
-    let place = refusal_place(refusal);
+    let place = refusal.place();
     if place >= sections.statements {
         return sections.statements;
     }
     place + span(table, sections, place)
-}
-
-// a - b, and 0 where b is more.
-fn less(a: usize, b: usize) -> usize
-    ensures { result ≡ a - b }
-{
-    if a < b {
-        return 0;
-    }
-    a - b
 }
 
 // The walk from the last place of the store to the end.
@@ -89,24 +78,24 @@ pub fn rewalk(table: &[i32], sections: Sections, keep: &[u32], store: &mut [u64]
     let end = sections.statements;
     if from > end {
         return Rewalked {
-            verdict: Verdict::Refused(Refusal::BlockLayout(from)),
+            verdict: Err(Refusal::BlockLayout(from)),
             walked: 0,
         };
     }
     let layout = lay_block(table, sections, 0, from, end, end);
     match layout {
-        Layout::Refused(refusal) => Rewalked {
-            verdict: Verdict::Refused(refusal),
+        Err(refusal) => Rewalked {
+            verdict: Err(refusal),
             walked: 0,
         },
-        Layout::LaidOut => {
+        Ok(()) => {
             let facts = start.facts;
             let rows = start.rows;
             let verdict = walking::walk_on(table, sections, keep, store, from, facts, rows);
             let to = begun_to(table, sections, verdict);
             Rewalked {
                 verdict,
-                walked: less(to, from),
+                walked: to.saturating_sub(from),
             }
         }
     }

@@ -9,6 +9,7 @@ ghost use Rattle.checker.specs.Walk.{InPlace};
 ghost use Rattle.rewalks.specs.Stops.{Stands, Stop};
 ghost use Rattle.rewalks.specs.Walking.{rest_of, WalksPart, WalkedOn};
 
+use answers::refusals::Refusal;
 use bundles::Walked;
 use checker::walk::walk;
 use declared::force::{Force, Frame, force_of, frame_of, same_rows};
@@ -16,11 +17,11 @@ use edits::span;
 use facts::FactSet;
 use places::{is_named, keep_place};
 use reports::no_report;
-use rules::Verdict;
 use rules::lookups::Rows;
 use words::sections::Sections;
 
 // The next top-level statement behind `at` that is named, else the end.
+// No `for`: `stop` goes on behind a statement's blocks.
 fn next_stop(table: &[i32], sections: Sections, keep: &[u32], at: usize, end: usize) -> usize
     requires { (at < end) × (end ≤ 1024) × Stands table.now sections at end }
     ensures { Stop table.now sections keep.now at end result }
@@ -73,6 +74,7 @@ fn walk_part(
 }
 
 // The walk from the statement `from`, which is top-level or the end, to the end. Before each position that is named its place is kept.
+// No `for`: `at` goes on to the next stop.
 pub(crate) fn walk_on(
     table: &[i32],
     sections: Sections,
@@ -81,7 +83,7 @@ pub(crate) fn walk_on(
     from: usize,
     facts: FactSet,
     rows: Rows,
-) -> Verdict
+) -> Result<(), Refusal>
     requires { Measured (environment_of table.now sections) × (sections.statements ≤ 1024)
         × Laid table.now sections 0 from sections.statements (rest_of table.now sections from) }
     ensures { WalkedOn table.now sections keep.now from (state_of facts rows.each) store.old result store.new }
@@ -90,7 +92,7 @@ pub(crate) fn walk_on(
     let frame = frame_of(table, sections);
     let mut force = force_of(table, sections, rows);
     let mut now = Walked {
-        verdict: Verdict::Accepted,
+        verdict: Ok(()),
         facts,
         rows,
         report: no_report(),
@@ -111,11 +113,11 @@ pub(crate) fn walk_on(
         keep_place(store, keep, at, now.facts, force.rows);
         now = next;
         let verdict = now.verdict;
-        let Verdict::Accepted = verdict else {
+        let Ok(()) = verdict else {
             return verdict;
         };
         force = force_after(table, sections, force, now.rows);
         at = stop;
     }
-    Verdict::Accepted
+    Ok(())
 }

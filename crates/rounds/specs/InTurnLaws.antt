@@ -1,5 +1,5 @@
 -- Runs in turns: what the code's loop needs at a turn, what the turn leaves, and the claim of point 5 about each routine.
-use Rattle.std.specs.Prelude.{ℕ, zero, suc, ◌+◌, ◌-◌, ◌<◌, ◌≤◌, ◌≡◌, ◌≢◌, Bool, true, false, cond, ltb, ℤ, length, get_or}
+use Rattle.std.specs.Prelude.{ℕ, zero, suc, ◌+◌, ◌-◌, ◌<◌, ◌≤◌, ◌≡◌, ◌≢◌, Bool, true, false, cond, ltb, ℤ, length, get_or, Some}
 use Rattle.std.proofs.Math.Path.{refl, sym, ap, subst}
 use Rattle.std.proofs.Common.{◌∙◌, arith, ltb-true}
 use mathlib.Core.List.{List, [], ◌∷◌}
@@ -11,7 +11,6 @@ use Rattle.words.specs.declared.sections.Sections.{Sections}
 use Rattle.statements.specs.Statements.{statement_at}
 use Rattle.statements.specs.declared.CallSite.{CallSite}
 use Rattle.statements.specs.declared.Statement.TheVariants.{Call}
-use Rattle.statements.specs.declared.StatementRead.TheVariants.{Read}
 use Rattle.table.specs.Form.{sections_of}
 use Rattle.table.specs.FormLaws.{well-formed}
 use Rattle.rules.specs.Calls.{routine_at}
@@ -30,7 +29,7 @@ use Rattle.machine.specs.RunSound.{sound}
 use Rattle.machine.specs.Frame.{Elsewhere, Origins, SameCells, with_cells, Alike, Own}
 use Rattle.machine.specs.FrameLaws.{alike-with, same-trans, own-names, own-origins, run_framed, turn-alike, turn-framed}
 use Rattle.entry.specs.Ends.{ends_of}
-use Rattle.interpreter.specs.BareRun.{Result, Ends, bare_run, SafeRun}
+use Rattle.interpreter.specs.BareRun.{BareResult, Ends, bare_run, SafeRun}
 use Rattle.interpreter.specs.Agreement.{result_shown, KnownAt, Runnable}
 use Rattle.interpreter.specs.AgreementLaws.{safe-run, run-agrees}
 use Rattle.interpreter.specs.EndsLaws.{ends-long, ends-small, ends_named, ends-sizes}
@@ -202,7 +201,7 @@ module _ {T : List ℤ} {listed : List ℤ} {D cs vs os W₀ S : List ℕ} (L : 
 
   -- comes to no call,
   calls-none-there : (t s : ℕ) (M : List ℕ) → SameCells D (Own h) (point t).cells M → (c : CallSite)
-      → statement_at T h (point_after T h E D s (with_cells (point t) M)).due ≡ Read (Call c) → ⊥
+      → statement_at T h (point_after T h E D s (with_cells (point t) M)).due ≡ Some (Call c) → ⊥
   calls-none-there t s M same c e =
       calls-none T h listed L.formed L.accepts D cs vs os launched-begun (t + s) c
       (ap (λ (X : Point). statement_at T h X.due) (own-alike t s M same).rest ∙ e)
@@ -311,10 +310,10 @@ module _ {T : List ℤ} {listed : List ℤ} {D cs vs os W₀ S : List ℕ} (L : 
       after-taken =
           let e = turn-result q in
           let b = after-alike in (
-            x.outcome ∙ ap (λ (r : Result). r.outcome) e ∙ sym (ap (λ (X : Point). outcome_shown h X.status X.steps X.due) b.rest),
-            x.ends ∙ ap (λ (r : Result). r.ends) e ∙ sym (ap (λ (X : Point). ends_of E X.rows) b.rest),
-            x.values ∙ ap (λ (r : Result). r.values) e ∙ sym (ap (λ (X : Point). X.values) b.rest),
-            subst (λ (s : List ℕ). SameCells D (Own h) (point (t + q)).cells s) (sym (x.cells ∙ ap (λ (r : Result). r.cells) e)) b.memory,
+            x.outcome ∙ ap (λ (r : BareResult). r.outcome) e ∙ sym (ap (λ (X : Point). outcome_shown h X.status X.steps X.due) b.rest),
+            x.ends ∙ ap (λ (r : BareResult). r.ends) e ∙ sym (ap (λ (X : Point). ends_of E X.rows) b.rest),
+            x.values ∙ ap (λ (r : BareResult). r.values) e ∙ sym (ap (λ (X : Point). X.values) b.rest),
+            subst (λ (s : List ℕ). SameCells D (Own h) (point (t + q)).cells s) (sym (x.cells ∙ ap (λ (r : BareResult). r.cells) e)) b.memory,
           )
 
       -- After q steps more, or fewer where it ends, it stands as a run by itself with that allowance,
@@ -328,7 +327,7 @@ module _ {T : List ℤ} {listed : List ℤ} {D cs vs os W₀ S : List ℕ} (L : 
 
       -- in the memory that the plain machine leaves,
       own-left : N ≡ (point_after T h E D q here).cells
-      own-left = x.cells ∙ ap (λ (r : Result). r.cells) (turn-result q)
+      own-left = x.cells ∙ ap (λ (r : BareResult). r.cells) (turn-result q)
 
       pub turn-cells : N ≡ (goes t q M).point.cells
       turn-cells = own-left ∙ sym (ap (λ (P : Point). P.cells) (goes-point t q M i.memory))

@@ -56,12 +56,12 @@ pub fn take_turns(
     }) quantum total (λ i. (seat_at result i).outcome) values.new cells.new }
 {
     let mut seats = seats;
+    // `as` for the total too: with `u64::from` four answers of the loop do not close.
     let limit = (count as u64) * (total as u64);
-    let mut taken: u64 = 0;
     let mut next = 0;
     let mut left = total;
     let mut idle = 0;
-    while taken < limit {
+    for _taken in 0..limit {
         if idle >= count {
             return seats;
         }
@@ -84,13 +84,12 @@ pub fn take_turns(
         let made = steps_of(outcome) - steps_of(was);
         left -= made;
         seats[next] = Seat {
-            sections: sections,
-            places: places,
-            outcome: outcome,
+            sections,
+            places,
+            outcome,
         };
         idle = idle_after(idle, made);
         next = following_turn(count, next);
-        taken += 1;
     }
     seats
 }

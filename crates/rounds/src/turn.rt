@@ -13,13 +13,10 @@ pub(crate) fn steps_of(outcome: Outcome) -> u32
     ensures { result ≡ steps_of (reads outcome) }
 {
     match outcome {
-        Outcome::Done { steps } => steps,
-        Outcome::Spent {
-            steps,
-            statement: _,
-        } => steps,
-        Outcome::Stopped { steps, check: _ } => steps,
         Outcome::Refused(_) => 0,
+        Outcome::Done { steps } | Outcome::Spent { steps, .. } | Outcome::Stopped { steps, .. } => {
+            steps
+        }
     }
 }
 
@@ -42,29 +39,22 @@ fn go_on(
     ensures { GoneOn tables.now directories.now successors.now seat r allowance steps statement
         ends.old values.old cells.old result ends.new values.new cells.new }
 {
-    let places = seat.places;
-    let table = places.table;
-    let table_start = table.start;
-    let table_end = table.end;
-    let directory = places.directory;
-    let directory_start = directory.start;
-    let directory_end = directory.end;
-    let own = places.values;
-    let values_start = own.start;
-    let values_end = own.end;
+    let table = seat.places.table;
+    let directory = seat.places.directory;
+    let own = seat.places.values;
     let ends_start = 512 * r;
     let ends_end = ends_start + 512;
     let flow_start = 2048 * r;
     let flow_end = flow_start + 2048;
     resume(
-        &tables[table_start..table_end],
+        &tables[table.start..table.end],
         seat.sections,
         &mut ends[ends_start..ends_end],
-        &directories[directory_start..directory_end],
+        &directories[directory.start..directory.end],
         &successors[flow_start..flow_end],
         statement,
         steps,
-        &mut values[values_start..values_end],
+        &mut values[own.start..own.end],
         cells,
         steps + allowance,
     )
@@ -104,11 +94,6 @@ pub(crate) fn take_turn(
                 allowance,
             )
         }
-        Outcome::Done { steps } => Outcome::Done { steps: steps },
-        Outcome::Stopped { steps, check } => Outcome::Stopped {
-            steps: steps,
-            check: check,
-        },
-        Outcome::Refused(refusal) => Outcome::Refused(refusal),
+        Outcome::Done { .. } | Outcome::Stopped { .. } | Outcome::Refused(_) => outcome,
     }
 }

@@ -26,9 +26,7 @@ fn show(rt: &(impl Files + Print + Eprint), letter: u8) {
 }
 
 fn main(rt: HostRuntime) {
-    let mut letter = b'a';
-    while letter <= b'l' {
+    for letter in b'a'..=b'l' {
         show(&rt, letter);
-        letter += 1;
     }
 }

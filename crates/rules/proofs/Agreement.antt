@@ -1,6 +1,7 @@
 -- The rules over the store and the rules over the paper's facts find the same first fault in every table: so the verdict is that of the paper.
+use Rattle.table.specs.declared.variables.End.{End}
 use Prim.Native.Nat.{ℕ, zero, suc, ◌+◌, ◌-◌, ◌≤◌, ◌<◌}
-use Rattle.std.specs.Prelude.{◌≡◌, Bool, ◌||◌, ◌&&◌, ℤ, ltb}
+use Rattle.std.specs.Prelude.{◌≡◌, Bool, ◌||◌, ◌&&◌, ℤ, ltb, Err, None, Ok, Option, Result, Some}
 use Rattle.std.proofs.Math.Path.{refl, ap, ap₂}
 use Rattle.std.proofs.Common.{sym, ◌∙◌, inl}
 use Rattle.std.proofs.Math.Logic.{inr}
@@ -32,8 +33,6 @@ use Rattle.statements.specs.declared.Simple.TheVariants.{PointerOffset, PointerI
 use Rattle.statements.specs.declared.Statement.TheVariants.{Plain, If, While, Call}
 use Rattle.table.specs.Form.{form_of}
 use Rattle.table.specs.FormLaws.{Formed, well-formed}
-use Rattle.table.specs.declared.Form.{Form}
-use Rattle.table.specs.declared.Form.TheVariants as form
 use Rattle.blocks.specs.Layout.{also, when, layout}
 use Rattle.listed.specs.Entries.{entries_of}
 use Rattle.listed.specs.ListForm.{list_faults}
@@ -60,13 +59,10 @@ use Rattle.rules.proofs.StateRepresentation.{state-at-head}
 use Rattle.rules.proofs.ListedLaws.{EntriesRight, entries-right, entries-agree}
 use Rattle.rules.specs.Fair.{weight-small, FairEnd, index-node, FairKnown, FairBounds, FairAll, FairEffect, later}
 use Rattle.rules.specs.Fair.{constant-moved, after-fair, declared-fair, statement-fair, number-fair}
-use Rattle.rules.specs.declared.KnownEnd.{KnownEnd}
-use Rattle.rules.specs.declared.KnownEnd.TheVariants.{Known, Unknown}
 use Rattle.rules.specs.declared.Bounds.{Bounds}
 use Rattle.rules.specs.declared.Environment.{Environment}
 use Rattle.rules.specs.declared.Effect.{Effect}
 use Rattle.rules.specs.declared.Effect.TheVariants.{Keep, Forget, Shift, Copy, Object}
-use Rattle.rules.specs.declared.Verdict.TheVariants.{Refused}
 
 -- ---- the same first fault
 
@@ -95,7 +91,7 @@ unfolding verdict_of
 same-verdict [] [] s = refl
 same-verdict [] (y ∷ ys) s = absurd s
 same-verdict (x ∷ xs) [] s = absurd s
-same-verdict (x ∷ xs) (y ∷ ys) s = ap Refused s
+same-verdict (x ∷ xs) (y ∷ ys) s = ap Err s
 
 -- Where the second has no fault the first has none.
 pub none_first : (xs ys : List Refusal) → SameFirst xs ys → ys ≡ [] → xs ≡ []
@@ -103,7 +99,7 @@ none_first [] ys s e = refl
 none_first (x ∷ xs) [] s e = absurd s
 none_first (x ∷ xs) (y ∷ ys) s e = let o : ◌≡◌ {A = ℕ} 0 1 = cc in absurd (omega arith)
 
-same-bounds : (s : ℕ) {a b c d : KnownEnd} → a ≡ c → b ≡ d
+same-bounds : (s : ℕ) {a b c d : Option End} → a ≡ c → b ≡ d
     → ◌≡◌ {A = Bounds} (record { size = s; lower = a; upper = b }) (record { size = s; lower = c; upper = d })
 same-bounds s p q = rw (p, q)
 
@@ -137,11 +133,11 @@ module _ (T : List ℤ) (h : Sections) (w : Formed T h) (q : Decider) (right : D
   -- ---- bounds
 
   -- The constants of ends in range are moved alike.
-  shift-agrees : (n s v k : ℕ) (e : KnownEnd) → n ≤ 16 → s ≤ 8 → IsSmall k → FairKnown vars n e → shift_end (by_chains q) s v k e ≡ shift_end store s v k e
+  shift-agrees : (n s v k : ℕ) (e : Option End) → n ≤ 16 → s ≤ 8 → IsSmall k → FairKnown vars n e → shift_end (by_chains q) s v k e ≡ shift_end store s v k e
   unfolding shift_end
-  shift-agrees n s v k Unknown l m i a = refl
-  shift-agrees n s v k (Known e) l m i a =
-      ap (λ (g : KnownEnd). cond (names e v) g (Known e)) (sym (constant-moved vars n (weight s v e) k e l (weight-small s v e m) a i))
+  shift-agrees n s v k None l m i a = refl
+  shift-agrees n s v k (Some e) l m i a =
+      ap (λ (g : Option End). cond (names e v) g (Some e)) (sym (constant-moved vars n (weight s v e) k e l (weight-small s v e m) a i))
 
   on_agrees : (n : ℕ) (e : Effect) (K : List Bounds) → n ≤ 16 → FairEffect vars e → FairAll vars n K → (p : ℕ)
       → effect_on (by_chains q) e K p ≡ effect_on store e K p
@@ -168,12 +164,12 @@ module _ (T : List ℤ) (h : Sections) (w : Formed T h) (q : Decider) (right : D
   moved-agree n e K l g a = tabulate-alike 16 (λ p i. on_agrees n e K l g a p)
 
   module _ {H : History} {f : FactSet} (t : Represents vars H f) where
-    known-agrees : (n s t : ℕ) (e g : KnownEnd) → n ≤ 16 → s ≤ 8 → FairKnown vars n e → FairKnown vars n g
+    known-agrees : (n s t : ℕ) (e g : Option End) → n ≤ 16 → s ≤ 8 → FairKnown vars n e → FairKnown vars n g
         → known_at_most store f s e t g ≡ known_at_most (by_chains q) H s e t g
     unfolding known_at_most end_at_most
-    known-agrees n s z Unknown g l m a b = refl
-    known-agrees n s z (Known e) Unknown l m a b = refl
-    known-agrees n s z (Known e) (Known g) l m a b =
+    known-agrees n s z None g l m a b = refl
+    known-agrees n s z (Some e) None l m a b = refl
+    known-agrees n s z (Some e) (Some g) l m a b =
         ap (λ (x : Bool). comparable_ends s e z g && x)
         (end-represented vars q right t s e.pointer e.integer e.constant g.pointer g.integer g.constant m a.pointer a.integer
         b.pointer b.integer (omega (arith, a.high)) (omega (arith, b.high)))
@@ -258,8 +254,8 @@ module _ (T : List ℤ) (h : Sections) (w : Formed T h) (q : Decider) (right : D
         let c : FairEnd vars 0 (record { pointer = p; integer = i; constant = k + 1 }) =
         record { pointer = inr l; integer = index-node T h w x; low = omega (arith, s.low); high = omega (arith, s.high) } in
         all_three (shown-represented vars q right t zero_var p (bias - 1) (inl refl) (inr l))
-        (known-agrees 0 d.size d.size d.lower (Known (record { pointer = p; integer = i; constant = k })) (omega arith) b.size b.lower a)
-        (known-agrees 0 d.size d.size (Known (record { pointer = p; integer = i; constant = k + 1 })) d.upper (omega arith) b.size c b.upper)
+        (known-agrees 0 d.size d.size d.lower (Some (record { pointer = p; integer = i; constant = k })) (omega arith) b.size b.lower a)
+        (known-agrees 0 d.size d.size (Some (record { pointer = p; integer = i; constant = k + 1 })) d.upper (omega arith) b.size c b.upper)
 
     safe-same : (R : List ℕ) (s : Simple) → SimpleTyped T h s → access_safe store (in_force E R) f s ≡ access_safe (by_chains q) (in_force E R) H s
     unfolding access_safe
@@ -514,9 +510,9 @@ pub faults-agree : (callees : List Routine) → AllFormed callees → (T L : Lis
 unfolding faults
 faults-agree callees g T L q d = go (form_of T) refl
   where
-    go : (f : Form) → form_of T ≡ f → SameFirst (form_faults store callees T L f) (form_faults (by_chains q) callees T L f)
-    go (form.Refused r) e = refl
-    go (form.WellFormed h) e = let w = well-formed T h e in section-agrees callees g T h w L q (d h w.limits e)
+    go : (f : Result Sections Refusal) → form_of T ≡ f → SameFirst (form_faults store callees T L f) (form_faults (by_chains q) callees T L f)
+    go (Err r) e = refl
+    go (Ok h) e = let w = well-formed T h e in section-agrees callees g T h w L q (d h w.limits e)
 
 pub verdict-agrees : (callees : List Routine) → AllFormed callees → (T L : List ℤ) (q : Decider) → DecidesTable T q
     → verdict_of (faults store callees T L) ≡ verdict_of (faults (by_chains q) callees T L)

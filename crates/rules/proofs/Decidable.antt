@@ -1,5 +1,6 @@
 -- There is a decider of the paper's sentences about a table, the store's; and the verdict by the store is the one by the paper's chains.
-use Rattle.std.specs.Prelude.{ℕ, ◌+◌, ◌*◌, ◌≡◌, refl, ◌↔◌, Bool, true, false, cond, List, [], ◌∷◌, leb, ℤ}
+use Rattle.words.specs.declared.sections.Sections.{Sections}
+use Rattle.std.specs.Prelude.{ℕ, ◌+◌, ◌*◌, ◌≡◌, refl, ◌↔◌, Bool, true, false, cond, List, [], ◌∷◌, leb, ℤ, Err, Ok, Result}
 use Rattle.std.proofs.Common.{sym, ◌∙◌, ap, arith, leb-true, le-leb, mul-zero}
 use Rattle.sums.specs.Numbers.{bias}
 use Rattle.sums.specs.Scale.{scale-sums}
@@ -13,8 +14,6 @@ use Rattle.chains.specs.History.{known}
 use Rattle.chains.proofs.HistoryLaws.{made, exact, shows-exactly}
 use Rattle.answers.specs.declared.refusals.Refusal.{Refusal}
 use Rattle.table.specs.Form.{form_of}
-use Rattle.table.specs.declared.Form.{Form}
-use Rattle.table.specs.declared.Form.TheVariants as form
 use Rattle.rules.specs.BoundsRules.{is_pointer}
 use Rattle.rules.specs.Verdict.{environment_of, faults, verdict_of, verdict_reads, first_reads, Says}
 use Rattle.rules.specs.Calls.{Routine}
@@ -22,7 +21,6 @@ use Rattle.rules.specs.CallLaws.{AllFormed}
 use Rattle.rules.specs.Stored.{store}
 use Rattle.rules.specs.ByChains.{Decider, Decides, variables, DecidesTable, Decided, chain_faults, Judged}
 use Rattle.rules.proofs.Agreement.{verdict-agrees}
-use Rattle.rules.specs.declared.Verdict.{Verdict}
 
 -- Two least sums, the second one times the size, and a constant, by plain addition, whatever the constant and the size.
 abbrev end_test : FactSet → ℕ → ℕ → ℕ → ℕ → ℕ → ℕ → ℕ → Bool
@@ -57,9 +55,9 @@ stored-decides vars = record {
   end_shown = λ h l. end-test vars (made vars.pointer h) (known vars h) (exact vars h l);
 }
 
-decider-of : List ℤ → Form → Decider
-decider-of T (form.Refused r) = store_decider (λ v. false)
-decider-of T (form.WellFormed h) = store_decider (is_pointer (environment_of T h))
+decider-of : List ℤ → Result Sections Refusal → Decider
+decider-of T (Err r) = store_decider (λ v. false)
+decider-of T (Ok h) = store_decider (is_pointer (environment_of T h))
 
 -- A decider of the paper's sentences about a table.
 pub decider : List ℤ → Decider
@@ -74,7 +72,7 @@ pub decided : (T : List ℤ) (P : Decider → Type 0) → ((d : Decider) → Dec
 decided T P each = record { decider = decider T; decides = decider-decides T; by-each = each }
 
 -- A verdict that is that of the first fault reads as its numbers.
-pub says : (fs : List Refusal) (v : Verdict) → v ≡ verdict_of fs → Says fs v
+pub says : (fs : List Refusal) (v : Result (Unit {0}) Refusal) → v ≡ verdict_of fs → Says fs v
 unfolding verdict_of
 says fs v e = record { verdict = e; reads = ap verdict_reads e ∙ go fs }
   where
@@ -83,12 +81,13 @@ says fs v e = record { verdict = e; reads = ap verdict_reads e ∙ go fs }
     go (r ∷ rs) = refl
 
 -- The rules over the store give the verdict that the paper gives.
-pub judged : (callees : List Routine) → AllFormed callees → (T L : List ℤ) (v : Verdict) → v ≡ verdict_of (faults store callees T L) → Judged callees T L v
+pub judged : (callees : List Routine) → AllFormed callees → (T L : List ℤ) (v : Result (Unit {0}) Refusal) → v ≡ verdict_of (faults store callees T L)
+    → Judged callees T L v
 unfolding Judged
 judged callees g T L v e =
     decided T (λ d. Says (chain_faults d callees T L) v) (λ d r. says (chain_faults d callees T L) v (e ∙ verdict-agrees callees g T L d r))
 
-pub stored-verdict : (callees : List Routine) → AllFormed callees → (T L : List ℤ) (v : Verdict) → Judged callees T L v
+pub stored-verdict : (callees : List Routine) → AllFormed callees → (T L : List ℤ) (v : Result (Unit {0}) Refusal) → Judged callees T L v
     → v ≡ verdict_of (faults store callees T L)
 unfolding Judged
 stored-verdict callees g T L v j = let d = decider-decides T in (j.by-each (decider T) d).verdict ∙ sym (verdict-agrees callees g T L (decider T) d)

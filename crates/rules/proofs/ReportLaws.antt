@@ -1,5 +1,6 @@
 -- The report by the store is the report by the paper's chains.
-use Rattle.std.specs.Prelude.{ℕ, ◌<◌, ◌≡◌, Bool, true, false, ℤ}
+use Rattle.statements.specs.declared.Statement.{Statement}
+use Rattle.std.specs.Prelude.{ℕ, ◌<◌, ◌≡◌, Bool, true, false, ℤ, None, Ok, Option, Some}
 use Rattle.std.proofs.Math.Path.{refl}
 use Rattle.std.proofs.Common.{sym, ap, ◌∙◌}
 use mathlib.Core.List.{List, [], ◌∷◌}
@@ -8,11 +9,8 @@ use Rattle.words.specs.declared.sections.Sections.{Sections}
 use Rattle.statements.specs.Statements.{statement_at}
 use Rattle.statements.specs.StatementLaws.{read-typed}
 use Rattle.statements.specs.declared.Statement.TheVariants.{Plain, If, While, Bundle, Call}
-use Rattle.statements.specs.declared.StatementRead.{StatementRead}
-use Rattle.statements.specs.declared.StatementRead.TheVariants.{Read, Unread}
 use Rattle.table.specs.Form.{form_of, sections_of}
 use Rattle.table.specs.FormLaws.{well-formed, formed-sections}
-use Rattle.table.specs.declared.Form.TheVariants as form
 use Rattle.blocks.specs.Tree.{tree}
 use Rattle.blocks.specs.Layout.{layout}
 use Rattle.blocks.specs.ShapeLaws.{table-laid}
@@ -33,26 +31,26 @@ use Rattle.rules.proofs.StateRepresentation.{new-represented}
 use Rattle.rules.proofs.BeforeLaws.{before-represented}
 use Rattle.rules.proofs.Agreement.{SameFirst, safe-agrees, faults-agree}
 
-module _ (T : List ℤ) (h : Sections) (L : List ℤ) (formed : form_of T ≡ form.WellFormed h) (laid : layout T h ≡ []) (listed : list_faults T h L ≡ [])
+module _ (T : List ℤ) (h : Sections) (L : List ℤ) (formed : form_of T ≡ Ok h) (laid : layout T h ≡ []) (listed : list_faults T h L ≡ [])
     (q : Decider)
     (decides : DecidesTable T q) where
   pub safe-represented : (d : ℕ) → safe_at store T h L d ≡ safe_at (by_chains q) T h L d
   unfolding safe_at
   safe-represented d = go (statement_at T h d) refl
     where
-      go : (r : StatementRead) → statement_at T h d ≡ r
+      go : (r : Option Statement) → statement_at T h d ≡ r
           → read_safe store (environment_of T h) r (state_before store (environment_of T h) L (tree T h) (new_state store) d)
           ≡ read_safe (by_chains q) (environment_of T h) r (state_before (by_chains q) (environment_of T h) L (tree T h) (new_state (by_chains q)) d)
-      go (Read (Plain s)) e =
+      go (Some (Plain s)) e =
           let w = well-formed T h formed in
           let right = decides h w.limits formed in
           safe-agrees T h w q right (before-represented T h w.limits L (entries-right T h w.limits L listed) q right (tree T h) d
           (table-laid T h laid).reads (new-represented (variables T h w.limits) q)) s (read-typed T h d (Plain s) e)
-      go (Read (If c n m)) e = refl
-      go (Read (While c n)) e = refl
-      go (Read (Bundle n)) e = refl
-      go (Read (Call c)) e = refl
-      go Unread e = refl
+      go (Some (If c n m)) e = refl
+      go (Some (While c n)) e = refl
+      go (Some (Bundle n)) e = refl
+      go (Some (Call c)) e = refl
+      go None e = refl
 
 -- ---- the whole report
 

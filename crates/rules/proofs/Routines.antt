@@ -1,5 +1,6 @@
 -- The paper's "Routines to try", (a) to (l): one table of routines with their verdicts, shown of the written rules by one statement.
-use Rattle.std.specs.Prelude.{◌≡◌, refl, List, [], ◌∷◌, map, ℤ, pos, negsuc}
+use Rattle.answers.specs.declared.refusals.Refusal.{Refusal}
+use Rattle.std.specs.Prelude.{◌≡◌, refl, List, [], ◌∷◌, map, ℤ, pos, negsuc, Err, Ok, Result}
 use Rattle.std.proofs.Common.{sym, ◌∙◌}
 use Rattle.sums.specs.Sums.{concatenated}
 use Rattle.facts.specs.Store.{least_sum, shown, end_shown, new_row, new_set, lowered_row, lowered, marked, added, own_row}
@@ -36,8 +37,6 @@ use Rattle.rules.specs.ByChains.{Decided, chain_faults}
 use Rattle.rules.proofs.Decidable.{decided}
 use Rattle.rules.proofs.Agreement.{verdict-agrees}
 use Rattle.answers.specs.declared.refusals.Refusal.TheVariants.{BoundsNotShown, BundleAccess}
-use Rattle.rules.specs.declared.Verdict.{Verdict}
-use Rattle.rules.specs.declared.Verdict.TheVariants.{Accepted, Refused}
 use Rattle.rules.specs.BoundsRules as bounds_rules
 use Rattle.rules.specs.FactRules as fact_rules
 use Rattle.rules.specs.Rules as walk_rules
@@ -45,9 +44,9 @@ use Rattle.rules.specs.Verdict as verdict_rules
 
 pub record Routine : Type 0 where
   pub table : List ℤ
-  pub verdict : Verdict
+  pub verdict : Result (Unit {0}) Refusal
 
-abbrev pub routine : List ℤ → Verdict → Routine
+abbrev pub routine : List ℤ → Result (Unit {0}) Refusal → Routine
 routine t v = record { table = t; verdict = v }
 
 pub routines : List Routine
@@ -57,27 +56,27 @@ routines =
     ∷ pos 1 ∷ pos 0 ∷ pos 0 ∷ negsuc 0 ∷ pos 0 ∷ pos 0 ∷ pos 1 ∷ pos 0
     ∷ pos 0 ∷ pos 0 ∷ pos 0 ∷ pos 0 ∷ pos 0 ∷ pos 0 ∷ pos 0 ∷ pos 0
     ∷ pos 2 ∷ pos 1 ∷ pos 1 ∷ negsuc 0 ∷ pos 0 ∷ pos 0 ∷ pos 0 ∷ [])
-    (Refused (BoundsNotShown 0 0)) ∷
+    (Err (BoundsNotShown 0 0)) ∷
     -- (b) dynamic check n > 0 first
     routine (pos 6 ∷ pos 0 ∷ pos 6 ∷ pos 16 ∷ pos 22 ∷ pos 14
     ∷ pos 1 ∷ pos 0 ∷ pos 0 ∷ negsuc 0 ∷ pos 0 ∷ pos 0 ∷ pos 1 ∷ pos 0
     ∷ pos 0 ∷ pos 0 ∷ pos 0 ∷ pos 0 ∷ pos 0 ∷ pos 0 ∷ pos 0 ∷ pos 0
     ∷ pos 10 ∷ pos 1 ∷ pos 2 ∷ pos 1 ∷ pos 0 ∷ pos 0 ∷ pos 0
     ∷ pos 2 ∷ pos 1 ∷ pos 1 ∷ negsuc 0 ∷ pos 0 ∷ pos 0 ∷ pos 0 ∷ [])
-    (Accepted) ∷
+    ((Ok tt)) ∷
     -- (c) check n < 10, n := n + 1
     routine (pos 6 ∷ pos 0 ∷ pos 6 ∷ pos 16 ∷ pos 22 ∷ pos 14
     ∷ pos 1 ∷ pos 0 ∷ pos 0 ∷ negsuc 0 ∷ pos 0 ∷ pos 0 ∷ pos 1 ∷ pos 0
     ∷ pos 0 ∷ pos 0 ∷ pos 0 ∷ pos 0 ∷ pos 0 ∷ pos 0 ∷ pos 0 ∷ pos 0
     ∷ pos 10 ∷ pos 1 ∷ pos 0 ∷ pos 1 ∷ pos 10 ∷ pos 0 ∷ pos 0
     ∷ pos 2 ∷ pos 1 ∷ pos 1 ∷ pos 1 ∷ pos 0 ∷ pos 0 ∷ pos 0 ∷ [])
-    (Refused (BoundsNotShown 1 0)) ∷
+    (Err (BoundsNotShown 1 0)) ∷
     -- (d) p := p + 1
     routine (pos 6 ∷ pos 0 ∷ pos 6 ∷ pos 16 ∷ pos 22 ∷ pos 7
     ∷ pos 1 ∷ pos 0 ∷ pos 0 ∷ negsuc 0 ∷ pos 0 ∷ pos 0 ∷ pos 1 ∷ pos 0
     ∷ pos 0 ∷ pos 0 ∷ pos 0 ∷ pos 0 ∷ pos 0 ∷ pos 0 ∷ pos 0 ∷ pos 0
     ∷ pos 6 ∷ pos 0 ∷ pos 0 ∷ pos 1 ∷ pos 0 ∷ pos 0 ∷ pos 0 ∷ [])
-    (Refused (BoundsNotShown 0 0)) ∷
+    (Err (BoundsNotShown 0 0)) ∷
     -- (e) check n > 0, bundle p := p + 1, n := n - 1
     routine (pos 6 ∷ pos 0 ∷ pos 6 ∷ pos 16 ∷ pos 22 ∷ pos 28
     ∷ pos 1 ∷ pos 0 ∷ pos 0 ∷ negsuc 0 ∷ pos 0 ∷ pos 0 ∷ pos 1 ∷ pos 0
@@ -86,7 +85,7 @@ routines =
     ∷ pos 13 ∷ pos 2 ∷ pos 0 ∷ pos 0 ∷ pos 0 ∷ pos 0 ∷ pos 0
     ∷ pos 6 ∷ pos 0 ∷ pos 0 ∷ pos 1 ∷ pos 0 ∷ pos 0 ∷ pos 0
     ∷ pos 2 ∷ pos 1 ∷ pos 1 ∷ negsuc 0 ∷ pos 0 ∷ pos 0 ∷ pos 0 ∷ [])
-    (Accepted) ∷
+    ((Ok tt)) ∷
     -- (f) as e with p[0] read into x between
     routine (pos 6 ∷ pos 0 ∷ pos 6 ∷ pos 24 ∷ pos 30 ∷ pos 35
     ∷ pos 1 ∷ pos 0 ∷ pos 0 ∷ negsuc 0 ∷ pos 0 ∷ pos 0 ∷ pos 1 ∷ pos 0
@@ -97,7 +96,7 @@ routines =
     ∷ pos 6 ∷ pos 0 ∷ pos 0 ∷ pos 1 ∷ pos 0 ∷ pos 0 ∷ pos 0
     ∷ pos 8 ∷ pos 2 ∷ pos 0 ∷ negsuc 0 ∷ pos 0 ∷ pos 0 ∷ pos 0
     ∷ pos 2 ∷ pos 1 ∷ pos 1 ∷ negsuc 0 ∷ pos 0 ∷ pos 0 ∷ pos 0 ∷ [])
-    (Refused (BundleAccess 3)) ∷
+    (Err (BundleAccess 3)) ∷
     -- (g) as f, n lowered first and p raised last
     routine (pos 6 ∷ pos 0 ∷ pos 6 ∷ pos 24 ∷ pos 30 ∷ pos 35
     ∷ pos 1 ∷ pos 0 ∷ pos 0 ∷ negsuc 0 ∷ pos 0 ∷ pos 0 ∷ pos 1 ∷ pos 0
@@ -108,7 +107,7 @@ routines =
     ∷ pos 2 ∷ pos 1 ∷ pos 1 ∷ negsuc 0 ∷ pos 0 ∷ pos 0 ∷ pos 0
     ∷ pos 8 ∷ pos 2 ∷ pos 0 ∷ negsuc 0 ∷ pos 0 ∷ pos 0 ∷ pos 0
     ∷ pos 6 ∷ pos 0 ∷ pos 0 ∷ pos 1 ∷ pos 0 ∷ pos 0 ∷ pos 0 ∷ [])
-    (Accepted) ∷
+    ((Ok tt)) ∷
     -- (h) bundle p := object 0, n := 10
     routine (pos 6 ∷ pos 1 ∷ pos 7 ∷ pos 16 ∷ pos 23 ∷ pos 21
     ∷ pos 10
@@ -117,7 +116,7 @@ routines =
     ∷ pos 13 ∷ pos 2 ∷ pos 0 ∷ pos 0 ∷ pos 0 ∷ pos 0 ∷ pos 0
     ∷ pos 5 ∷ pos 0 ∷ pos 0 ∷ pos 0 ∷ pos 0 ∷ pos 0 ∷ pos 0
     ∷ pos 1 ∷ pos 1 ∷ pos 10 ∷ pos 0 ∷ pos 0 ∷ pos 0 ∷ pos 0 ∷ [])
-    (Accepted) ∷
+    ((Ok tt)) ∷
     -- (i) n := 11
     routine (pos 6 ∷ pos 1 ∷ pos 7 ∷ pos 16 ∷ pos 23 ∷ pos 21
     ∷ pos 10
@@ -126,28 +125,28 @@ routines =
     ∷ pos 13 ∷ pos 2 ∷ pos 0 ∷ pos 0 ∷ pos 0 ∷ pos 0 ∷ pos 0
     ∷ pos 5 ∷ pos 0 ∷ pos 0 ∷ pos 0 ∷ pos 0 ∷ pos 0 ∷ pos 0
     ∷ pos 1 ∷ pos 1 ∷ pos 11 ∷ pos 0 ∷ pos 0 ∷ pos 0 ∷ pos 0 ∷ [])
-    (Refused (BoundsNotShown 0 0)) ∷
+    (Err (BoundsNotShown 0 0)) ∷
     -- (j) p := null, n := 5
     routine (pos 6 ∷ pos 0 ∷ pos 6 ∷ pos 16 ∷ pos 22 ∷ pos 14
     ∷ pos 1 ∷ pos 0 ∷ pos 0 ∷ negsuc 0 ∷ pos 0 ∷ pos 0 ∷ pos 1 ∷ pos 0
     ∷ pos 0 ∷ pos 0 ∷ pos 0 ∷ pos 0 ∷ pos 0 ∷ pos 0 ∷ pos 0 ∷ pos 0
     ∷ pos 4 ∷ pos 0 ∷ pos 0 ∷ pos 0 ∷ pos 0 ∷ pos 0 ∷ pos 0
     ∷ pos 1 ∷ pos 1 ∷ pos 5 ∷ pos 0 ∷ pos 0 ∷ pos 0 ∷ pos 0 ∷ [])
-    (Accepted) ∷
+    ((Ok tt)) ∷
     -- (k) while n > 0, n := n - 1
     routine (pos 6 ∷ pos 0 ∷ pos 6 ∷ pos 16 ∷ pos 22 ∷ pos 14
     ∷ pos 1 ∷ pos 0 ∷ pos 0 ∷ negsuc 0 ∷ pos 0 ∷ pos 0 ∷ pos 1 ∷ pos 0
     ∷ pos 0 ∷ pos 0 ∷ pos 0 ∷ pos 0 ∷ pos 0 ∷ pos 0 ∷ pos 0 ∷ pos 0
     ∷ pos 12 ∷ pos 1 ∷ pos 2 ∷ pos 1 ∷ pos 0 ∷ pos 1 ∷ pos 0
     ∷ pos 2 ∷ pos 1 ∷ pos 1 ∷ negsuc 0 ∷ pos 0 ∷ pos 0 ∷ pos 0 ∷ [])
-    (Accepted) ∷
+    ((Ok tt)) ∷
     -- (l) check n < n, then any statement. Point 11: "Routine (l) is accepted if nothing else is wrong with it."
     routine (pos 6 ∷ pos 0 ∷ pos 6 ∷ pos 16 ∷ pos 22 ∷ pos 14
     ∷ pos 1 ∷ pos 0 ∷ pos 0 ∷ negsuc 0 ∷ pos 0 ∷ pos 0 ∷ pos 1 ∷ pos 0
     ∷ pos 0 ∷ pos 0 ∷ pos 0 ∷ pos 0 ∷ pos 0 ∷ pos 0 ∷ pos 0 ∷ pos 0
     ∷ pos 10 ∷ pos 1 ∷ pos 0 ∷ pos 0 ∷ pos 1 ∷ pos 0 ∷ pos 0
     ∷ pos 1 ∷ pos 1 ∷ pos 0 ∷ pos 0 ∷ pos 0 ∷ pos 0 ∷ pos 0 ∷ [])
-    (Accepted) ∷
+    ((Ok tt)) ∷
     []
 
 computed : map (λ (r : Routine). verdict_of (faults [] r.table [])) routines ≡ map (λ (r : Routine). r.verdict) routines

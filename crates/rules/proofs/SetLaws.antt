@@ -1,5 +1,5 @@
 -- Laws of an accepted set: each routine is well formed, its walk has no fault by the store, and all have the objects of routine 0.
-use Rattle.std.specs.Prelude.{ℕ, zero, suc, ◌+◌, ◌≤◌, ◌<◌, ◌≡◌, Bool, ◌&&◌, ltb, eqb, ℤ, pos, length, get_or}
+use Rattle.std.specs.Prelude.{ℕ, zero, suc, ◌+◌, ◌≤◌, ◌<◌, ◌≡◌, Bool, ◌&&◌, ltb, eqb, ℤ, pos, length, get_or, Err, Ok, Result}
 use Rattle.std.proofs.Math.Path.{refl}
 use Rattle.std.proofs.Common.{sym, ap, ◌∙◌, arith}
 use Rattle.std.proofs.Math.Bool.{true, false, not, cond}
@@ -17,8 +17,6 @@ use Rattle.words.specs.declared.sections.Sections.{Sections}
 use Rattle.table.specs.Form.{sections_of, four_pairs, is_number, head_right, form_of}
 use Rattle.table.specs.FormLaws.{well-formed, formed-sections, formed-head, head-limits, start-same, start-least}
 use Rattle.table.specs.Variables.{object_at}
-use Rattle.table.specs.declared.Form.{Form}
-use Rattle.table.specs.declared.Form.TheVariants as form
 use Rattle.rules.specs.FactSets.{FactSets}
 use Rattle.rules.specs.Calls.{Routine, routine_at}
 use Rattle.rules.specs.CallLaws.{AllFormed}
@@ -30,7 +28,6 @@ use Rattle.rules.specs.AcceptedLaws.{accepted-clear, clear, Clear}
 use Rattle.rules.specs.PutLaws.{put-kept, put_count, put-object, head-whole, objects-long, object-word}
 use Rattle.rules.specs.Sets.{object_words, with_objects, members, member_of, routine_of, routines_of, before}
 use Rattle.rules.specs.Sets.{lists_objects, member_faults, RoutineJudged, AllAccepted}
-use Rattle.rules.specs.declared.Verdict.TheVariants.{Accepted}
 
 -- ---- lists
 
@@ -81,13 +78,13 @@ pub before-formed : (n : ℕ) (rs : List Routine) → AllFormed rs → AllFormed
 before-formed n rs g k l = let e = before_at n rs k l in rw e (g k (omega (arith, l, before-within n rs)))
 
 -- A table without faults, by any facts, is well formed.
-pub faults-formed : (S : FactSets) (callees : List Routine) (T L : List ℤ) → faults S callees T L ≡ [] → form_of T ≡ form.WellFormed (sections_of T)
+pub faults-formed : (S : FactSets) (callees : List Routine) (T L : List ℤ) → faults S callees T L ≡ [] → form_of T ≡ Ok (sections_of T)
 unfolding faults
 faults-formed S callees T L e = go (form_of T) refl e
   where
-    go : (f : Form) → form_of T ≡ f → form_faults S callees T L f ≡ [] → form_of T ≡ form.WellFormed (sections_of T)
-    go (form.Refused r) q z = let o : ◌≡◌ {A = ℕ} 0 1 = cc in absurd (omega arith)
-    go (form.WellFormed h) q z = let i = formed-sections T h q in rw i at q
+    go : (f : Result Sections Refusal) → form_of T ≡ f → form_faults S callees T L f ≡ [] → form_of T ≡ Ok (sections_of T)
+    go (Err r) q z = let o : ◌≡◌ {A = ℕ} 0 1 = cc in absurd (omega arith)
+    go (Ok h) q z = let i = formed-sections T h q in rw i at q
 
 -- ---- a routine of an accepted set
 
@@ -95,7 +92,7 @@ first-clear : (b : Bool) (r : Refusal) (xs : List Refusal) → cond b (r ∷ [])
 first-clear true r xs e = let o : ◌≡◌ {A = ℕ} 0 1 = cc in absurd (omega arith)
 first-clear false r xs e = (refl, e)
 
-module _ (Ts : List (List ℤ)) (n : ℕ) (j : RoutineJudged Ts n Accepted) where
+module _ (Ts : List (List ℤ)) (n : ℕ) (j : RoutineJudged Ts n (Ok tt)) where
   abbrev lent : List ℤ
   lent = get_or Ts n []
 
@@ -125,7 +122,7 @@ module _ (Ts : List (List ℤ)) (n : ℕ) (j : RoutineJudged Ts n Accepted) wher
           absurd (false≢true (sym q ∙ formed-head lent (sections_of lent) f))
 
   -- Its table is well formed.
-  pub member-formed : form_of M ≡ form.WellFormed (sections_of M)
+  pub member-formed : form_of M ≡ Ok (sections_of M)
   member-formed = faults-formed (by_chains (decider M)) (before n (routines_of Ts)) M [] passed.walked
 
   -- It lists no objects, unless it is routine 0.
@@ -216,7 +213,7 @@ members-same [] a n l = absurd (omega arith)
 members-same (T ∷ Us) a zero l = record { count = refl; terminated = refl; lengths = refl }
 members-same (T ∷ Us) a (suc n) l =
     let e = put-at (object_words T) Us n (omega arith) in
-    let f : form_of (with_objects (object_words T) (get_or Us n [])) ≡ form.WellFormed (sections_of (with_objects (object_words T) (get_or Us n []))) =
+    let f : form_of (with_objects (object_words T) (get_or Us n [])) ≡ Ok (sections_of (with_objects (object_words T) (get_or Us n []))) =
     rw e at (member-formed (T ∷ Us) (suc n) (a.each (suc n) l)) in
     rw e (put_same T (get_or Us n []) (lent-head (T ∷ Us) 0 (a.each 0 (omega arith))) (lent-head (T ∷ Us) (suc n) (a.each (suc n) l))
     (formed-head _ _ f))

@@ -1,7 +1,7 @@
 -- The first fault of a table has a small place and a small pointer: statements, objects, variables, rows and entries are few, and those that are not are
 -- refused before.
 use Prim.Native.Nat.{ℕ, zero, suc, ◌+◌, ◌<◌, ◌≤◌}
-use Rattle.std.specs.Prelude.{◌≡◌, Bool, true, false, ◌&&◌, cond, ltb, ℤ}
+use Rattle.std.specs.Prelude.{◌≡◌, Bool, true, false, ◌&&◌, cond, ltb, ℤ, Err, None, Ok, Option, Result, Some}
 use Rattle.std.proofs.Math.Path.{refl}
 use Rattle.std.proofs.Common.{sym}
 use Rattle.std.proofs.Math.Bool.{not}
@@ -23,12 +23,8 @@ use Rattle.statements.specs.declared.Simple.TheVariants.{Literal, AddConstant, A
 use Rattle.statements.specs.declared.Simple.TheVariants.{PointerOffset, PointerIndex, Load, Store, Check, Declare}
 use Rattle.statements.specs.declared.Statement.{Statement}
 use Rattle.statements.specs.declared.Statement.TheVariants.{Plain, If, While, Bundle, Call}
-use Rattle.statements.specs.declared.StatementRead.{StatementRead}
-use Rattle.statements.specs.declared.StatementRead.TheVariants.{Read, Unread}
 use Rattle.table.specs.Form.{length_right, directory_right, sections_of, lowest_object, lowest_variable, lowest_row, lowest_statement, items_form, form_of}
 use Rattle.table.specs.FormLaws.{directory-long, well-formed}
-use Rattle.table.specs.declared.Form.{Form}
-use Rattle.table.specs.declared.Form.TheVariants as form
 use Rattle.blocks.specs.Tree.{Block, nil, plain, branch, loop, bundle, call, unread, tree}
 use Rattle.blocks.specs.Layout.{contents, contents_from, bundle_layout, kind_layout, node_layout, block_layout, layout}
 use Rattle.blocks.specs.LayoutLaws.{passed}
@@ -44,7 +40,6 @@ use Rattle.rules.specs.Rules.{access_at, bounds_at, rows_at, entries_unshown, bu
 use Rattle.rules.specs.Verdict.{environment_of, section_faults, form_faults, faults, verdict_reads}
 use Rattle.rules.specs.ByChains.{by_chains, Judged}
 use Rattle.rules.specs.Small.{RefusalSmall, FirstSmall, ReadingSmall, none-small, one-small, also-small, when-small, verdict-small}
-use Rattle.rules.specs.declared.Verdict.{Verdict}
 use Rattle.rules.specs.declared.Bounds.{Bounds}
 use Rattle.rules.specs.declared.Environment.{Environment}
 
@@ -62,13 +57,13 @@ module _ (T : List ℤ) (h : Sections) where
   contents-small zero a x p q = none-small
   contents-small (suc n) a x p q = go (statement_at T h x) (contents-small n a (x + 1) p (omega arith))
     where
-      go : (s : StatementRead) → FirstSmall (contents n T h a (x + 1)) → FirstSmall (contents_from s a x (contents n T h a (x + 1)))
-      go Unread i = one-small (at-record x (omega arith))
-      go (Read (Plain s)) i = i
-      go (Read (If c k m)) i = one-small (at-layout a p)
-      go (Read (While c k)) i = one-small (at-layout a p)
-      go (Read (Bundle k)) i = one-small (at-layout a p)
-      go (Read (Call c)) i = one-small (at-layout a p)
+      go : (s : Option Statement) → FirstSmall (contents n T h a (x + 1)) → FirstSmall (contents_from s a x (contents n T h a (x + 1)))
+      go None i = one-small (at-record x (omega arith))
+      go (Some (Plain s)) i = i
+      go (Some (If c k m)) i = one-small (at-layout a p)
+      go (Some (While c k)) i = one-small (at-layout a p)
+      go (Some (Bundle k)) i = one-small (at-layout a p)
+      go (Some (Call c)) i = one-small (at-layout a p)
 
   bundle-small : (a n b : ℕ) → a < b → b ≤ 1024 → FirstSmall (bundle_layout T h a n b)
   unfolding bundle_layout
@@ -93,11 +88,11 @@ module _ (T : List ℤ) (h : Sections) where
     kind-small d a b (Bundle n) p q = also-small (bundle-small a n b p q) (λ e. ih d (a + 1 + n) b q)
     kind-small d a b (Call c) p q = ih d (a + 1) b q
 
-    node-small : (d a b : ℕ) (x : Bool) (s : StatementRead) → ltb a b ≡ x → b ≤ 1024
+    node-small : (d a b : ℕ) (x : Bool) (s : Option Statement) → ltb a b ≡ x → b ≤ 1024
         → FirstSmall (node_layout x s (λ e y z. block_layout l T h e y z) T h d a b)
     node-small d a b false s g q = none-small
-    node-small d a b true Unread g q = let p = ltb-true a b g in one-small (at-record a (omega arith))
-    node-small d a b true (Read s) g q =
+    node-small d a b true None g q = let p = ltb-true a b g in one-small (at-record a (omega arith))
+    node-small d a b true (Some s) g q =
         let p = ltb-true a b g in
         also-small (when-small _ (at-layout a (omega arith))) (λ e. kind-small d a b s p q)
 
@@ -112,7 +107,7 @@ module _ (T : List ℤ) (h : Sections) where
 
 -- ---- causes 1 to 5
 
-items-small : (T : List ℤ) (h : Sections) (r : Refusal) → Limits h → items_form T h ≡ form.Refused r → RefusalSmall r
+items-small : (T : List ℤ) (h : Sections) (r : Refusal) → Limits h → items_form T h ≡ Err r → RefusalSmall r
 unfolding items_form
 items-small T h r w e =
     go (ltb (lowest_object T h) h.objects) (ltb (lowest_variable T h) h.variables) (ltb (lowest_row T h) h.rows)
@@ -120,11 +115,11 @@ items-small T h r w e =
   where
     go : (o v i a : Bool) → (o ≡ true → lowest_object T h < h.objects) → (v ≡ true → lowest_variable T h < h.variables)
         → (i ≡ true → lowest_row T h < h.rows) → (a ≡ true → lowest_statement T h < h.statements)
-        → cond o (form.Refused (ObjectLength (lowest_object T h)))
-        (cond v (form.Refused (VariableRecord (lowest_variable T h)))
-        (cond i (form.Refused (VariableRecord (h.variables + lowest_row T h)))
-        (cond a (form.Refused (StatementRecord (lowest_statement T h))) (form.WellFormed h))))
-        ≡ form.Refused r → RefusalSmall r
+        → cond o (Err (ObjectLength (lowest_object T h)))
+        (cond v (Err (VariableRecord (lowest_variable T h)))
+        (cond i (Err (VariableRecord (h.variables + lowest_row T h)))
+        (cond a (Err (StatementRecord (lowest_statement T h))) (Ok h))))
+        ≡ Err r → RefusalSmall r
     go true v i a p q s t e =
         let n : ObjectLength (lowest_object T h) ≡ r = cc in
         let l = p refl in
@@ -143,12 +138,12 @@ items-small T h r w e =
         rw (sym n) (record { place-small = omega (arith, w.statements); pointer-small = omega arith })
     go false false false false p q s t e = let z : ◌≡◌ {A = ℕ} 0 1 = cc in absurd (omega arith)
 
-pub form_small : (T : List ℤ) (r : Refusal) → form_of T ≡ form.Refused r → RefusalSmall r
+pub form_small : (T : List ℤ) (r : Refusal) → form_of T ≡ Err r → RefusalSmall r
 unfolding form_of
 form_small T r e = go (length_right T) (directory_right T (sections_of T)) (λ q. (directory-long T (sections_of T) q).0) e
   where
     go : (a b : Bool) → (b ≡ true → Limits (sections_of T))
-        → cond a (cond b (items_form T (sections_of T)) (form.Refused Directory)) (form.Refused Length) ≡ form.Refused r → RefusalSmall r
+        → cond a (cond b (items_form T (sections_of T)) (Err Directory)) (Err Length) ≡ Err r → RefusalSmall r
     go true true w e = items-small T (sections_of T) r (w refl) e
     go true false w e = let n : Directory ≡ r = cc in rw (sym n) (record { place-small = omega arith; pointer-small = omega arith })
     go false b w e = let n : Length ≡ r = cc in rw (sym n) (record { place-small = omega arith; pointer-small = omega arith })
@@ -325,12 +320,12 @@ module _ (S : FactSets) where
   unfolding faults
   faults-small callees T L = go (form_of T) refl
     where
-      go : (f : Form) → form_of T ≡ f → FirstSmall (form_faults S callees T L f)
-      go (form.Refused r) e = one-small (form_small T r e)
-      go (form.WellFormed h) e = sections-small callees T h L (well-formed T h e).limits
+      go : (f : Result Sections Refusal) → form_of T ≡ f → FirstSmall (form_faults S callees T L f)
+      go (Err r) e = one-small (form_small T r e)
+      go (Ok h) e = sections-small callees T h L (well-formed T h e).limits
 
 -- THE VERDICT ON A TABLE.
-pub judged-small : (callees : List Routine) (T L : List ℤ) (v : Verdict) → Judged callees T L v → ReadingSmall (verdict_reads v)
+pub judged-small : (callees : List Routine) (T L : List ℤ) (v : Result (Unit {0}) Refusal) → Judged callees T L v → ReadingSmall (verdict_reads v)
 unfolding Judged
 judged-small callees T L v j =
     let S = by_chains j.decider in

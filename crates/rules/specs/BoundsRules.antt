@@ -1,5 +1,5 @@
 -- The paper's section "Bounds in force": what each kind of statement does to the known bounds, and when declared bounds are shown.
-use Rattle.std.specs.Prelude.{ℕ, zero, suc, ◌+◌, ◌-◌, Bool, true, false, not, ◌&&◌, ◌||◌, cond, List, [], ◌∷◌, eqb, get_or, set}
+use Rattle.std.specs.Prelude.{ℕ, zero, suc, ◌+◌, ◌-◌, Bool, true, false, not, ◌&&◌, ◌||◌, cond, List, [], ◌∷◌, eqb, get_or, set, None, Option, Some}
 use Rattle.sums.specs.Numbers.{bias, zero_var}
 use Rattle.arrays.specs.Tabulate.{tabulate}
 use Rattle.statements.specs.declared.Simple.{Simple}
@@ -8,8 +8,6 @@ use Rattle.statements.specs.declared.Simple.TheVariants.{PointerOffset, PointerI
 use Rattle.table.specs.declared.variables.End.{End}
 use Rattle.rules.specs.FactSets.{FactSets}
 use Rattle.rules.specs.FactRules.{in_range}
-use Rattle.rules.specs.declared.KnownEnd.{KnownEnd}
-use Rattle.rules.specs.declared.KnownEnd.TheVariants.{Known, Unknown}
 use Rattle.rules.specs.declared.Bounds.{Bounds}
 use Rattle.rules.specs.declared.Environment.{Environment}
 use Rattle.rules.specs.declared.Effect.{Effect}
@@ -18,7 +16,7 @@ use Rattle.rules.specs.declared.Effect.TheVariants.{Keep, Forget, Shift, Copy, O
 -- ---- what is declared and what is known
 
 abbrev pub nothing_known : Bounds
-nothing_known = record { size = 1; lower = Unknown; upper = Unknown }
+nothing_known = record { size = 1; lower = None; upper = None }
 
 abbrev pub is_pointer : Environment → ℕ → Bool
 is_pointer E p = get_or E.pointers p false
@@ -100,9 +98,9 @@ known K p = get_or K p nothing_known
 abbrev pub names : End → ℕ → Bool
 names e v = eqb e.pointer v || eqb e.integer v
 
-unfoldable pub forget_end : ℕ → KnownEnd → KnownEnd
-forget_end v Unknown = Unknown
-forget_end v (Known e) = cond (names e v) Unknown (Known e)
+unfoldable pub forget_end : ℕ → Option End → Option End
+forget_end v None = None
+forget_end v (Some e) = cond (names e v) None (Some e)
 
 -- How often the value of an end with the size s counts the variable v that it names: its pointer once, its integer s times (point 10).
 unfoldable pub weight : ℕ → ℕ → End → ℕ
@@ -116,8 +114,8 @@ forget_bounds v b = record { size = b.size; lower = forget_end v b.lower; upper 
 unfoldable pub object_bounds : ℕ → ℕ → ℕ → Bounds
 object_bounds p s n = record {
   size = s;
-  lower = Known (record { pointer = p; integer = zero_var; constant = bias });
-  upper = Known (record { pointer = p; integer = zero_var; constant = bias + n });
+  lower = Some (record { pointer = p; integer = zero_var; constant = bias });
+  upper = Some (record { pointer = p; integer = zero_var; constant = bias + n });
 }
 
 -- Point 10: "With equal sizes" two ends are comparable, "with different sizes an end is comparable only when neither names an integer".
@@ -132,9 +130,9 @@ module _ (S : FactSets) where
   open S use {Facts, end_less, shown, end_shown}
 
   -- "(v := v + k, by kind 2 where facts are shifted or by kind 6: replace v by v - k in the end's value)"; the end has the size s.
-  unfoldable pub shift_end : ℕ → ℕ → ℕ → KnownEnd → KnownEnd
-  shift_end s v k Unknown = Unknown
-  shift_end s v k (Known e) = cond (names e v) (end_less (weight s v e) k e) (Known e)
+  unfoldable pub shift_end : ℕ → ℕ → ℕ → Option End → Option End
+  shift_end s v k None = None
+  shift_end s v k (Some e) = cond (names e v) (end_less (weight s v e) k e) (Some e)
 
   unfoldable pub shift_bounds : ℕ → ℕ → Bounds → Bounds
   shift_bounds v k b = record { size = b.size; lower = shift_end b.size v k b.lower; upper = shift_end b.size v k b.upper }
@@ -176,10 +174,10 @@ module _ (S : FactSets) where
   end_at_most f s e t g = comparable_ends s e t g && end_shown f s e.pointer e.integer e.constant g.pointer g.integer g.constant
 
   -- An unknown end is below or above no end.
-  unfoldable pub known_at_most : Facts → ℕ → KnownEnd → ℕ → KnownEnd → Bool
-  known_at_most f s Unknown t g = false
-  known_at_most f s (Known e) t Unknown = false
-  known_at_most f s (Known e) t (Known g) = end_at_most f s e t g
+  unfoldable pub known_at_most : Facts → ℕ → Option End → ℕ → Option End → Bool
+  known_at_most f s None t g = false
+  known_at_most f s (Some e) t None = false
+  known_at_most f s (Some e) t (Some g) = end_at_most f s e t g
 
   unfoldable pub bounds_shown : Facts → ℕ → Bounds → Bounds → Bool
   bounds_shown f p k d =
@@ -212,8 +210,8 @@ module _ (S : FactSets) where
   unfoldable pub address_safe : Facts → ℕ → ℕ → ℕ → Bounds → Bool
   address_safe f p i k d =
       shown f zero_var p (bias - 1)
-      && (known_at_most f d.size d.lower d.size (Known (record { pointer = p; integer = i; constant = k }))
-      && known_at_most f d.size (Known (record { pointer = p; integer = i; constant = k + 1 })) d.size d.upper)
+      && (known_at_most f d.size d.lower d.size (Some (record { pointer = p; integer = i; constant = k }))
+      && known_at_most f d.size (Some (record { pointer = p; integer = i; constant = k + 1 })) d.size d.upper)
 
   -- The statement is an access that is shown safe.
   unfoldable pub access_safe : Environment → Facts → Simple → Bool

@@ -1,6 +1,6 @@
 -- Known bounds that lie in a part of memory, from `low` up to `high`, go on to lie in it through every rule on bounds.
 use Prim.Native.Nat.{ℕ, zero, suc, ◌+◌, ◌-◌, ◌^◌, ◌≤◌, ◌<◌, ◌*◌}
-use Rattle.std.specs.Prelude.{◌≡◌, ◌≢◌, ◌⊎◌, Bool, ◌&&◌, ◌||◌, List, [], get_or}
+use Rattle.std.specs.Prelude.{◌≡◌, ◌≢◌, ◌⊎◌, Bool, ◌&&◌, ◌||◌, List, [], get_or, None, Option, Some}
 use Rattle.std.proofs.Math.Path.{refl, sym, ap}
 use Rattle.std.proofs.Common.{◌∙◌, ap₂, eq-or-lt_of_le, mul-zero}
 use Rattle.std.proofs.Math.Logic.{inl, inr, ⊎_elim}
@@ -24,8 +24,6 @@ use Rattle.rules.specs.BoundsRules.{nothing_known, is_pointer, declared, known, 
 use Rattle.rules.specs.BoundsRules.{cons_if, own_rows, row_bound, in_force, sized, element_size, weight, comparable_ends}
 use Rattle.rules.specs.Stored.{same_end, end_at_most, known_at_most, bounds_shown, unshown_from, unshown}
 use Rattle.rules.specs.Stored.{shift_constant, shift_end, shift_bounds, effect_on, bounds_after, store}
-use Rattle.rules.specs.declared.KnownEnd.{KnownEnd}
-use Rattle.rules.specs.declared.KnownEnd.TheVariants.{Known, Unknown}
 use Rattle.rules.specs.declared.Bounds.{Bounds}
 use Rattle.rules.specs.declared.Environment.{Environment}
 use Rattle.rules.specs.declared.Effect.{Effect}
@@ -41,18 +39,18 @@ pub record Proper (e : End) : Type 0 where
   pub integer : e.integer < 17
   pub distinct : e.pointer ≢ e.integer
 
-abbrev pub ProperEnd : KnownEnd → Type 0
-ProperEnd Unknown = Unit {0}
-ProperEnd (Known e) = Proper e
+abbrev pub ProperEnd : Option End → Type 0
+ProperEnd None = Unit {0}
+ProperEnd (Some e) = Proper e
 
 -- A known lower end is at least `low`, a known upper end at most `high`; of an unknown end nothing is said.
-abbrev pub LowerHolds : ℕ → ℕ → KnownEnd → (ℕ → ℕ) → Type 0
-LowerHolds low s Unknown v = Unit {0}
-LowerHolds low s (Known e) v = Proper e × (low ≤ end_at v s e)
+abbrev pub LowerHolds : ℕ → ℕ → Option End → (ℕ → ℕ) → Type 0
+LowerHolds low s None v = Unit {0}
+LowerHolds low s (Some e) v = Proper e × (low ≤ end_at v s e)
 
-abbrev pub UpperHolds : ℕ → ℕ → KnownEnd → (ℕ → ℕ) → Type 0
-UpperHolds high s Unknown v = Unit {0}
-UpperHolds high s (Known e) v = Proper e × (end_at v s e ≤ high)
+abbrev pub UpperHolds : ℕ → ℕ → Option End → (ℕ → ℕ) → Type 0
+UpperHolds high s None v = Unit {0}
+UpperHolds high s (Some e) v = Proper e × (end_at v s e ≤ high)
 
 pub record BoundsHold (low high : ℕ) (b : Bounds) (v : ℕ → ℕ) : Type 0 where
   pub lower : LowerHolds low b.size b.lower v
@@ -61,27 +59,27 @@ pub record BoundsHold (low high : ℕ) (b : Bounds) (v : ℕ → ℕ) : Type 0 w
 -- ---- assigning a variable
 
 -- What an assignment leaves of the end e has the value that e had.
-abbrev Kept : (ℕ → ℕ) → (ℕ → ℕ) → ℕ → End → KnownEnd → Type 0
-Kept v w s e Unknown = Unit {0}
-Kept v w s e (Known g) = Proper g × (end_at w s g ≡ end_at v s e)
+abbrev Kept : (ℕ → ℕ) → (ℕ → ℕ) → ℕ → End → Option End → Type 0
+Kept v w s e None = Unit {0}
+Kept v w s e (Some g) = Proper g × (end_at w s g ≡ end_at v s e)
 
-module _ (v w : ℕ → ℕ) (s : ℕ) (change : KnownEnd → KnownEnd) (unknown : change Unknown ≡ Unknown)
-    (kept : (e : End) → Proper e → Kept v w s e (change (Known e))) where
-  lower-changed : (low : ℕ) (e : KnownEnd) → LowerHolds low s e v → LowerHolds low s (change e) w
-  lower-changed low Unknown h = rw unknown tt
-  lower-changed low (Known e) h = go (change (Known e)) (kept e h.0)
+module _ (v w : ℕ → ℕ) (s : ℕ) (change : Option End → Option End) (unknown : change None ≡ None)
+    (kept : (e : End) → Proper e → Kept v w s e (change (Some e))) where
+  lower-changed : (low : ℕ) (e : Option End) → LowerHolds low s e v → LowerHolds low s (change e) w
+  lower-changed low None h = rw unknown tt
+  lower-changed low (Some e) h = go (change (Some e)) (kept e h.0)
     where
-      go : (g : KnownEnd) → Kept v w s e g → LowerHolds low s g w
-      go Unknown k = tt
-      go (Known g) k = (k.0, omega (arith, k.1, h.1))
+      go : (g : Option End) → Kept v w s e g → LowerHolds low s g w
+      go None k = tt
+      go (Some g) k = (k.0, omega (arith, k.1, h.1))
 
-  upper-changed : (high : ℕ) (e : KnownEnd) → UpperHolds high s e v → UpperHolds high s (change e) w
-  upper-changed high Unknown h = rw unknown tt
-  upper-changed high (Known e) h = go (change (Known e)) (kept e h.0)
+  upper-changed : (high : ℕ) (e : Option End) → UpperHolds high s e v → UpperHolds high s (change e) w
+  upper-changed high None h = rw unknown tt
+  upper-changed high (Some e) h = go (change (Some e)) (kept e h.0)
     where
-      go : (g : KnownEnd) → Kept v w s e g → UpperHolds high s g w
-      go Unknown k = tt
-      go (Known g) k = (k.0, omega (arith, k.1, h.1))
+      go : (g : Option End) → Kept v w s e g → UpperHolds high s g w
+      go None k = tt
+      go (Some g) k = (k.0, omega (arith, k.1, h.1))
 
 module _ (v w : ℕ → ℕ) (x : ℕ) (same : Except x v w) where
   unnamed : (s : ℕ) (e : End) → names e x ≡ false → end_at w s e ≡ end_at v s e
@@ -89,11 +87,11 @@ module _ (v w : ℕ → ℕ) (x : ℕ) (same : Except x v w) where
       let p = neither (eqb e.pointer x) (eqb e.integer x) t in
       ap₂ (λ (a b : ℕ). a + s * b + e.constant) (same e.pointer (eqb-false _ _ p.0)) (same e.integer (eqb-false _ _ p.1))
 
-  forget-kept : (s : ℕ) (e : End) → Proper e → Kept v w s e (forget_end x (Known e))
+  forget-kept : (s : ℕ) (e : End) → Proper e → Kept v w s e (forget_end x (Some e))
   unfolding forget_end
   forget-kept s e r = go (names e x) refl
     where
-      go : (b : Bool) → names e x ≡ b → Kept v w s e (cond b Unknown (Known e))
+      go : (b : Bool) → names e x ≡ b → Kept v w s e (cond b None (Some e))
       go true t = tt
       go false t = (r, unnamed s e t)
 
@@ -131,7 +129,7 @@ module _ (v w : ℕ → ℕ) (x : ℕ) (same : Except x v w) where
       where
         go : (a b : Bool) → leb (weight s x e * k) (e.constant + weight s x e * bias) ≡ b
             → Kept v w s e (cond (a && b)
-            (Known (record { pointer = e.pointer; integer = e.integer; constant = e.constant + weight s x e * bias - weight s x e * k })) Unknown)
+            (Some (record { pointer = e.pointer; integer = e.integer; constant = e.constant + weight s x e * bias - weight s x e * k })) None)
         go false b z = tt
         go true false z = tt
         go true true z = (
@@ -139,11 +137,11 @@ module _ (v w : ℕ → ℕ) (x : ℕ) (same : Except x v w) where
           shifted-value s e r t (leb-true _ _ z),
         )
 
-    shift_kept : (s : ℕ) (e : End) → Proper e → Kept v w s e (shift_end s x k (Known e))
+    shift_kept : (s : ℕ) (e : End) → Proper e → Kept v w s e (shift_end s x k (Some e))
     unfolding bounds_rules.shift_end
     shift_kept s e r = go (names e x) refl
       where
-        go : (b : Bool) → names e x ≡ b → Kept v w s e (cond b (shift_constant (weight s x e) k e) (Known e))
+        go : (b : Bool) → names e x ≡ b → Kept v w s e (cond b (shift_constant (weight s x e) k e) (Some e))
         go true t = constant-kept s e r t
         go false t = (r, unnamed s e t)
 
@@ -236,17 +234,17 @@ module _ (f : FactSet) (v : ℕ → ℕ) (h : Holds f v) (range : InRange v) whe
       same_size s e g hq hn hr hm
       (both (comparable_ends s e s g) (store.end_shown f s e.pointer e.integer e.constant g.pointer g.integer g.constant) z).1
 
-  lower-shown : (low s t : ℕ) (e g : KnownEnd) → known_at_most f s e t g ≡ true → ProperEnd g → LowerHolds low s e v → LowerHolds low t g v
+  lower-shown : (low s t : ℕ) (e g : Option End) → known_at_most f s e t g ≡ true → ProperEnd g → LowerHolds low s e v → LowerHolds low t g v
   unfolding bounds_rules.known_at_most
-  lower-shown low s t Unknown g z q l = absurd (false≢true z)
-  lower-shown low s t (Known e) Unknown z q l = absurd (false≢true z)
-  lower-shown low s t (Known e) (Known g) z q l = (q, omega (arith, end-at-most s e t g l.0 q z, l.1))
+  lower-shown low s t None g z q l = absurd (false≢true z)
+  lower-shown low s t (Some e) None z q l = absurd (false≢true z)
+  lower-shown low s t (Some e) (Some g) z q l = (q, omega (arith, end-at-most s e t g l.0 q z, l.1))
 
-  upper-shown : (high s t : ℕ) (g e : KnownEnd) → known_at_most f s g t e ≡ true → ProperEnd g → UpperHolds high t e v → UpperHolds high s g v
+  upper-shown : (high s t : ℕ) (g e : Option End) → known_at_most f s g t e ≡ true → ProperEnd g → UpperHolds high t e v → UpperHolds high s g v
   unfolding bounds_rules.known_at_most
-  upper-shown high s t Unknown e z q l = absurd (false≢true z)
-  upper-shown high s t (Known g) Unknown z q l = absurd (false≢true z)
-  upper-shown high s t (Known g) (Known e) z q l = (q, omega (arith, end-at-most s g t e q l.0 z, l.1))
+  upper-shown high s t None e z q l = absurd (false≢true z)
+  upper-shown high s t (Some g) None z q l = absurd (false≢true z)
+  upper-shown high s t (Some g) (Some e) z q l = (q, omega (arith, end-at-most s g t e q l.0 z, l.1))
 
   -- Bounds that are shown by known bounds which lie in a part lie there too, or the pointer is null.
   pub shown-holds : (low high p : ℕ) (k d : Bounds) → p < 17 → ProperEnd d.lower → ProperEnd d.upper → bounds_shown f p k d ≡ true

@@ -1,6 +1,6 @@
 -- The verdict in the paper's own words. What is known is told by the operations that were done (a history), and each question is answered by a decider of
 -- the paper's sentence about chains. Nothing here speaks of how the code stores facts.
-use Rattle.std.specs.Prelude.{ℕ, ◌+◌, ◌-◌, ◌*◌, ◌<◌, ◌≡◌, ◌↔◌, Bool, true, List, ℤ}
+use Rattle.std.specs.Prelude.{ℕ, ◌+◌, ◌-◌, ◌*◌, ◌<◌, ◌≡◌, ◌↔◌, Bool, true, List, ℤ, Ok, Result, Some}
 use Rattle.sums.specs.Numbers.{bias}
 use Rattle.chains.specs.Facts.{Variables, Node, Shown, EndShown}
 use Rattle.chains.specs.History.{History, new, add, drop, range, shift, join, known, Legal}
@@ -8,15 +8,12 @@ use Rattle.answers.specs.declared.refusals.Refusal.{Refusal}
 use Rattle.words.specs.Sections.{Limits}
 use Rattle.words.specs.declared.sections.Sections.{Sections}
 use Rattle.table.specs.Form.{form_of}
-use Rattle.table.specs.declared.Form.TheVariants as form
 use Rattle.rules.specs.FactSets.{FactSets}
 use Rattle.rules.specs.BoundsRules.{is_pointer}
 use Rattle.rules.specs.Calls.{Routine}
 use Rattle.rules.specs.Verdict.{environment_of, faults, Says}
 use Rattle.rules.specs.Report.{reported_at}
 use Rattle.reports.specs.Reports.{reported}
-use Rattle.rules.specs.declared.KnownEnd.TheVariants.{Known}
-use Rattle.rules.specs.declared.Verdict.{Verdict}
 
 -- Answers to the questions about what is known after a history.
 pub record Decider : Type 0 where
@@ -42,7 +39,7 @@ by_chains d = record {
   joined = λ pointer h g. join h g;
   shown = d.shown;
   end_shown = d.end_shown;
-  end_less = λ w k e. Known (record { pointer = e.pointer; integer = e.integer; constant = e.constant + w * bias - w * k });
+  end_less = λ w k e. Some (record { pointer = e.pointer; integer = e.integer; constant = e.constant + w * bias - w * k });
 }
 
 -- The variables that a table declares.
@@ -51,7 +48,7 @@ variables T h w = record { count = h.variables; some = w.some; few = w.variables
 
 -- It decides the sentences about the variables of the table, where causes 1 to 5 leave one.
 abbrev pub DecidesTable : List ℤ → Decider → Type 0
-DecidesTable T d = (h : Sections) (w : Limits h) → form_of T ≡ form.WellFormed h → Decides (variables T h w) d
+DecidesTable T d = (h : Sections) (w : Limits h) → form_of T ≡ Ok h → Decides (variables T h w) d
 
 -- What is so of a table by the paper's chains: there is a decider of its sentences, and by each such decider it is so.
 pub record Decided (T : List ℤ) (P : Decider → Type 0) : Type 0 where
@@ -65,7 +62,7 @@ chain_faults d = faults (by_chains d)
 
 -- THE VERDICT ON A TABLE T with the list L of loop facts (point 9; an empty list: none): that of the first fault. "a routine by itself is number 0"
 -- (point 14): it has no callees.
-unfoldable pub Judged : List Routine → List ℤ → List ℤ → Verdict → Type 0
+unfoldable pub Judged : List Routine → List ℤ → List ℤ → Result (Unit {0}) Refusal → Type 0
 Judged callees T L v = Decided T (λ d. Says (chain_faults d callees T L) v)
 
 -- THE REPORT ON A TABLE T with the list L (point 9): "exactly the accesses for which the facts before them show" that they are safe; statement d by its bit.

@@ -1,6 +1,6 @@
 -- Laws of calls: the callees are well formed, and what a call compares are ends in range, of the caller's variables.
 use Prim.Native.Nat.{ℕ, zero, suc, ◌≤◌, ◌<◌}
-use Rattle.std.specs.Prelude.{◌≡◌, refl, ◌⊎◌, false, not, ◌&&◌, ◌||◌, cond, List, [], eqb, ℤ, length, ltb}
+use Rattle.std.specs.Prelude.{◌≡◌, refl, ◌⊎◌, false, not, ◌&&◌, ◌||◌, cond, List, [], eqb, ℤ, length, ltb, None, Option, Some}
 use Rattle.std.proofs.Common.{sym, ap, ◌∙◌, arith, eqb-true, eq-eqb}
 use Rattle.std.proofs.Math.Logic.{inl, inr}
 use Rattle.std.proofs.Math.Bool.{Bool, true}
@@ -26,8 +26,6 @@ use Rattle.rules.specs.Calls.{Routine, routine_at, argument, is_parameter, end_f
 use Rattle.rules.specs.Verdict.{environment_of}
 use Rattle.rules.specs.ByChains.{variables}
 use Rattle.rules.specs.Fair.{FairKnown, FairBounds, number-fair}
-use Rattle.rules.specs.declared.KnownEnd.{KnownEnd}
-use Rattle.rules.specs.declared.KnownEnd.TheVariants.{Known, Unknown}
 
 -- A routine that causes 1 to 5 do not refuse.
 pub record RoutineFormed (r : Routine) : Type 0 where
@@ -63,10 +61,10 @@ module _ (T : List ℤ) (h : Sections) (c : CallSite) (typed : CallTyped T h c) 
       go (inr e) = inr (argument-below x e)
 
   module _ (vars : Variables) (count : h.variables ≤ vars.count) where
-    end-put : (known-vars : Variables) (e : KnownEnd) → end_fits c e ≡ true → FairKnown known-vars 0 e → FairKnown vars 0 (argument_end c e)
+    end-put : (known-vars : Variables) (e : Option End) → end_fits c e ≡ true → FairKnown known-vars 0 e → FairKnown vars 0 (argument_end c e)
     unfolding end_fits argument_end
-    end-put v Unknown q f = tt
-    end-put v (Known e) q f =
+    end-put v None q f = tt
+    end-put v (Some e) q f =
         let p = both (is_parameter c e.pointer) (eqb e.integer zero_var || is_parameter c e.integer) q in
         record {
           pointer = inr (omega (arith, argument-below e.pointer p.0, count));

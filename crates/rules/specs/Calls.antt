@@ -1,6 +1,6 @@
 -- Calls between routines (document 02, point 14): "In a lent set of 1 to 8 routines, kind 15 calls one". What a call hands over, and what it asks of the
 -- callee.
-use Rattle.std.specs.Prelude.{ℕ, zero, suc, ◌-◌, Bool, true, false, not, ◌&&◌, ◌||◌, cond, List, [], ltb, eqb, ℤ, length, get_or}
+use Rattle.std.specs.Prelude.{ℕ, zero, suc, ◌-◌, Bool, true, false, not, ◌&&◌, ◌||◌, cond, List, [], ltb, eqb, ℤ, length, get_or, None, Option, Some}
 use Rattle.sums.specs.Numbers.{zero_var}
 use Rattle.answers.specs.declared.refusals.Refusal.{Refusal}
 use Rattle.answers.specs.declared.refusals.Refusal.TheVariants.{Callee, Arguments}
@@ -10,8 +10,6 @@ use Rattle.table.specs.declared.variables.End.{End}
 use Rattle.blocks.specs.Layout.{also, when}
 use Rattle.rules.specs.FactSets.{FactSets}
 use Rattle.rules.specs.BoundsRules.{is_pointer, is_string, declared, known, bounds_shown}
-use Rattle.rules.specs.declared.KnownEnd.{KnownEnd}
-use Rattle.rules.specs.declared.KnownEnd.TheVariants.{Known, Unknown}
 use Rattle.rules.specs.declared.Bounds.{Bounds}
 use Rattle.rules.specs.declared.Environment.{Environment}
 use Rattle.rules.specs.declared.Effect.{Effect}
@@ -73,14 +71,14 @@ kind_fits E x r j =
     ltb j r.sections.variables && alike (is_pointer E x) (is_pointer r.environment j) && alike (is_string E x) (is_string r.environment j)
 
 -- "Bounds of a parameter name parameters only".
-unfoldable pub end_fits : CallSite → KnownEnd → Bool
-end_fits c Unknown = false
-end_fits c (Known e) = is_parameter c e.pointer && (eqb e.integer zero_var || is_parameter c e.integer)
+unfoldable pub end_fits : CallSite → Option End → Bool
+end_fits c None = false
+end_fits c (Some e) = is_parameter c e.pointer && (eqb e.integer zero_var || is_parameter c e.integer)
 
 -- A parameter's bounds with the arguments put in. They keep the parameter's size (point 10).
-unfoldable pub argument_end : CallSite → KnownEnd → KnownEnd
-argument_end c Unknown = Unknown
-argument_end c (Known e) = Known (record { pointer = argument c e.pointer; integer = argument c e.integer; constant = e.constant })
+unfoldable pub argument_end : CallSite → Option End → Option End
+argument_end c None = None
+argument_end c (Some e) = Some (record { pointer = argument c e.pointer; integer = argument c e.integer; constant = e.constant })
 
 unfoldable pub argument_bounds : CallSite → Bounds → Bounds
 argument_bounds c b = record { size = b.size; lower = argument_end c b.lower; upper = argument_end c b.upper }

@@ -1,5 +1,6 @@
 -- What a well-formed table declares: the kinds of its variables, and ends that name variables of the right kinds.
-use Rattle.std.specs.Prelude.{ℕ, ◌≤◌, ◌<◌, zero, suc, ◌≡◌, ◌≢◌, Bool, List, ℤ}
+use Rattle.table.specs.declared.variables.BoundsRow.{BoundsRow}
+use Rattle.std.specs.Prelude.{ℕ, ◌≤◌, ◌<◌, zero, suc, ◌≡◌, ◌≢◌, Bool, List, ℤ, None, Option, Some}
 use Rattle.std.proofs.Math.Path.{refl, sym, ap}
 use Rattle.std.proofs.Common.{◌∙◌, arith}
 use Rattle.std.proofs.Math.Bool.{true, false}
@@ -19,24 +20,19 @@ use Rattle.table.specs.VariableLaws.{variable-read-typed, row-read-typed}
 use Rattle.table.specs.declared.variables.End.{End}
 use Rattle.table.specs.declared.variables.Variable.{Variable}
 use Rattle.table.specs.declared.variables.Variable.TheVariants.{Integer, Pointer}
-use Rattle.table.specs.declared.variables.VariableRead.{VariableRead}
-use Rattle.table.specs.declared.variables.VariableRead.TheVariants.{Read, Unread}
-use Rattle.table.specs.declared.variables.RowRead.{RowRead}
 use Rattle.table.specs.FormLaws.{Formed}
 use Rattle.rules.specs.BoundsRules.{nothing_known, is_pointer, declared, row_bound, in_force, element_size}
 use Rattle.rules.specs.BoundsRules.{sized, is_string, is_terminated, object_length, object_span, upper_limit}
 use Rattle.rules.specs.BoundsTrue.{Proper, declared-in-force}
 use Rattle.rules.specs.Verdict.{bounds_of, environment_of, row_bounds, variable_size}
-use Rattle.rules.specs.declared.KnownEnd.TheVariants.{Known}
 use Rattle.rules.specs.declared.Bounds.{Bounds}
 use Rattle.rules.specs.declared.Environment.{Environment}
-use Rattle.table.specs.declared.variables.RowRead.TheVariants as row
 
 -- Bounds of the element size s with both ends.
 pub record Ends (s : ℕ) (b : Bounds) : Type 0 where
   pub low : End
   pub high : End
-  pub bounds : b ≡ record { size = s; lower = Known low; upper = Known high }
+  pub bounds : b ≡ record { size = s; lower = Some low; upper = Some high }
   pub low-proper : Proper low
   pub high-proper : Proper high
 
@@ -98,10 +94,10 @@ module _ (T : List ℤ) (h : Sections) where
   size-at p l = get_d_tabulate 16 (λ v. variable_size (variable_at T h v)) p 1 l
 
   -- Sizes are at most 8.
-  size-read : (p : ℕ) (r : VariableRead) → variable_at T h p ≡ r → variable_size r ≤ 8
-  size-read p (Read (Pointer s l u)) e = (variable-read-typed T h p (Pointer s l u) e).few
-  size-read p (Read Integer) e = omega arith
-  size-read p Unread e = omega arith
+  size-read : (p : ℕ) (r : Option Variable) → variable_at T h p ≡ r → variable_size r ≤ 8
+  size-read p (Some (Pointer s l u)) e = (variable-read-typed T h p (Pointer s l u) e).few
+  size-read p (Some Integer) e = omega arith
+  size-read p None e = omega arith
 
   pub sizes-small : (p : ℕ) → element_size (environment_of T h) p ≤ 8
   unfolding environment_of
@@ -141,16 +137,16 @@ module _ (T : List ℤ) (h : Sections) where
         distinct = apart e.pointer e.integer few t.pointer t.integer;
       }
 
-  ends-of : h.variables ≤ 16 → (p : ℕ) → p < 16 → pointer_at T h p ≡ true → (x : Variable) → variable_at T h p ≡ Read x
+  ends-of : h.variables ≤ 16 → (p : ℕ) → p < 16 → pointer_at T h p ≡ true → (x : Variable) → variable_at T h p ≡ Some x
       → Ends (element_size (environment_of T h) p) (row_bound (environment_of T h) 0 p)
   ends-of few p l k Integer e = absurd (false≢true (sym (integer-no-pointer T h p (variable-read-typed T h p Integer e)) ∙ k))
   ends-of few p l k (Pointer s low high) e =
       let t : PointerTyped T h p s low high = variable-read-typed T h p (Pointer s low high) e in
-      let z : element_size (environment_of T h) p ≡ s = size-at p l ∙ ap (λ (r : VariableRead). variable_size r) e in
+      let z : element_size (environment_of T h) p ≡ s = size-at p l ∙ ap (λ (r : Option Variable). variable_size r) e in
       record {
         low = low;
         high = high;
-        bounds = rw z (declared-at p l ∙ ap (λ (r : VariableRead). bounds_of r) e);
+        bounds = rw z (declared-at p l ∙ ap (λ (r : Option Variable). bounds_of r) e);
         low-proper = end-proper low few t.lower;
         high-proper = end-proper high few t.upper;
       }
@@ -160,11 +156,11 @@ module _ (T : List ℤ) (h : Sections) where
     pub low : End
     pub high : End
     pub size : ℕ
-    pub bounds : declared (environment_of T h) p ≡ record { size = size; lower = Known low; upper = Known high }
+    pub bounds : declared (environment_of T h) p ≡ record { size = size; lower = Some low; upper = Some high }
     pub low-typed : EndTyped T h low
     pub high-typed : EndTyped T h high
 
-  own-ends-of : (p : ℕ) → p < 16 → pointer_at T h p ≡ true → (x : Variable) → variable_at T h p ≡ Read x → OwnEnds p
+  own-ends-of : (p : ℕ) → p < 16 → pointer_at T h p ≡ true → (x : Variable) → variable_at T h p ≡ Some x → OwnEnds p
   unfolding row_bound
   own-ends-of p l k Integer e = absurd (false≢true (sym (integer-no-pointer T h p (variable-read-typed T h p Integer e)) ∙ k))
   own-ends-of p l k (Pointer s low high) e =
@@ -173,7 +169,7 @@ module _ (T : List ℤ) (h : Sections) where
         low = low;
         high = high;
         size = s;
-        bounds = declared-at p l ∙ ap (λ (r : VariableRead). bounds_of r) e;
+        bounds = declared-at p l ∙ ap (λ (r : Option Variable). bounds_of r) e;
         low-typed = t.lower;
         high-typed = t.upper;
       }
@@ -185,14 +181,14 @@ module _ (T : List ℤ) (h : Sections) where
       let r = f.variables p l in
       own-ends-of p (omega (arith, f.limits.variables)) k r.0 r.1
 
-  row_ends : h.variables ≤ 16 → (p r : ℕ) → r < 64 → (l u : End) → row_at T h r ≡ row.Read l u
+  row_ends : h.variables ≤ 16 → (p r : ℕ) → r < 64 → (l u : End) → row_at T h r ≡ Some (record { lower = l; upper = u })
       → Ends (element_size (environment_of T h) p) (row_bound (environment_of T h) (suc r) p)
   row_ends few p r b l u e =
       let t = row-read-typed T h r l u e in
       record {
         low = l;
         high = u;
-        bounds = row-at p r b ∙ ap (λ (x : RowRead). sized (element_size (environment_of T h) p) (row_bounds x)) e;
+        bounds = row-at p r b ∙ ap (λ (x : Option BoundsRow). sized (element_size (environment_of T h) p) (row_bounds x)) e;
         low-proper = end-proper l few t.lower;
         high-proper = end-proper u few t.upper;
       }

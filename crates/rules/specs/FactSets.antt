@@ -1,8 +1,7 @@
 -- What the rules use of facts and of known ends, and nothing else: sets of facts, what is done to them, what is asked of them; and an end moved by a constant.
 -- The rules are written once, over this. `by_chains` (ByChains.antt) has the paper's facts and chains; `store` (Stored.antt) has the sums that the code holds.
-use Rattle.std.specs.Prelude.{ℕ, Bool, List}
+use Rattle.std.specs.Prelude.{ℕ, Bool, List, Option}
 use Rattle.table.specs.declared.variables.End.{End}
-use Rattle.rules.specs.declared.KnownEnd.{KnownEnd}
 
 pub record FactSets : Type 1 where
   pub Facts : Type 0
@@ -22,7 +21,7 @@ pub record FactSets : Type 1 where
   -- end_shown f s q n k r m j: the end (q, n, k) is at most the end (r, m, j), the integers n and m s times.
   pub end_shown : Facts → ℕ → ℕ → ℕ → ℕ → ℕ → ℕ → ℕ → Bool
   -- end_less w k e: the end e less w times k, with the bias in k.
-  pub end_less : ℕ → ℕ → End → KnownEnd
+  pub end_less : ℕ → ℕ → End → Option End
 
 -- ---- what a walk hands on from each statement to the next: what is known, and the rows in force (document 02, point 2)
 -- Point 2: "it is the pointer's declared bound until another kind 14 for it". For each pointer one number: 0 its own bound ("row -1"), r + 1 the row r.

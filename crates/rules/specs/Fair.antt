@@ -1,6 +1,8 @@
 -- The ends that the rules compare are in range: they name variables, and their constants are those of a table or an object's length, moved at most 16 times.
+use Rattle.table.specs.declared.variables.BoundsRow.{BoundsRow}
+use Rattle.table.specs.declared.variables.Variable.{Variable}
 use Prim.Native.Nat.{ℕ, ◌+◌, ◌-◌, ◌*◌, ◌^◌, ◌≤◌, ◌<◌, zero, suc}
-use Rattle.std.specs.Prelude.{◌≡◌, Bool, ◌&&◌, cond, List, ℤ, get_or}
+use Rattle.std.specs.Prelude.{◌≡◌, Bool, ◌&&◌, cond, List, ℤ, get_or, None, Option, Some}
 use Rattle.std.proofs.Math.Path.{refl}
 use Rattle.std.proofs.Math.Logic.{inl, inr}
 use Rattle.std.proofs.Math.Bool.{true, false}
@@ -29,9 +31,6 @@ use Rattle.table.specs.VariableLaws.{variable-read-typed, row-read-typed}
 use Rattle.table.specs.Typed.{EndTyped}
 use Rattle.table.specs.declared.variables.End.{End}
 use Rattle.table.specs.declared.variables.Variable.TheVariants.{Integer, Pointer}
-use Rattle.table.specs.declared.variables.VariableRead.{VariableRead}
-use Rattle.table.specs.declared.variables.VariableRead.TheVariants.{Read, Unread}
-use Rattle.table.specs.declared.variables.RowRead.{RowRead}
 use Rattle.table.specs.FormLaws.{Formed}
 use Rattle.rules.specs.BoundsRules.{nothing_known, known, names, forget_end, forget_bounds, object_bounds}
 use Rattle.rules.specs.BoundsRules.{effect, row_bound, declared, in_force, weight, object_span, upper_limit}
@@ -40,12 +39,9 @@ use Rattle.rules.specs.EnvironmentLaws.{sizes-small}
 use Rattle.rules.specs.Stored.{store, shift_constant, shift_end, shift_bounds, effect_on, bounds_after}
 use Rattle.rules.specs.BoundsRules as bounds_rules
 use Rattle.rules.specs.ByChains.{variables}
-use Rattle.rules.specs.declared.KnownEnd.{KnownEnd}
-use Rattle.rules.specs.declared.KnownEnd.TheVariants.{Known, Unknown}
 use Rattle.rules.specs.declared.Bounds.{Bounds}
 use Rattle.rules.specs.declared.Effect.{Effect}
 use Rattle.rules.specs.declared.Effect.TheVariants.{Keep, Forget, Shift, Copy, Object}
-use Rattle.table.specs.declared.variables.RowRead.TheVariants as row
 
 -- An end after at most n statements: it names variables, and its constant is that of a table or an object's length, moved n times by at most 8 times 65,536.
 pub record FairEnd (vars : Variables) (n : ℕ) (e : End) : Type 0 where
@@ -54,9 +50,9 @@ pub record FairEnd (vars : Variables) (n : ℕ) (e : End) : Type 0 where
   pub low : bias ≤ e.constant + 65536 + n * 524288
   pub high : e.constant ≤ bias + 1000000 + n * 524288
 
-abbrev pub FairKnown : Variables → ℕ → KnownEnd → Type 0
-FairKnown vars n Unknown = Unit
-FairKnown vars n (Known e) = FairEnd vars n e
+abbrev pub FairKnown : Variables → ℕ → Option End → Type 0
+FairKnown vars n None = Unit
+FairKnown vars n (Some e) = FairEnd vars n e
 
 pub record FairBounds (vars : Variables) (n : ℕ) (b : Bounds) : Type 0 where
   pub size : b.size ≤ 8
@@ -82,28 +78,28 @@ module _ (vars : Variables) where
 
   -- ---- effects keep ends in range
 
-  later-end : (n m : ℕ) (e : KnownEnd) → n ≤ m → FairKnown vars n e → FairKnown vars m e
-  later-end n m Unknown l p = tt
-  later-end n m (Known e) l p = record { pointer = p.pointer; integer = p.integer; low = omega (arith, p.low); high = omega (arith, p.high) }
+  later-end : (n m : ℕ) (e : Option End) → n ≤ m → FairKnown vars n e → FairKnown vars m e
+  later-end n m None l p = tt
+  later-end n m (Some e) l p = record { pointer = p.pointer; integer = p.integer; low = omega (arith, p.low); high = omega (arith, p.high) }
 
   pub later : (n m : ℕ) (b : Bounds) → n ≤ m → FairBounds vars n b → FairBounds vars m b
   later n m b l p = record { size = p.size; lower = later-end n m b.lower l p.lower; upper = later-end n m b.upper l p.upper }
 
-  more : (n : ℕ) (e : KnownEnd) → FairKnown vars n e → FairKnown vars (n + 1) e
+  more : (n : ℕ) (e : Option End) → FairKnown vars n e → FairKnown vars (n + 1) e
   more n e p = later-end n (n + 1) e (omega arith) p
 
-  forgotten : (n v : ℕ) (e : KnownEnd) → FairKnown vars n e → FairKnown vars (n + 1) (forget_end v e)
+  forgotten : (n v : ℕ) (e : Option End) → FairKnown vars n e → FairKnown vars (n + 1) (forget_end v e)
   unfolding forget_end
-  forgotten n v Unknown p = tt
-  forgotten n v (Known e) p = go (names e v)
+  forgotten n v None p = tt
+  forgotten n v (Some e) p = go (names e v)
     where
-      go : (b : Bool) → FairKnown vars (n + 1) (cond b Unknown (Known e))
+      go : (b : Bool) → FairKnown vars (n + 1) (cond b None (Some e))
       go true = tt
-      go false = more n (Known e) p
+      go false = more n (Some e) p
 
   -- The constant of an end in range is moved as the paper says: the tests of `shift_constant` hold.
   pub constant-moved : (n w k : ℕ) (e : End) → n ≤ 16 → w ≤ 8 → FairEnd vars n e → IsSmall k
-      → shift_constant w k e ≡ Known (record { pointer = e.pointer; integer = e.integer; constant = e.constant + w * bias - w * k })
+      → shift_constant w k e ≡ Some (record { pointer = e.pointer; integer = e.integer; constant = e.constant + w * bias - w * k })
   unfolding shift_constant
   constant-moved n w k e l m p s =
       let small : k < 2 ^ 40 = omega (arith, s.high) in
@@ -115,10 +111,10 @@ module _ (vars : Variables) where
         le-leb (w * k) (e.constant + w * bias) (omega (arith, p.low)),
       )
 
-  moved : (n s v k : ℕ) (e : KnownEnd) → n ≤ 16 → s ≤ 8 → IsSmall k → FairKnown vars n e → FairKnown vars (n + 1) (shift_end s v k e)
+  moved : (n s v k : ℕ) (e : Option End) → n ≤ 16 → s ≤ 8 → IsSmall k → FairKnown vars n e → FairKnown vars (n + 1) (shift_end s v k e)
   unfolding bounds_rules.shift_end
-  moved n s v k Unknown l m t p = tt
-  moved n s v k (Known e) l m t p = go (names e v)
+  moved n s v k None l m t p = tt
+  moved n s v k (Some e) l m t p = go (names e v)
     where
       few : weight s v e ≤ 8
       few = weight-small s v e m
@@ -129,14 +125,14 @@ module _ (vars : Variables) where
       down : weight s v e * bias ≤ weight s v e * (k + 65536)
       down = scale (weight s v e) (omega (arith, t.low))
 
-      go : (b : Bool) → FairKnown vars (n + 1) (cond b (shift_constant (weight s v e) k e) (Known e))
+      go : (b : Bool) → FairKnown vars (n + 1) (cond b (shift_constant (weight s v e) k e) (Some e))
       go true = rw (constant-moved n (weight s v e) k e l few p t) (record {
         pointer = p.pointer;
         integer = p.integer;
         low = let u : weight s v e * k ≤ weight s v e * (bias + 65536) = up in let m : weight s v e ≤ 8 = few in omega (arith, p.low);
         high = omega (arith, p.high, down, few, mul-add (weight s v e) k 65536);
       })
-      go false = more n (Known e) p
+      go false = more n (Some e) p
 
   abbrev pub FairEffect : Effect → Type 0
   FairEffect Keep = Unit
@@ -196,11 +192,11 @@ module _ (T : List ℤ) (h : Sections) (w : Formed T h) where
     high = omega (arith, t.constant.high);
   }
 
-  read-fair : (v : ℕ) (r : VariableRead) → variable_at T h v ≡ r → FairBounds vars 0 (bounds_of r)
-  read-fair v (Read (Pointer s l u)) e =
+  read-fair : (v : ℕ) (r : Option Variable) → variable_at T h v ≡ r → FairBounds vars 0 (bounds_of r)
+  read-fair v (Some (Pointer s l u)) e =
       let t = variable-read-typed T h v (Pointer s l u) e in record { size = t.few; lower = end-fair t.lower; upper = end-fair t.upper }
-  read-fair v (Read Integer) e = nothing-fair vars 0
-  read-fair v Unread e = nothing-fair vars 0
+  read-fair v (Some Integer) e = nothing-fair vars 0
+  read-fair v None e = nothing-fair vars 0
 
   own-fair : FairAll vars 0 (environment_of T h).declared
   unfolding environment_of
@@ -213,10 +209,10 @@ module _ (T : List ℤ) (h : Sections) (w : Formed T h) where
           omega (arith, length-tabulate 16 (λ v. bounds_of (variable_at T h v)), ltb-false p 16 q) in
           rw (get_or-eq_default (tabulate 16 (λ v. bounds_of (variable_at T h v))) nothing_known {n = p} i) (nothing-fair vars 0)
 
-  row-read-fair : (r : ℕ) (x : RowRead) → row_at T h r ≡ x → FairBounds vars 0 (row_bounds x)
-  row-read-fair r (row.Read l u) e =
-      let t = row-read-typed T h r l u e in record { size = omega arith; lower = end-fair t.lower; upper = end-fair t.upper }
-  row-read-fair r row.Unread e = nothing-fair vars 0
+  row-read-fair : (r : ℕ) (x : Option BoundsRow) → row_at T h r ≡ x → FairBounds vars 0 (row_bounds x)
+  row-read-fair r (Some b) e =
+      let t = row-read-typed T h r b.lower b.upper e in record { size = omega arith; lower = end-fair t.lower; upper = end-fair t.upper }
+  row-read-fair r None e = nothing-fair vars 0
 
   row-fair : FairAll vars 0 (environment_of T h).rows
   unfolding environment_of

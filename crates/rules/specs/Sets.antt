@@ -1,6 +1,8 @@
 -- A set of routines (document 02, point 14): "In a lent set of 1 to 8 routines, without loop facts". What its routines are, and the verdict on it.
-use Rattle.std.specs.Prelude.{ℕ, zero, suc, ◌+◌, ◌<◌, Bool, true, false, not, ◌&&◌, cond, List, [], ◌∷◌, ◌++◌, map, ◌≡◌, leb, eqb, ℤ, pos, negsuc, length}
-use Rattle.std.specs.Prelude.{get_or, set, take, drop}
+use Rattle.rules.specs.declared.SetRefusal.{SetRefusal}
+use Rattle.std.specs.Prelude.{ℕ, zero, suc, ◌+◌, ◌<◌, Bool, true, false, not, ◌&&◌, cond, List, [], ◌∷◌, ◌++◌, map, ◌≡◌, leb, eqb, ℤ, pos, negsuc, length, Ok}
+use Rattle.std.specs.Prelude.{Err, Result}
+use Rattle.std.specs.Prelude.{get_or, set, take, drop, Err, Ok, Result}
 use Rattle.answers.specs.declared.refusals.Refusal.{Refusal}
 use Rattle.answers.specs.declared.refusals.Refusal.TheVariants.{ObjectLength, RoutineCount}
 use Rattle.table.specs.Form.{sections_of, head_right}
@@ -8,10 +10,6 @@ use Rattle.rules.specs.FactSets.{FactSets}
 use Rattle.rules.specs.Calls.{Routine}
 use Rattle.rules.specs.Verdict.{environment_of, faults, Says}
 use Rattle.rules.specs.ByChains.{by_chains, Decided}
-use Rattle.rules.specs.declared.SetVerdict.{SetVerdict}
-use Rattle.rules.specs.declared.SetVerdict.TheVariants as whole
-use Rattle.rules.specs.declared.Verdict.{Verdict}
-use Rattle.rules.specs.declared.Verdict.TheVariants.{Accepted, Refused}
 
 -- ---- "Only routine 0 lists objects, for all"
 
@@ -68,7 +66,7 @@ member_faults S Ts n =
     (cond (head_right (get_or Ts n [])) (faults S (before n (routines_of Ts)) (member_of Ts n) []) (faults S [] (get_or Ts n []) []))
 
 -- The verdict on routine n, by the paper's chains.
-unfoldable pub RoutineJudged : List (List ℤ) → ℕ → Verdict → Type 0
+unfoldable pub RoutineJudged : List (List ℤ) → ℕ → Result (Unit {0}) Refusal → Type 0
 RoutineJudged Ts n v = Decided (member_of Ts n) (λ d. Says (member_faults (by_chains d) Ts n) v)
 
 unfoldable pub count_right : List (List ℤ) → Bool
@@ -78,12 +76,12 @@ count_right Ts = leb 1 (length Ts) && leb (length Ts) 8
 pub record FirstRefused (Ts : List (List ℤ)) (n : ℕ) (r : Refusal) : Type 0 where
   pub count : count_right Ts ≡ true
   pub below : n < length Ts
-  pub refused-it : RoutineJudged Ts n (Refused r)
-  pub earlier : (m : ℕ) → m < n → RoutineJudged Ts m Accepted
+  pub refused-it : RoutineJudged Ts n (Err r)
+  pub earlier : (m : ℕ) → m < n → RoutineJudged Ts m (Ok tt)
 
 pub record AllAccepted (Ts : List (List ℤ)) : Type 0 where
   pub count : count_right Ts ≡ true
-  pub each : (n : ℕ) → n < length Ts → RoutineJudged Ts n Accepted
+  pub each : (n : ℕ) → n < length Ts → RoutineJudged Ts n (Ok tt)
 
 -- "A set of another size is 15, place 0; then routines are checked by number, and the first one refused is named." (Refusal 15 names routine 0.)
 abbrev pub SetRefused : Bool → List (List ℤ) → ℕ → Refusal → Type 0
@@ -91,6 +89,6 @@ SetRefused false Ts n r = (n ≡ 0) × (r ≡ RoutineCount)
 SetRefused true Ts n r = FirstRefused Ts n r
 
 -- THE VERDICT ON A SET.
-unfoldable pub SetJudged : List (List ℤ) → SetVerdict → Type 0
-SetJudged Ts whole.Accepted = AllAccepted Ts
-SetJudged Ts (whole.Refused n r) = SetRefused (count_right Ts) Ts n r
+unfoldable pub SetJudged : List (List ℤ) → Result (Unit {0}) SetRefusal → Type 0
+SetJudged Ts (Ok _) = AllAccepted Ts
+SetJudged Ts (Err x) = SetRefused (count_right Ts) Ts x.routine x.refusal

@@ -1,12 +1,10 @@
 -- Refusals whose place and pointer are 32-bit numbers, as the words of an answer are.
-use Rattle.std.specs.Prelude.{ℕ, ◌^◌, ◌<◌, ◌≡◌, refl, Bool, true, false, List, [], ◌∷◌}
+use Rattle.std.specs.Prelude.{ℕ, ◌^◌, ◌<◌, ◌≡◌, refl, Bool, true, false, List, [], ◌∷◌, Err, Ok, Result}
 use Rattle.std.proofs.Common.{arith}
 use Rattle.answers.specs.Refusals.{place, pointer}
 use Rattle.answers.specs.declared.refusals.Refusal.{Refusal}
 use Rattle.blocks.specs.Layout.{also, when}
 use Rattle.rules.specs.Verdict.{Reading, accepted, refused, verdict_reads, verdict_of}
-use Rattle.rules.specs.declared.Verdict.{Verdict}
-use Rattle.rules.specs.declared.Verdict.TheVariants.{Accepted, Refused}
 
 pub record RefusalSmall (f : Refusal) : Type 0 where
   pub place-small : place f < 2 ^ 32
@@ -41,10 +39,10 @@ when-small true p = one-small p
 when-small false p = none-small
 
 -- A verdict is that of the first fault.
-pub verdict-small : (fs : List Refusal) (v : Verdict) → FirstSmall fs → v ≡ verdict_of fs → ReadingSmall (verdict_reads v)
+pub verdict-small : (fs : List Refusal) (v : Result (Unit {0}) Refusal) → FirstSmall fs → v ≡ verdict_of fs → ReadingSmall (verdict_reads v)
 unfolding verdict_of
-verdict-small fs Accepted s e = tt
-verdict-small [] (Refused r) s e = let z : ◌≡◌ {A = ℕ} 0 1 = cc in absurd (omega arith)
-verdict-small (f ∷ fs) (Refused r) s e =
+verdict-small fs (Ok tt) s e = tt
+verdict-small [] (Err r) s e = let z : ◌≡◌ {A = ℕ} 0 1 = cc in absurd (omega arith)
+verdict-small (f ∷ fs) (Err r) s e =
     let q : f ≡ r = cc in
     let t : RefusalSmall r = rw q at (s.small f fs refl) in (t.place-small, t.pointer-small)

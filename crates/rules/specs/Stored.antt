@@ -1,5 +1,5 @@
 -- The rules over the fact store: what the code computes with.
-use Rattle.std.specs.Prelude.{ℕ, ◌+◌, ◌-◌, ◌*◌, ◌^◌, Bool, ◌&&◌, ◌||◌, cond, List, ℤ, leb, ltb, eqb}
+use Rattle.std.specs.Prelude.{ℕ, ◌+◌, ◌-◌, ◌*◌, ◌^◌, Bool, ◌&&◌, ◌||◌, cond, List, ℤ, leb, ltb, eqb, None, Option, Result, Some}
 use Rattle.sums.specs.Numbers.{bias}
 use Rattle.facts.specs.Store as sets
 use Rattle.facts.specs.declared.FactSet.{FactSet}
@@ -9,7 +9,6 @@ use Rattle.conditions.specs.declared.Condition.{Condition}
 use Rattle.statements.specs.declared.CallSite.{CallSite}
 use Rattle.statements.specs.declared.Simple.{Simple}
 use Rattle.table.specs.declared.variables.End.{End}
-use Rattle.table.specs.declared.Form.{Form}
 use Rattle.blocks.specs.Tree.{Block}
 use Rattle.listed.specs.declared.Entry.{Entry}
 use Rattle.rules.specs.FactSets.{FactSets, State}
@@ -19,8 +18,6 @@ use Rattle.rules.specs.Rules as walk
 use Rattle.rules.specs.Calls as calls
 use Rattle.rules.specs.Calls.{Routine}
 use Rattle.rules.specs.Verdict as verdict
-use Rattle.rules.specs.declared.KnownEnd.{KnownEnd}
-use Rattle.rules.specs.declared.KnownEnd.TheVariants.{Known, Unknown}
 use Rattle.rules.specs.declared.Bounds.{Bounds}
 use Rattle.rules.specs.declared.Environment.{Environment}
 use Rattle.rules.specs.declared.Effect.{Effect}
@@ -29,10 +26,10 @@ abbrev pub same_end : End → End → Bool
 same_end e g = eqb e.pointer g.pointer && eqb e.integer g.integer && eqb e.constant g.constant
 
 -- Sums of 64 bits hold the constants that arise; any other end is unknown.
-unfoldable pub shift_constant : ℕ → ℕ → End → KnownEnd
+unfoldable pub shift_constant : ℕ → ℕ → End → Option End
 shift_constant w k e =
     cond (leb w 8 && ltb k (2 ^ 40) && ltb e.constant (2 ^ 40) && leb (w * k) (e.constant + w * bias))
-    (Known (record { pointer = e.pointer; integer = e.integer; constant = e.constant + w * bias - w * k })) Unknown
+    (Some (record { pointer = e.pointer; integer = e.integer; constant = e.constant + w * bias - w * k })) None
 
 abbrev pub store : FactSets
 store = record {
@@ -86,7 +83,7 @@ entry_facts = facts.entry_facts store
 
 -- ---- bounds
 
-abbrev pub shift_end : ℕ → ℕ → ℕ → KnownEnd → KnownEnd
+abbrev pub shift_end : ℕ → ℕ → ℕ → Option End → Option End
 shift_end = bounds.shift_end store
 
 abbrev pub shift_bounds : ℕ → ℕ → Bounds → Bounds
@@ -104,7 +101,7 @@ effect = bounds.effect store
 abbrev pub end_at_most : FactSet → ℕ → End → ℕ → End → Bool
 end_at_most = bounds.end_at_most store
 
-abbrev pub known_at_most : FactSet → ℕ → KnownEnd → ℕ → KnownEnd → Bool
+abbrev pub known_at_most : FactSet → ℕ → Option End → ℕ → Option End → Bool
 known_at_most = bounds.known_at_most store
 
 abbrev pub bounds_shown : FactSet → ℕ → Bounds → Bounds → Bool
@@ -186,7 +183,7 @@ block_faults = walk.block_faults store
 abbrev pub section_faults : List Routine → List ℤ → Sections → List ℤ → List Refusal
 section_faults = verdict.section_faults store
 
-abbrev pub form_faults : List Routine → List ℤ → List ℤ → Form → List Refusal
+abbrev pub form_faults : List Routine → List ℤ → List ℤ → Result Sections Refusal → List Refusal
 form_faults = verdict.form_faults store
 
 abbrev pub faults : List Routine → List ℤ → List ℤ → List Refusal

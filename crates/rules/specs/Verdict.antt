@@ -1,5 +1,7 @@
 -- The verdict on a table (document 01, "Causes of refusal"): causes 1 to 6 over the whole table, then the first fault of the walk.
-use Rattle.std.specs.Prelude.{ℕ, ◌≡◌, List, [], ◌∷◌, ℤ}
+use Rattle.table.specs.declared.variables.BoundsRow.{BoundsRow}
+use Rattle.table.specs.declared.variables.Variable.{Variable}
+use Rattle.std.specs.Prelude.{ℕ, ◌≡◌, List, [], ◌∷◌, ℤ, Err, None, Ok, Option, Result, Some}
 use Rattle.arrays.specs.Tabulate.{tabulate}
 use Rattle.answers.specs.Refusals.{number, place, pointer}
 use Rattle.answers.specs.declared.refusals.Refusal.{Refusal}
@@ -7,12 +9,7 @@ use Rattle.words.specs.Sections.{pointer_at, string_at, object_terminated}
 use Rattle.words.specs.declared.sections.Sections.{Sections}
 use Rattle.table.specs.Variables.{variable_at, object_at, row_at}
 use Rattle.table.specs.declared.variables.Variable.TheVariants.{Integer, Pointer}
-use Rattle.table.specs.declared.variables.VariableRead.{VariableRead}
-use Rattle.table.specs.declared.variables.VariableRead.TheVariants.{Read, Unread}
-use Rattle.table.specs.declared.variables.RowRead.{RowRead}
 use Rattle.table.specs.Form.{form_of}
-use Rattle.table.specs.declared.Form.{Form}
-use Rattle.table.specs.declared.Form.TheVariants as form
 use Rattle.blocks.specs.Tree.{tree}
 use Rattle.blocks.specs.Layout.{also, layout}
 use Rattle.listed.specs.ListForm.{list_faults}
@@ -20,30 +17,26 @@ use Rattle.rules.specs.FactSets.{FactSets}
 use Rattle.rules.specs.BoundsRules.{nothing_known, upper_limit}
 use Rattle.rules.specs.Rules.{new_state, block_faults}
 use Rattle.rules.specs.Calls.{Routine}
-use Rattle.rules.specs.declared.KnownEnd.TheVariants.{Known}
 use Rattle.rules.specs.declared.Bounds.{Bounds}
 use Rattle.rules.specs.declared.Environment.{Environment}
-use Rattle.rules.specs.declared.Verdict.{Verdict}
-use Rattle.rules.specs.declared.Verdict.TheVariants.{Accepted, Refused}
-use Rattle.table.specs.declared.variables.RowRead.TheVariants as row
 
 -- ---- what a table declares
 
-abbrev pub bounds_of : VariableRead → Bounds
-bounds_of (Read (Pointer s l u)) = record { size = s; lower = Known l; upper = Known u }
-bounds_of (Read Integer) = nothing_known
-bounds_of Unread = nothing_known
+abbrev pub bounds_of : Option Variable → Bounds
+bounds_of (Some (Pointer s l u)) = record { size = s; lower = Some l; upper = Some u }
+bounds_of (Some Integer) = nothing_known
+bounds_of None = nothing_known
 
 -- Point 10: the element size of a pointer; of any other variable 1.
-abbrev pub variable_size : VariableRead → ℕ
-variable_size (Read (Pointer s l u)) = s
-variable_size (Read Integer) = 1
-variable_size Unread = 1
+abbrev pub variable_size : Option Variable → ℕ
+variable_size (Some (Pointer s l u)) = s
+variable_size (Some Integer) = 1
+variable_size None = 1
 
 -- Point 2: "bounds rows of six words, two ends each". (Their size is that of the pointer of the kind 14: `row_bound`.)
-abbrev pub row_bounds : RowRead → Bounds
-row_bounds (row.Read l u) = record { size = 1; lower = Known l; upper = Known u }
-row_bounds row.Unread = nothing_known
+abbrev pub row_bounds : Option BoundsRow → Bounds
+row_bounds (Some r) = record { size = 1; lower = Some r.lower; upper = Some r.upper }
+row_bounds None = nothing_known
 
 -- Of variables, of objects and of rows one entry for each number; where zero, the number 16, is asked about too, one for it.
 unfoldable pub environment_of : List ℤ → Sections → Environment
@@ -67,18 +60,18 @@ module _ (S : FactSets) (callees : List Routine) where
   section_faults T h L = also (layout T h) (also (list_faults T h L) (block_faults S (environment_of T h) L callees (tree T h) (new_state S)))
 
   -- The first of the causes 1 to 5, else what follows them.
-  abbrev pub form_faults : List ℤ → List ℤ → Form → List Refusal
-  form_faults T L (form.Refused r) = r ∷ []
-  form_faults T L (form.WellFormed h) = section_faults T h L
+  abbrev pub form_faults : List ℤ → List ℤ → Result Sections Refusal → List Refusal
+  form_faults T L (Err r) = r ∷ []
+  form_faults T L (Ok h) = section_faults T h L
 
   -- The faults of a table and its list in the order of the paper, of causes 1 to 5 the first alone. The first is the verdict; a table with none is accepted.
   unfoldable pub faults : List ℤ → List ℤ → List Refusal
   faults T L = form_faults T L (form_of T)
 
 -- The verdict: "accepted if the printed rules accept it and refused, by the first rule it breaks, if they do not".
-unfoldable pub verdict_of : List Refusal → Verdict
-verdict_of [] = Accepted
-verdict_of (r ∷ rs) = Refused r
+unfoldable pub verdict_of : List Refusal → Result (Unit {0}) Refusal
+verdict_of [] = Ok tt
+verdict_of (r ∷ rs) = Err r
 
 -- ---- what a verdict reads as, in the paper's numbers
 
@@ -87,9 +80,9 @@ pub data Reading : Type 0 where
   -- the refusal's number, its place, its pointer
   refused : ℕ → ℕ → ℕ → Reading
 
-abbrev pub verdict_reads : Verdict → Reading
-verdict_reads Accepted = accepted
-verdict_reads (Refused r) = refused (number r) (place r) (pointer r)
+abbrev pub verdict_reads : Result (Unit {0}) Refusal → Reading
+verdict_reads (Ok tt) = accepted
+verdict_reads (Err r) = refused (number r) (place r) (pointer r)
 
 -- "refused, by the first rule it breaks"
 abbrev pub first_reads : List Refusal → Reading
@@ -97,6 +90,6 @@ first_reads [] = accepted
 first_reads (r ∷ rs) = refused (number r) (place r) (pointer r)
 
 -- What a verdict says, given all faults.
-pub record Says (fs : List Refusal) (v : Verdict) : Type 0 where
+pub record Says (fs : List Refusal) (v : Result (Unit {0}) Refusal) : Type 0 where
   pub verdict : v ≡ verdict_of fs
   pub reads : verdict_reads v ≡ first_reads fs

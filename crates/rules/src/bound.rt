@@ -4,7 +4,7 @@ ghost use Rattle.rules.specs.BoundsRules.{nothing_known, element_size, row_bound
 ghost use Rattle.rules.specs.Verdict.{environment_of};
 
 use crate::declarations::{bounds_of, row_bounds, variable_size};
-use crate::{Bounds, KnownEnd};
+use crate::{Bounds, NOTHING_KNOWN};
 use words::sections::Sections;
 
 // The bounds that the pointer p itself declares.
@@ -14,11 +14,7 @@ fn read_own(table: &[i32], sections: Sections, p: usize) -> Bounds
     if p < 16 {
         return bounds_of(table::variables::read_variable(table, sections, p));
     }
-    Bounds {
-        size: 1,
-        lower: KnownEnd::Unknown,
-        upper: KnownEnd::Unknown,
-    }
+    NOTHING_KNOWN
 }
 
 fn read_size(table: &[i32], sections: Sections, p: usize) -> u64
@@ -36,11 +32,7 @@ fn row_at(table: &[i32], sections: Sections, row: usize) -> Bounds
     if row < 64 {
         return row_bounds(table::variables::read_row(table, sections, row));
     }
-    Bounds {
-        size: 1,
-        lower: KnownEnd::Unknown,
-        upper: KnownEnd::Unknown,
-    }
+    NOTHING_KNOWN
 }
 
 // The bounds that a number in force stands for: 0 the pointer's own, else the row's number and 1.

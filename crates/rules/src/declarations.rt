@@ -6,130 +6,83 @@ ghost use Rattle.table.specs.Variables.{variable_at, row_at, object_at};
 ghost use Rattle.rules.specs.BoundsRules.{upper_limit};
 ghost use Rattle.rules.specs.Verdict.{bounds_of, variable_size, row_bounds, environment_of};
 
-use crate::{Bounds, Environment, KnownEnd};
-use table::variables::{RowRead, Variable, VariableRead};
+use crate::{Bounds, Environment, NOTHING_KNOWN};
+use std::array;
+use table::variables::{BoundsRow, Variable};
 use words::sections::Sections;
 
 // The declared bounds of a variable; an integer has none.
-pub(crate) fn bounds_of(read: VariableRead) -> Bounds
+pub(crate) fn bounds_of(read: Option<Variable>) -> Bounds
     ensures { result ≡ bounds_of read }
 {
-    let unknown = Bounds {
-        size: 1,
-        lower: KnownEnd::Unknown,
-        upper: KnownEnd::Unknown,
-    };
-    let VariableRead::Read(variable) = read else {
-        return unknown;
-    };
-    match variable {
-        Variable::Integer => unknown,
-        Variable::Pointer { size, lower, upper } => Bounds {
+    match read {
+        Some(Variable::Pointer { size, lower, upper }) => Bounds {
             size,
-            lower: KnownEnd::Known(lower),
-            upper: KnownEnd::Known(upper),
+            lower: Some(lower),
+            upper: Some(upper),
         },
+        _ => NOTHING_KNOWN,
     }
 }
 
 // The bounds of a row.
-pub(crate) fn row_bounds(read: RowRead) -> Bounds
+pub(crate) fn row_bounds(read: Option<BoundsRow>) -> Bounds
     ensures { result ≡ row_bounds read }
 {
-    let RowRead::Read { lower, upper } = read else {
-        return Bounds {
-            size: 1,
-            lower: KnownEnd::Unknown,
-            upper: KnownEnd::Unknown,
-        };
+    let Some(BoundsRow { lower, upper }) = read else {
+        return NOTHING_KNOWN;
     };
     Bounds {
         size: 1,
-        lower: KnownEnd::Known(lower),
-        upper: KnownEnd::Known(upper),
+        lower: Some(lower),
+        upper: Some(upper),
     }
 }
 
 // The element size of a variable; 1 for an integer.
-pub(crate) fn variable_size(read: VariableRead) -> u64
+pub(crate) fn variable_size(read: Option<Variable>) -> u64
     ensures { result ≡ variable_size read }
 {
-    let VariableRead::Read(variable) = read else {
-        return 1;
-    };
-    match variable {
-        Variable::Integer => 1,
-        Variable::Pointer {
-            size,
-            lower: _,
-            upper: _,
-        } => size,
+    match read {
+        Some(Variable::Pointer { size, .. }) => size,
+        _ => 1,
     }
 }
 
 pub fn read_sizes(table: &[i32], sections: Sections) -> [u64; 16]
     ensures { result ≡ tabulate 16 (λ v. variable_size (variable_at table.now sections v)) }
 {
-    let mut sizes = [1; 16];
-    for v in 0..16 {
-        sizes[v] = variable_size(table::variables::read_variable(table, sections, v));
-    }
-    sizes
+    array::from_fn(|v| variable_size(table::variables::read_variable(table, sections, v)))
 }
 
 pub fn read_pointers(table: &[i32], sections: Sections) -> [bool; 17]
     ensures { result ≡ tabulate 17 (pointer_at table.now sections) }
 {
-    let mut pointers = [false; 17];
-    for v in 0..17 {
-        pointers[v] = words::sections::is_pointer(table, sections, v);
-    }
-    pointers
+    array::from_fn(|v| words::sections::is_pointer(table, sections, v))
 }
 
 pub fn read_strings(table: &[i32], sections: Sections) -> [bool; 17]
     ensures { result ≡ tabulate 17 (string_at table.now sections) }
 {
-    let mut strings = [false; 17];
-    for v in 0..17 {
-        strings[v] = words::sections::is_string(table, sections, v);
-    }
-    strings
+    array::from_fn(|v| words::sections::is_string(table, sections, v))
 }
 
 pub fn read_declared(table: &[i32], sections: Sections) -> [Bounds; 16]
     ensures { result ≡ tabulate 16 (λ v. bounds_of (variable_at table.now sections v)) }
 {
-    let unknown = Bounds {
-        size: 1,
-        lower: KnownEnd::Unknown,
-        upper: KnownEnd::Unknown,
-    };
-    let mut declared = [unknown; 16];
-    for v in 0..16 {
-        declared[v] = bounds_of(table::variables::read_variable(table, sections, v));
-    }
-    declared
+    array::from_fn(|v| bounds_of(table::variables::read_variable(table, sections, v)))
 }
 
 fn read_lengths(table: &[i32], sections: Sections) -> [u64; 16]
     ensures { result ≡ tabulate 16 (object_at table.now sections) }
 {
-    let mut lengths = [0; 16];
-    for o in 0..16 {
-        lengths[o] = table::variables::read_object(table, sections, o);
-    }
-    lengths
+    array::from_fn(|o| table::variables::read_object(table, sections, o))
 }
 
 fn read_terminated(table: &[i32], sections: Sections) -> [bool; 16]
     ensures { result ≡ tabulate 16 (object_terminated table.now sections) }
 {
-    let mut terminated = [false; 16];
-    for o in 0..16 {
-        terminated[o] = words::sections::object_terminated(table, sections, o);
-    }
-    terminated
+    array::from_fn(|o| words::sections::object_terminated(table, sections, o))
 }
 
 // The upper limit of bounds in an object with the end `high`: all but the last cell of a terminated object.
@@ -145,29 +98,18 @@ pub fn upper_limit(terminated: bool, high: u64) -> u64
 pub fn read_spans(table: &[i32], sections: Sections) -> [u64; 16]
     ensures { result ≡ tabulate 16 (λ o. upper_limit (object_terminated table.now sections o) (object_at table.now sections o)) }
 {
-    let mut spans = [0; 16];
-    for o in 0..16 {
-        spans[o] = upper_limit(
+    array::from_fn(|o| {
+        upper_limit(
             words::sections::object_terminated(table, sections, o),
             table::variables::read_object(table, sections, o),
-        );
-    }
-    spans
+        )
+    })
 }
 
 fn read_rows(table: &[i32], sections: Sections) -> [Bounds; 64]
     ensures { result ≡ tabulate 64 (λ v. row_bounds (row_at table.now sections v)) }
 {
-    let unknown = Bounds {
-        size: 1,
-        lower: KnownEnd::Unknown,
-        upper: KnownEnd::Unknown,
-    };
-    let mut rows = [unknown; 64];
-    for v in 0..64 {
-        rows[v] = row_bounds(table::variables::read_row(table, sections, v));
-    }
-    rows
+    array::from_fn(|v| row_bounds(table::variables::read_row(table, sections, v)))
 }
 
 pub fn read_environment(table: &[i32], sections: Sections) -> Environment

@@ -3,7 +3,7 @@
 
 mod bound; // bound.rt: one bound that is in force
 mod declarations; // declarations.rt: what a table declares
-pub mod lookups; // lookups.rt: what is declared of a variable or an object by its number; of a number that has none, what the definitions say
+pub mod lookups; // lookups.rt: what stands at an index, past the end what the definitions say; the rows in force
 
 pub use bound::read_bound;
 pub use declarations::{
@@ -12,20 +12,20 @@ pub use declarations::{
 };
 use table::variables::End;
 
-// An end of the bounds that are known of a pointer.
-#[derive(Clone, Copy)]
-pub enum KnownEnd {
-    Known(End),
-    Unknown,
-}
-
 // The bounds that are known of a pointer, with the element size they came with: an end's value is pointer + size times integer + constant.
 #[derive(Clone, Copy)]
 pub struct Bounds {
     pub size: u64,
-    pub lower: KnownEnd,
-    pub upper: KnownEnd,
+    pub lower: Option<End>,
+    pub upper: Option<End>,
 }
+
+// Nothing is known of the bounds.
+pub const NOTHING_KNOWN: Bounds = Bounds {
+    size: 1,
+    lower: None,
+    upper: None,
+};
 
 // What a table declares, read once: which variables are pointers, which of them are of kind 2, their element sizes (1 for an integer), the declared bounds
 // (unknown for an integer), the lengths of the objects, which of them are terminated, the upper limits of bounds in them, the bounds rows (unknown where
@@ -64,18 +64,9 @@ pub enum Effect {
     },
 }
 
+// Which routine of a set is refused, and why.
 #[derive(Clone, Copy)]
-pub enum Verdict {
-    Accepted,
-    Refused(answers::refusals::Refusal),
-}
-
-// The verdict on a set: which routine is refused, and why.
-#[derive(Clone, Copy)]
-pub enum SetVerdict {
-    Accepted,
-    Refused {
-        routine: usize,
-        refusal: answers::refusals::Refusal,
-    },
+pub struct SetRefusal {
+    pub routine: usize,
+    pub refusal: answers::refusals::Refusal,
 }

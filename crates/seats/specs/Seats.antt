@@ -1,5 +1,6 @@
 -- Before the turns: each routine passes all that its run alone checks, and what its run needs is laid out.
-use Rattle.std.specs.Prelude.{ℕ, ◌*◌, ◌/◌, ◌<◌, ◌≤◌, ◌≡◌, List, length, take}
+use Rattle.rules.specs.declared.SetRefusal.{SetRefusal}
+use Rattle.std.specs.Prelude.{ℕ, ◌*◌, ◌/◌, ◌<◌, ◌≤◌, ◌≡◌, List, length, take, Err, Ok, Result}
 use Rattle.answers.specs.declared.refusals.Refusal.{Refusal}
 use Rattle.answers.specs.declared.stops.Outcome.TheVariants.{Refused}
 use Rattle.rules.specs.Stored.{store}
@@ -13,10 +14,6 @@ use Rattle.seats.specs.Parts.{kinds, table_kind, directory_kind, values_kind}
 use Rattle.seats.specs.SeatAt.{seat_at}
 use Rattle.seats.specs.declared.Places.{Places}
 use Rattle.seats.specs.declared.Seat.{Seat}
-use Rattle.seats.specs.declared.Seated.{Seated}
-use Rattle.seats.specs.declared.Seated.TheVariants as one
-use Rattle.seats.specs.declared.AllSeated.{AllSeated}
-use Rattle.seats.specs.declared.AllSeated.TheVariants as all
 
 -- Where the parts of routine r lie.
 abbrev pub places_of : Lends → ℕ → Places
@@ -48,12 +45,12 @@ LaidOut l r ends S =
     (ends_at ends r) (successors_at S r)
 
 -- What becomes of routine r: its run alone is refused, or it has a seat.
-abbrev pub SeatedAs : Seated → Lends → ℕ → List ℕ → List ℕ → Type 0
-SeatedAs (one.Refused f) l r ends S = First (run_faults (table_at l r) (listed_at l r) (lent_to l r) store) f
-SeatedAs (one.Begun s) l r ends S = (s ≡ start_seat l r) × LaidOut l r ends S
+abbrev pub SeatedAs : Result Seat Refusal → Lends → ℕ → List ℕ → List ℕ → Type 0
+SeatedAs (Err f) l r ends S = First (run_faults (table_at l r) (listed_at l r) (lent_to l r) store) f
+SeatedAs (Ok s) l r ends S = (s ≡ start_seat l r) × LaidOut l r ends S
 
 -- The scratch of earlier routines is as it was.
-pub record SeatResult (l : Lends) (r : ℕ) (s : Seated) (ends S ends' S' : List ℕ) : Type 0 where
+pub record SeatResult (l : Lends) (r : ℕ) (s : Result Seat Refusal) (ends S ends' S' : List ℕ) : Type 0 where
   pub seated-as : SeatedAs s l r ends' S'
   pub ends-front : take (512 * r) ends' ≡ take (512 * r) ends
   pub flow-front : take (2048 * r) S' ≡ take (2048 * r) S
@@ -75,6 +72,6 @@ pub record RefusedAt (l : Lends) (r : ℕ) (f : Refusal) : Type 0 where
   pub earlier : (k : ℕ) → k < r → Begins (table_at l k) (listed_at l k) (lent_to l k)
   pub first : First (run_faults (table_at l r) (listed_at l r) (lent_to l r) store) f
 
-abbrev pub AllSeatedAs : AllSeated → Lends → List Seat → List ℕ → List ℕ → Type 0
-AllSeatedAs (all.Refused r f) l seats ends S = RefusedAt l r f
-AllSeatedAs all.Ready l seats ends S = ReadyTo l (count_of l) seats ends S
+abbrev pub AllSeatedAs : Result (Unit {0}) SetRefusal → Lends → List Seat → List ℕ → List ℕ → Type 0
+AllSeatedAs (Err x) l seats ends S = RefusedAt l x.routine x.refusal
+AllSeatedAs (Ok _) l seats ends S = ReadyTo l (count_of l) seats ends S

@@ -1,5 +1,5 @@
 -- Laws of what is laid out before the turns.
-use Rattle.std.specs.Prelude.{ℕ, ◌+◌, ◌-◌, ◌*◌, ◌≤◌, ◌<◌, ◌≡◌, refl, List, length, set}
+use Rattle.std.specs.Prelude.{ℕ, ◌+◌, ◌-◌, ◌*◌, ◌≤◌, ◌<◌, ◌≡◌, refl, List, length, set, Err, Ok, Result}
 use Rattle.std.proofs.Common.{sym, ◌∙◌, arith, lt-ltb, le-ltb, length-set, get_or-set_same, get_or-set_other}
 use Rattle.std.proofs.Math.Decide.{ℕ_discrete}
 use borrow.Rule.Slice.PartMut.{put_mid, take_put, mid_len}
@@ -12,8 +12,6 @@ use Rattle.machine.specs.Machine.{going}
 use Rattle.interpreter.specs.Claim.{Lent}
 use Rattle.interpreter.specs.Starts.{Launched, Starts}
 use Rattle.interpreter.specs.Outcomes.{outcome_shown}
-use Rattle.interpreter.specs.declared.starts.Start.{Start}
-use Rattle.interpreter.specs.declared.starts.Start.TheVariants as begin
 use Rattle.turns.specs.TurnsLaws.{by_order}
 use Rattle.parts.specs.Parts.{window, between, span_of}
 use Rattle.seats.specs.Parts.{kinds}
@@ -25,8 +23,6 @@ use Rattle.seats.specs.SeatAt.{nobody}
 use Rattle.seats.specs.Seats.{ends_at, successors_at, start_seat, LaidOut, SeatedAs, SeatResult, Ready, ReadyTo, RefusedAt}
 use Rattle.seats.specs.declared.Seat.{Seat}
 use Rattle.parts.specs.declared.Span.{Span}
-use Rattle.seats.specs.declared.Seated.{Seated}
-use Rattle.seats.specs.declared.Seated.TheVariants as one
 
 pub first-spent : (h : Sections) → 0 < h.statements → Spent 0 0 ≡ outcome_shown h going 0 0
 first-spent h l = rw (lt-ltb 0 h.statements l)
@@ -62,10 +58,10 @@ module _ (l : Lends) (r : ℕ) (few : r < 8) {t i d v o : Span} (table : t ≡ s
     (listed : i ≡ span_of l.lengths kinds 1 r (length l.listed))
     (directory : d ≡ span_of l.lengths kinds 2 r (length l.directories)) (values : v ≡ span_of l.lengths kinds 3 r (length l.values))
     (origins : o ≡ span_of l.lengths kinds 4 r (length l.origins)) where
-  abbrev StartsIn : Start → List ℕ → List ℕ → Type 0
+  abbrev StartsIn : Result Sections Refusal → List ℕ → List ℕ → Type 0
   StartsIn x W X = Starts x (between t l.tables) (between i l.listed) (lent_parts l d v o) W X
 
-  parts-lent : (x : Start) (W X : List ℕ) → StartsIn x W X → Starts x (table_at l r) (listed_at l r) (lent_to l r) W X
+  parts-lent : (x : Result Sections Refusal) (W X : List ℕ) → StartsIn x W X → Starts x (table_at l r) (listed_at l r) (lent_to l r) W X
   parts-lent x W X y = rw (
     table,
     listed,
@@ -97,19 +93,19 @@ module _ (l : Lends) (r : ℕ) (few : r < 8) {t i d v o : Span} (table : t ≡ s
         let k : length X ≡ 2048 = m ∙ (scratch-long r ends S few ends-long flow-long).1 in
         rw k at (put-replaced (2048 * r) (2048 * r + 2048) S X (omega arith) (omega arith) (k ∙ sym (flow-size r))).here
 
-    fronts : (s : Seated) → SeatedAs s l r ends' S' → SeatResult l r s ends S ends' S'
+    fronts : (s : Result Seat Refusal) → SeatedAs s l r ends' S' → SeatResult l r s ends S ends' S'
     fronts s x = record {
       seated-as = x;
       ends-front = take_put (512 * r) (512 * r + 512 - 512 * r) ends W (omega arith);
       flow-front = take_put (2048 * r) (2048 * r + 2048 - 2048 * r) S X (omega arith);
     }
 
-    pub seat-refused : {x : Start} {f : Refusal} → x ≡ begin.Refused f → StartsIn x W X → SeatResult l r (one.Refused f) ends S ends' S'
-    seat-refused {x} {f} e y = fronts (one.Refused f) (rw e at (parts-lent x W X y))
+    pub seat-refused : {x : Result Sections Refusal} {f : Refusal} → x ≡ Err f → StartsIn x W X → SeatResult l r (Err f) ends S ends' S'
+    seat-refused {x} {f} e y = fronts (Err f) (rw e at (parts-lent x W X y))
 
-    pub seat-begun : {x : Start} {h : Sections} {u : Outcome} → x ≡ begin.Begun h → StartsIn x W X → u ≡ outcome_shown h going 0 0
-        → SeatResult l r (one.Begun (record { sections = h; places = record { table = t; directory = d; values = v }; outcome = u })) ends S ends' S'
-    seat-begun {x} {h} {u} e y z = fronts (one.Begun _) (begun-as (rw e at (parts-lent x W X y)))
+    pub seat-begun : {x : Result Sections Refusal} {h : Sections} {u : Outcome} → x ≡ Ok h → StartsIn x W X → u ≡ outcome_shown h going 0 0
+        → SeatResult l r (Ok (record { sections = h; places = record { table = t; directory = d; values = v }; outcome = u })) ends S ends' S'
+    seat-begun {x} {h} {u} e y z = fronts (Ok _) (begun-as (rw e at (parts-lent x W X y)))
       where
         begun-as : Launched (table_at l r) h (listed_at l r) (lent_to l r).directory l.cells (lent_to l r).values (lent_to l r).origins W X
             → (◌≡◌ {A = Seat} (record { sections = h; places = record { table = t; directory = d; values = v }; outcome = u }) (start_seat l r))
@@ -126,7 +122,7 @@ pub ready-none : (l : Lends) (seats : List Seat) (ends S : List ℕ) → length 
 ready-none l seats ends S a b c = record { seats-long = a; ends-long = b; flow-long = c; ready = λ k i. absurd (omega arith) }
 
 module _ {l : Lends} {r : ℕ} {seats : List Seat} {ends S : List ℕ} (R : ReadyTo l r seats ends S) where
-  pub ready-more : {s : Seat} {x : Seated} {ends' S' : List ℕ} → r < 8 → x ≡ one.Begun s → SeatResult l r x ends S ends' S' → length ends' ≡ length ends
+  pub ready-more : {s : Seat} {x : Result Seat Refusal} {ends' S' : List ℕ} → r < 8 → x ≡ Ok s → SeatResult l r x ends S ends' S' → length ends' ≡ length ends
       → length S' ≡ length S → ReadyTo l (r + 1) (set seats r s) ends' S'
   ready-more {s} {x} {ends'} {S'} few e y n m = record {
     seats-long = length-set seats r s ∙ R.seats-long;
@@ -153,7 +149,8 @@ module _ {l : Lends} {r : ℕ} {seats : List Seat} {ends S : List ℕ} (R : Read
           below : (k r : ℕ) → k < r + 1 → (k ≡ r → ⊥) → k < r
           below k r b d = by_order k r (λ (z : k < r). z) (λ z. absurd (d (omega arith)))
 
-  pub ready_refused : {f : Refusal} {x : Seated} {ends' S' : List ℕ} → r < count_of l → x ≡ one.Refused f → SeatResult l r x ends S ends' S' → RefusedAt l r f
+  pub ready_refused : {f : Refusal} {x : Result Seat Refusal} {ends' S' : List ℕ} → r < count_of l → x ≡ Err f → SeatResult l r x ends S ends' S'
+      → RefusedAt l r f
   ready_refused b e y = record {
     within = b;
     earlier = λ k i. launched-begins (R.ready k i).laid_out;

@@ -9,8 +9,9 @@ ghost use Rattle.seats.specs.Seats.{SeatResult, AllSeatedAs, CountIs};
 
 use answers::refusals::Refusal;
 use answers::stops::Outcome;
-use interpreter::starts::{Start, prepare};
+use interpreter::starts::prepare;
 use parts::{Span, span_of};
+use rules::SetRefusal;
 use words::sections::Sections;
 
 // Where a routine's parts lie.
@@ -29,24 +30,10 @@ pub struct Seat {
     pub outcome: Outcome,
 }
 
-// What becomes of one routine.
-#[derive(Clone, Copy)]
-pub enum Seated {
-    Refused(Refusal),
-    Begun(Seat),
-}
-
-// What becomes of all: the first that is refused, or all are ready.
-#[derive(Clone, Copy)]
-pub enum AllSeated {
-    Refused { routine: usize, refusal: Refusal },
-    Ready,
-}
-
 // What becomes of all, with the seats.
 #[derive(Clone, Copy)]
 pub struct Prepared {
-    pub seated: AllSeated,
+    pub seated: Result<(), SetRefusal>,
     pub seats: [Seat; 8],
 }
 
@@ -100,7 +87,7 @@ fn seat_routine(
     ends: &mut [u64],
     successors: &mut [u32],
     r: usize,
-) -> Seated
+) -> Result<Seat, Refusal>
     requires { (r < 8) × (length ends.old ≡ 4096) × (length successors.old ≡ 16384) }
     ensures { SeatResult (record {
       tables = tables.entry.now;
@@ -131,7 +118,7 @@ fn seat_routine(
     let ends_end = ends_start + 512;
     let flow_start = 2048 * r;
     let flow_end = flow_start + 2048;
-    let start = prepare(
+    let sections = prepare(
         &tables[table_start..table_end],
         &listed[list_start..list_end],
         &directories[directory_start..directory_end],
@@ -140,23 +127,18 @@ fn seat_routine(
         &origins[origins_start..origins_end],
         &mut ends[ends_start..ends_end],
         &mut successors[flow_start..flow_end],
-    );
-    match start {
-        Start::Refused(refusal) => Seated::Refused(refusal),
-        Start::Begun(sections) => {
-            let places = Places {
-                table: table,
-                directory: directory,
-                values: own,
-            };
-            let outcome = first_outcome(sections);
-            Seated::Begun(Seat {
-                sections: sections,
-                places: places,
-                outcome: outcome,
-            })
-        }
-    }
+    )?;
+    let places = Places {
+        table,
+        directory,
+        values: own,
+    };
+    let outcome = first_outcome(sections);
+    Ok(Seat {
+        sections,
+        places,
+        outcome,
+    })
 }
 
 // All routines by number, up to the first that is refused.
@@ -185,8 +167,7 @@ pub fn seat_all(
 {
     let seat = no_seat();
     let mut seats = [seat; 8];
-    let mut r = 0;
-    while r < count {
+    for r in 0..count {
         let seated = seat_routine(
             tables,
             listed,
@@ -200,23 +181,22 @@ pub fn seat_all(
             r,
         );
         match seated {
-            Seated::Refused(refusal) => {
+            Err(refusal) => {
                 return Prepared {
-                    seated: AllSeated::Refused {
+                    seated: Err(SetRefusal {
                         routine: r,
-                        refusal: refusal,
-                    },
-                    seats: seats,
+                        refusal,
+                    }),
+                    seats,
                 };
             }
-            Seated::Begun(seat) => {
+            Ok(seat) => {
                 seats[r] = seat;
             }
         }
-        r += 1;
     }
     Prepared {
-        seated: AllSeated::Ready,
-        seats: seats,
+        seated: Ok(()),
+        seats,
     }
 }

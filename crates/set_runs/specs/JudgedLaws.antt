@@ -1,5 +1,6 @@
 -- The promise of a run of a set from its verdict: exactly one of the four cases applies.
-use Rattle.std.specs.Prelude.{ℕ, ◌≤◌, ◌<◌, ◌≡◌, Bool, ◌&&◌, List, ℤ}
+use Rattle.rules.specs.declared.SetRefusal.{SetRefusal}
+use Rattle.std.specs.Prelude.{ℕ, ◌≤◌, ◌<◌, ◌≡◌, Bool, ◌&&◌, List, ℤ, Err, None, Ok, Option, Result, Some}
 use Rattle.std.proofs.Math.Path.{refl}
 use Rattle.std.proofs.Common.{sym, ap, ◌∙◌, ⊎_elim, eq-or-lt_of_le, arith, le-leb, leb-true, leb-false}
 use Rattle.std.proofs.Math.Bool.{true, false}
@@ -11,33 +12,26 @@ use Rattle.answers.specs.declared.refusals.Refusal.TheVariants.{RoutineCount}
 use Rattle.answers.specs.declared.stops.Outcome.TheVariants as outcome
 use Rattle.rules.proofs.Decidable.{decider, decider-decides}
 use Rattle.rules.specs.Sets.{member_of, RoutineJudged, count_right, FirstRefused, AllAccepted, SetRefused, SetJudged}
-use Rattle.rules.specs.declared.SetVerdict.{SetVerdict}
-use Rattle.rules.specs.declared.SetVerdict.TheVariants as whole
-use Rattle.rules.specs.declared.Verdict.{Verdict}
-use Rattle.rules.specs.declared.Verdict.TheVariants.{Accepted, Refused}
 use Rattle.interpreter.specs.Claim.{Lent, Leaves, NotBegun, SetRunJudged}
 use Rattle.sets.specs.Checked.{member_words, SetAnswered}
-use Rattle.sets.specs.declared.SetChecked.{SetChecked}
-use Rattle.sets.specs.declared.SetChecked.TheVariants as checked
 use Rattle.set_runs.specs.SetRuns.{leaves, RunsAccepted, room_enough, SetRunAnswered}
 use Rattle.set_runs.specs.declared.SetOutcome.{SetOutcome}
-use Rattle.set_runs.specs.declared.SetRun.TheVariants as run
 
 never : {A : Type 0} → ◌≡◌ {A = ℕ} 0 1 → A
 never z = absurd (omega arith)
 
 -- A routine has one verdict.
-judged-same : (Ts : List (List ℤ)) (n : ℕ) (v w : Verdict) → RoutineJudged Ts n v → RoutineJudged Ts n w → v ≡ w
+judged-same : (Ts : List (List ℤ)) (n : ℕ) (v w : Result (Unit {0}) Refusal) → RoutineJudged Ts n v → RoutineJudged Ts n w → v ≡ w
 unfolding RoutineJudged
 judged-same Ts n v w a b =
     let M = member_of Ts n in
     (a.by-each (decider M) (decider-decides M)).verdict ∙ sym (b.by-each (decider M) (decider-decides M)).verdict
 
-not-both : (Ts : List (List ℤ)) (n : ℕ) (r : Refusal) → RoutineJudged Ts n (Refused r) → RoutineJudged Ts n Accepted → ⊥
-not-both Ts n r a b = let e : Refused r ≡ Accepted = judged-same Ts n (Refused r) Accepted a b in let z : ◌≡◌ {A = ℕ} 0 1 = cc in omega arith
+not-both : (Ts : List (List ℤ)) (n : ℕ) (r : Refusal) → RoutineJudged Ts n (Err r) → RoutineJudged Ts n (Ok tt) → ⊥
+not-both Ts n r a b = let e : Err r ≡ (Ok tt) = judged-same Ts n (Err r) (Ok tt) a b in let z : ◌≡◌ {A = ℕ} 0 1 = cc in omega arith
 
-one-refusal : (Ts : List (List ℤ)) (n : ℕ) (r s : Refusal) → RoutineJudged Ts n (Refused r) → RoutineJudged Ts n (Refused s) → r ≡ s
-one-refusal Ts n r s a b = let e : Refused r ≡ Refused s = judged-same Ts n (Refused r) (Refused s) a b in cc
+one-refusal : (Ts : List (List ℤ)) (n : ℕ) (r s : Refusal) → RoutineJudged Ts n (Err r) → RoutineJudged Ts n (Err s) → r ≡ s
+one-refusal Ts n r s a b = let e : Err r ≡ Err s = judged-same Ts n (Err r) (Err s) a b in cc
 
 -- One routine is the first that is refused.
 first-same : (Ts : List (List ℤ)) (n m : ℕ) (r s : Refusal) → FirstRefused Ts n r → FirstRefused Ts m s → (n ≡ m) × (r ≡ s)
@@ -91,11 +85,11 @@ module _ (Ts : List (List ℤ)) (l : Lent) (limit : ℕ) where
         middle true b = refl
         middle false b = refl
 
-    pub no-ends : ends < 4096 → SetRunAnswered (room_enough mem ends succ) Ts l limit run.NoRoom l.values l.cells
+    pub no-ends : ends < 4096 → SetRunAnswered (room_enough mem ends succ) Ts l limit None l.values l.cells
     unfolding SetRunAnswered
     no-ends q = (room_small q, refl, refl)
 
-    pub no-successors : succ < 16384 → SetRunAnswered (room_enough mem ends succ) Ts l limit run.NoRoom l.values l.cells
+    pub no-successors : succ < 16384 → SetRunAnswered (room_enough mem ends succ) Ts l limit None l.values l.cells
     unfolding SetRunAnswered
     no-successors q =
         (ap (λ (b : Bool). leb member_words mem && leb 4096 ends && b) (lt-leb 16384 succ q) ∙ and-two (leb member_words mem) (leb 4096 ends), refl, refl)
@@ -106,8 +100,8 @@ module _ (Ts : List (List ℤ)) (l : Lent) (limit : ℕ) where
         and-two false b = refl
 
     module _ (p : 4096 ≤ ends) (q : 16384 ≤ succ) where
-      pub no_member : {c : SetChecked} → SetAnswered mem Ts c → c ≡ checked.NoRoom
-          → SetRunAnswered (room_enough mem ends succ) Ts l limit run.NoRoom l.values l.cells
+      pub no_member : {c : Option (Result (Unit {0}) SetRefusal)} → SetAnswered mem Ts c → c ≡ None
+          → SetRunAnswered (room_enough mem ends succ) Ts l limit None l.values l.cells
       unfolding SetRunAnswered SetAnswered
       no_member a e =
           let s : mem < member_words = rw e at a in (ap (λ (b : Bool). b && leb 4096 ends && leb 16384 succ) (lt-leb member_words mem s), refl, refl)
@@ -115,7 +109,7 @@ module _ (Ts : List (List ℤ)) (l : Lent) (limit : ℕ) where
       enough : member_words ≤ mem → room_enough mem ends succ ≡ true
       enough m = rw (le-leb member_words mem m, le-leb 4096 ends p, le-leb 16384 succ q) refl
 
-      module _ {c : SetChecked} {v : SetVerdict} (a : SetAnswered mem Ts c) (e : c ≡ checked.Judged v) where
+      module _ {c : Option (Result (Unit {0}) SetRefusal)} {v : Result (Unit {0}) SetRefusal} (a : SetAnswered mem Ts c) (e : c ≡ Some v) where
         judged : (member_words ≤ mem) × SetJudged Ts v
         unfolding SetAnswered
         judged = rw e at a
@@ -123,16 +117,16 @@ module _ (Ts : List (List ℤ)) (l : Lent) (limit : ℕ) where
         pub member-enough : member_words ≤ mem
         member-enough = judged.0
 
-        pub set-accepted : v ≡ whole.Accepted → AllAccepted Ts
+        pub set-accepted : v ≡ Ok tt → AllAccepted Ts
         unfolding SetJudged
         set-accepted f = rw f at judged.1
 
-        pub ran-accepted : {o : SetOutcome} {us ds : List ℕ} → v ≡ whole.Accepted → RunsAccepted Ts l limit (leaves o us ds)
-            → SetRunAnswered (room_enough mem ends succ) Ts l limit (run.Ran o) us ds
+        pub ran-accepted : {o : SetOutcome} {us ds : List ℕ} → v ≡ Ok tt → RunsAccepted Ts l limit (leaves o us ds)
+            → SetRunAnswered (room_enough mem ends succ) Ts l limit (Some o) us ds
         unfolding SetRunAnswered
         ran-accepted f r = (enough member-enough, accepted-judged _ (set-accepted f) r)
 
-        pub ran-refused : {n : ℕ} {r : Refusal} → v ≡ whole.Refused n r
-            → SetRunAnswered (room_enough mem ends succ) Ts l limit (run.Ran (record { outcome = outcome.Refused r; routine = n })) l.values l.cells
+        pub ran-refused : {n : ℕ} {r : Refusal} → v ≡ Err (record { routine = n; refusal = r })
+            → SetRunAnswered (room_enough mem ends succ) Ts l limit (Some (record { outcome = outcome.Refused r; routine = n })) l.values l.cells
         unfolding SetRunAnswered SetJudged
         ran-refused {n} {r} f = (enough member-enough, refused-by (count_right Ts) n r refl (rw f at judged.1))

@@ -1,7 +1,6 @@
 -- Where a run reads the routines of a set. A routine behind the first lists no objects, those of routine 0 are its (rules/Sets, `with_objects`): it is read
--- from
--- as many words before its table on, so that its variables, statements and rows stand where they do with the objects put in. (No step reads a directory or the
--- words of objects.)
+-- from as many words before its table on, so that its variables, statements and rows stand where they do with the objects put in. (No step reads a directory
+-- or the words of objects.)
 use Rattle.std.specs.Prelude.{ℕ, ◌-◌, ◌*◌, cond, List, eqb, ltb, ℤ, length, get_or}
 use Rattle.arrays.specs.Tabulate.{tabulate}
 use Rattle.sums.specs.Numbers.{zero_var}

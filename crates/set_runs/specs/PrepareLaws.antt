@@ -1,5 +1,6 @@
 -- Laws of what a run of a set begins with: the tables as they were checked, the successors, the entry.
-use Rattle.std.specs.Prelude.{ℕ, ◌+◌, ◌-◌, ◌*◌, ◌≤◌, ◌<◌, ◌≡◌, refl, Bool, true, List, [], leb, ℤ, pos, length, get_or, take, drop}
+use Rattle.answers.specs.declared.refusals.Refusal.{Refusal}
+use Rattle.std.specs.Prelude.{ℕ, ◌+◌, ◌-◌, ◌*◌, ◌≤◌, ◌<◌, ◌≡◌, refl, Bool, true, List, [], leb, ℤ, pos, length, get_or, take, drop, Result}
 use Rattle.std.proofs.Common.{sym, ap, ap₂, subst, ◌∙◌, ⊎_elim, eq-or-lt_of_le, arith, length-take, length-drop, ext_get_or, get_or-take}
 use borrow.Author.Tests.{le-leb, leb-true}
 use borrow.Rule.Slice.PartMut.{put_mid}
@@ -21,7 +22,6 @@ use Rattle.rules.specs.Verdict.{environment_of}
 use Rattle.rules.specs.declared.Environment.{Environment}
 use Rattle.entry.specs.Entered.{entered}
 use Rattle.entry.specs.Entry.{entry_refusals}
-use Rattle.entry.specs.declared.EntryVerdict.{EntryVerdict}
 use Rattle.interpreter.specs.AloneLaws.{lends}
 use Rattle.interpreter.specs.Claim.{entry_faults}
 use Rattle.parts.specs.Parts.{window, span_of}
@@ -171,7 +171,7 @@ module _ (W : List ℤ) (L : List ℕ) (accepted : AllAccepted (tables_in W L)) 
 
   -- ---- the entry of the last routine
 
-  pub entered-last : (D cs vs os : List ℕ) {n r : ℕ} {old room : List ℤ} {h : Sections} {E : Environment} {v : EntryVerdict} → n ≡ length L - 1
+  pub entered-last : (D cs vs os : List ℕ) {n r : ℕ} {old room : List ℤ} {h : Sections} {E : Environment} {v : Result (Unit {0}) Refusal} → n ≡ length L - 1
       → Holds (member_of Ts n) old r room → h ≡ sections_of (take r room) → E ≡ environment_of (take r room) h → v ≡ entered (entry_refusals h E D cs vs os)
       → v ≡ entered (entry_faults (tables_in W L) (lends D cs vs os))
   entered-last D cs vs os {n} {r} {old} {room} {h} {E} e k f g x =

@@ -1,5 +1,5 @@
 -- Laws of a level of the interpreter of a set: how it begins, what its stretches ask and leave, a call, a return.
-use Rattle.std.specs.Prelude.{ℕ, ◌+◌, ◌-◌, ◌*◌, ◌^◌, ◌≤◌, ◌<◌, ◌⊎◌, Bool, cond, List, [], leb, ltb, ℤ, length, get_or, drop}
+use Rattle.std.specs.Prelude.{ℕ, ◌+◌, ◌-◌, ◌*◌, ◌^◌, ◌≤◌, ◌<◌, ◌⊎◌, Bool, cond, List, [], leb, ltb, ℤ, length, get_or, drop, Some}
 use Rattle.std.proofs.Math.Path.{◌≡◌, refl, ap}
 use Rattle.std.proofs.Common.{sym, ap₂, subst, ◌∙◌, ⊎_elim, length-take, length-drop}
 use Rattle.std.proofs.Math.Bool.{true, false}
@@ -13,7 +13,6 @@ use Rattle.statements.specs.Decode.{decoded_at, decoded_call_at}
 use Rattle.statements.specs.DecodeLaws.{read-decoded, call-decoded}
 use Rattle.statements.specs.declared.CallSite.{CallSite}
 use Rattle.statements.specs.declared.Statement.TheVariants.{Call}
-use Rattle.statements.specs.declared.StatementRead.TheVariants.{Read}
 use Rattle.table.specs.Form as form
 use Rattle.table.specs.FormLaws.{formed-head, head-limits}
 use Rattle.rules.specs.Calls.{Routine, routine_at}
@@ -30,7 +29,7 @@ use Rattle.checks.specs.Checked.{check_of, size_in, Named}
 use Rattle.interpreter.specs.Slots.{Laid}
 use Rattle.interpreter.specs.SlotsLaws.{slots-long}
 use Rattle.entry.specs.Ends.{ends_of}
-use Rattle.interpreter.specs.BareRun.{Result, bare_run}
+use Rattle.interpreter.specs.BareRun.{BareResult, bare_run}
 use Rattle.interpreter.specs.EndsLaws.{ends-long, ends-small, ends_named, ends-sizes}
 use Rattle.interpreter.specs.Outcomes.{outcome_shown}
 use Rattle.parts.specs.Parts.{window}
@@ -173,7 +172,7 @@ module _ {W : List ℤ} {L D S : List ℕ} {room : ℕ} (C : Callable W L D S ro
     pub within : point.steps ≤ limit
     pub ahead : final rs D room limit gs n P ≡ final rs D room limit gs n point
     pub call : point.status ≡ going → point.due < h.statements → point.steps < limit
-        → (c : CallSite) × (statement_at (table_of rs D n) h point.due ≡ Read (Call c))
+        → (c : CallSite) × (statement_at (table_of rs D n) h point.due ≡ Some (Call c))
 
   pub paused : {limit at steps : ℕ} {gs : List Frame} {P : Point} {ends vs cs : List ℕ} {o : Outcome} {ends' vs' cs' : List ℕ}
       → Along W L D S n room limit gs P at steps ends vs cs → RanOn W L D S n limit at steps ends vs cs o ends' vs' cs' → Paused limit gs P o ends' vs' cs'
@@ -191,11 +190,11 @@ module _ {W : List ℤ} {L D S : List ℕ} {room : ℕ} (C : Callable W L D S ro
         point = s.point;
         origins = s.origins;
         invariant = s.invariant;
-        outcome = r.run.outcome ∙ ap (λ (x : Result). x.outcome) shown;
+        outcome = r.run.outcome ∙ ap (λ (x : BareResult). x.outcome) shown;
         numbered = s.numbered;
-        in-force = here ∙ (r.run.ends ∙ ap (λ (x : Result). x.ends) shown);
-        values = r.run.values ∙ ap (λ (x : Result). x.values) shown;
-        cells = r.run.cells ∙ ap (λ (x : Result). x.cells) shown;
+        in-force = here ∙ (r.run.ends ∙ ap (λ (x : BareResult). x.ends) shown);
+        values = r.run.values ∙ ap (λ (x : BareResult). x.values) shown;
+        cells = r.run.cells ∙ ap (λ (x : BareResult). x.cells) shown;
         grows = omega (arith, A.grows, A.counted, s.counted, s.less);
         within = omega (arith, s.counted, s.less, A.counted, A.within);
         ahead =
@@ -203,7 +202,7 @@ module _ {W : List ℤ} {L D S : List ℕ} {room : ℕ} (C : Callable W L D S ro
             ∙ (ap (λ (t : ℕ). stack_after rs D t (settled rs D gs n A.point)) (sym before)
             ∙ (s.ahead ∙ ap (λ (t : ℕ). stack_after rs D t (settled rs D gs n s.point)) left));
         call = λ g d l. ⊎_elim (λ (z : s.left ≡ 0). absurd (omega (arith, z, left, l)))
-            (λ (x : (c : CallSite) × (statement_at (table_of rs D n) h s.point.due ≡ Read (Call c))). x) (s.paused g d);
+            (λ (x : (c : CallSite) × (statement_at (table_of rs D n) h s.point.due ≡ Some (Call c))). x) (s.paused g d);
       }
 
   pub paused-later : {limit at steps : ℕ} {gs : List Frame} {P : Point} {ends vs cs : List ℕ} {o : Outcome} {ends' vs' cs' : List ℕ}
@@ -294,9 +293,9 @@ module _ {W : List ℤ} {L D S : List ℕ} {room : ℕ} (C : Callable W L D S ro
       pub steps : Q.steps ≡ s
       pub due : Q.due ≡ a
       pub left : s < limit
-      pub reads : statement_at (table_of rs D n) h Q.due ≡ Read (Call (decoded_call_at X (sections_in W L n) a))
+      pub reads : statement_at (table_of rs D n) h Q.due ≡ Some (Call (decoded_call_at X (sections_in W L n) a))
 
-    site-read : (a : ℕ) → Q.due ≡ a → (c : CallSite) → statement_at (table_of rs D n) h Q.due ≡ Read (Call c)
+    site-read : (a : ℕ) → Q.due ≡ a → (c : CallSite) → statement_at (table_of rs D n) h Q.due ≡ Some (Call c)
         → c ≡ decoded_call_at X (sections_in W L n) a
     site-read a e c r =
         sym (call-decoded X h Q.due c (decodes Q.due ∙ read-decoded (table_of rs D n) h Q.due (Call c) r))
@@ -315,7 +314,7 @@ module _ {W : List ℤ} {L D S : List ℕ} {room : ℕ} (C : Callable W L D S ro
           steps = x;
           due = y;
           left = omega (arith, l, x);
-          reads = r.1 ∙ ap (λ (c : CallSite). Read (Call c)) (site-read a y r.0 r.1);
+          reads = r.1 ∙ ap (λ (c : CallSite). Some (Call c)) (site-read a y r.0 r.1);
         }
     called-spent false t g d s a e = let z : ◌≡◌ {A = ℕ} 0 1 = cc in never z
 

@@ -1,5 +1,5 @@
 -- The run of an accepted set from the level of its last routine: it ends where the machine of the set ends.
-use Rattle.std.specs.Prelude.{ℕ, ◌-◌, ◌≤◌, ◌<◌, ◌≡◌, refl, Bool, cond, List, [], ◌∷◌, ℤ, length, get_or, take}
+use Rattle.std.specs.Prelude.{ℕ, ◌-◌, ◌≤◌, ◌<◌, ◌≡◌, refl, Bool, cond, List, [], ◌∷◌, ℤ, length, get_or, take, Err, Result}
 use Rattle.std.proofs.Math.Path.{sym, ap₂}
 use Rattle.std.proofs.Common.{ap, subst, ◌∙◌, append-nil, le-ltb, length-take}
 use native.Mathlib.Omega.{arith}
@@ -17,8 +17,6 @@ use Rattle.machine.specs.Machine.{Status, Point, start}
 use Rattle.machine.specs.SetMachine.{Frame, Stack, stack, start_stack, stack_after, last_values, table_of, sections_of, environment_of}
 use Rattle.machine.specs.SetRun.{set-setting, start-invariant}
 use Rattle.entry.specs.Entered.{entered}
-use Rattle.entry.specs.declared.EntryVerdict.{EntryVerdict}
-use Rattle.entry.specs.declared.EntryVerdict.TheVariants as entry
 use Rattle.interpreter.specs.AnswerLaws.{reads-shown}
 use Rattle.interpreter.specs.AloneLaws.{lends}
 use Rattle.interpreter.specs.Claim.{Lent, answer_of, last_number, entry_faults, state_of, EndsAt}
@@ -158,13 +156,14 @@ module _ (W : List ℤ) (L D cs vs os : List ℕ) (accepted : AllAccepted (table
 
 -- ---- the entry refuses
 
-pub entry-refuses : (Ts : List (List ℤ)) (l : Lent) (limit n : ℕ) {v : EntryVerdict} {r : Refusal} → n ≡ last_number Ts → v ≡ entered (entry_faults Ts l)
-    → v ≡ entry.Refused r
+pub entry-refuses : (Ts : List (List ℤ)) (l : Lent) (limit n : ℕ) {v : Result (Unit {0}) Refusal} {r : Refusal} → n ≡ last_number Ts
+    → v ≡ entered (entry_faults Ts l)
+    → v ≡ Err r
     → RunsAccepted Ts l limit (leaves (record { outcome = Refused r; routine = n }) l.values l.cells)
 unfolding entered
 entry-refuses Ts l limit n {v} {r} e f g = go (entry_faults Ts l) refl (sym f ∙ g)
   where
-    go : (fs : List Refusal) → entry_faults Ts l ≡ fs → entered fs ≡ entry.Refused r
+    go : (fs : List Refusal) → entry_faults Ts l ≡ fs → entered fs ≡ Err r
         → RunsAccepted Ts l limit (leaves (record { outcome = Refused r; routine = n }) l.values l.cells)
     go [] q z = let o : ◌≡◌ {A = ℕ} 0 1 = cc in never o
     go (x ∷ xs) q z = let same : x ≡ r = cc in record {

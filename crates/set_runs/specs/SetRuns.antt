@@ -1,5 +1,5 @@
 -- What the run of a set promises (document 02, point 14): the claim about a run, where enough room is lent.
-use Rattle.std.specs.Prelude.{ℕ, ◌≡◌, Bool, true, false, ◌&&◌, List, [], ◌∷◌, leb, ℤ}
+use Rattle.std.specs.Prelude.{ℕ, ◌≡◌, Bool, true, false, ◌&&◌, List, [], ◌∷◌, leb, ℤ, None, Option, Some}
 use Rattle.answers.specs.declared.refusals.Refusal.{Refusal}
 use Rattle.answers.specs.declared.stops.Outcome.TheVariants.{Done}
 use Rattle.interpreter.specs.Claim.{Lent, Leaves, NotBegun, last_number, entry_faults, Ran, SetRunJudged}
@@ -7,8 +7,6 @@ use Rattle.sets.specs.Checked.{member_words}
 use Rattle.set_runs.specs.declared.SetOutcome.{SetOutcome}
 use Rattle.set_runs.specs.declared.Level.{Level}
 use Rattle.set_runs.specs.declared.Level.TheVariants.{Returns, Halts}
-use Rattle.set_runs.specs.declared.SetRun.{SetRun}
-use Rattle.set_runs.specs.declared.SetRun.TheVariants as run
 
 -- What a run leaves, by its answer.
 abbrev pub leaves : SetOutcome → List ℕ → List ℕ → Leaves
@@ -29,6 +27,6 @@ abbrev pub room_enough : ℕ → ℕ → ℕ → Bool
 room_enough member ends successors = leb member_words member && leb 4096 ends && leb 16384 successors
 
 -- With enough room the run is as promised; with less, nothing is run, and nothing changed.
-unfoldable pub SetRunAnswered : Bool → List (List ℤ) → Lent → ℕ → SetRun → List ℕ → List ℕ → Type 0
-SetRunAnswered roomy Ts l limit run.NoRoom vs cs = (roomy ≡ false) × (vs ≡ l.values) × (cs ≡ l.cells)
-SetRunAnswered roomy Ts l limit (run.Ran o) vs cs = (roomy ≡ true) × SetRunJudged Ts l limit (leaves o vs cs)
+unfoldable pub SetRunAnswered : Bool → List (List ℤ) → Lent → ℕ → Option SetOutcome → List ℕ → List ℕ → Type 0
+SetRunAnswered roomy Ts l limit None vs cs = (roomy ≡ false) × (vs ≡ l.values) × (cs ≡ l.cells)
+SetRunAnswered roomy Ts l limit (Some o) vs cs = (roomy ≡ true) × SetRunJudged Ts l limit (leaves o vs cs)

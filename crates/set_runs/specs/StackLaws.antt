@@ -1,7 +1,8 @@
 -- Steps of the machine of a set, by the statement due: of the routine that runs, a call, a return. A stack is given before its ended tables are settled, so
 -- that what a level of the interpreter sees is one point.
+use Rattle.statements.specs.declared.Statement.{Statement}
 use Prim.Native.Nat.{ℕ, zero, suc, ◌≤◌, ◌<◌}
-use Rattle.std.specs.Prelude.{◌≡◌, Bool, true, false, ◌&&◌}
+use Rattle.std.specs.Prelude.{◌≡◌, Bool, true, false, ◌&&◌, None, Option, Some}
 use Rattle.std.proofs.Math.Path.{refl, ap}
 use Rattle.std.proofs.Common.{sym, ◌∙◌, arith}
 use Rattle.std.proofs.Math.Bool.{cond}
@@ -11,8 +12,6 @@ use Rattle.std.proofs.Math.Dec.{leb, ltb}
 use Rattle.statements.specs.Statements.{statement_at}
 use Rattle.statements.specs.declared.CallSite.{CallSite}
 use Rattle.statements.specs.declared.Statement.TheVariants.{Plain, If, While, Bundle, Call}
-use Rattle.statements.specs.declared.StatementRead.{StatementRead}
-use Rattle.statements.specs.declared.StatementRead.TheVariants.{Read, Unread}
 use Rattle.rules.specs.Calls.{Routine}
 use Rattle.machine.specs.Machine.{Status, going, stopped, stuck, Point, next_point}
 use Rattle.machine.specs.SetMachine.{Frame, Stack, stack, is_going, table_of, sections_of, environment_of, result_of, has_ended, resumed, settled, waiting}
@@ -74,23 +73,23 @@ module _ (rs : List Routine) (D : List ℕ) where
         (ap (λ (s : Status). is_going s && ltb P.due (sections_of rs D n).statements) g ∙ lt-ltb P.due (sections_of rs D n).statements d)
 
     -- A call.
-    pub next-call : (c : CallSite) → statement_at (table_of rs D n) (sections_of rs D n) P.due ≡ Read (Call c)
+    pub next-call : (c : CallSite) → statement_at (table_of rs D n) (sections_of rs D n) P.due ≡ Some (Call c)
         → next_stack rs D (stack fs n P) ≡ settled rs D (waiting rs D (stack fs n P) c ∷ fs) c.callee (begun rs D c P)
     unfolding stack_step
-    next-call c e = next-is ∙ ap (λ (s : StatementRead). stack_step rs D s (stack fs n P)) e
+    next-call c e = next-is ∙ ap (λ (s : Option Statement). stack_step rs D s (stack fs n P)) e
 
-    own-step : (s : StatementRead) → ((c : CallSite) → s ≡ Read (Call c) → ⊥)
+    own-step : (s : Option Statement) → ((c : CallSite) → s ≡ Some (Call c) → ⊥)
         → stack_step rs D s (stack fs n P) ≡ settled rs D fs n (next_point (table_of rs D n) (sections_of rs D n) (environment_of rs D n) D P.status P)
     unfolding stack_step
-    own-step (Read (Call c)) k = absurd (k c refl)
-    own-step (Read (Plain s)) k = refl
-    own-step (Read (If c x y)) k = refl
-    own-step (Read (While c x)) k = refl
-    own-step (Read (Bundle x)) k = refl
-    own-step Unread k = refl
+    own-step (Some (Call c)) k = absurd (k c refl)
+    own-step (Some (Plain s)) k = refl
+    own-step (Some (If c x y)) k = refl
+    own-step (Some (While c x)) k = refl
+    own-step (Some (Bundle x)) k = refl
+    own-step None k = refl
 
     -- Any other statement.
-    pub next-own : ((c : CallSite) → statement_at (table_of rs D n) (sections_of rs D n) P.due ≡ Read (Call c) → ⊥)
+    pub next-own : ((c : CallSite) → statement_at (table_of rs D n) (sections_of rs D n) P.due ≡ Some (Call c) → ⊥)
         → next_stack rs D (stack fs n P) ≡ settled rs D fs n (next_point (table_of rs D n) (sections_of rs D n) (environment_of rs D n) D P.status P)
     next-own k = next-is ∙ own-step (statement_at (table_of rs D n) (sections_of rs D n) P.due) k
 

@@ -2,7 +2,7 @@
 use Prim.Native.Nat.{ℕ, zero, suc, ◌+◌, ◌≤◌, ◌<◌}
 use Rattle.std.proofs.Math.Path.{◌≡◌, refl, sym, ap, subst}
 use Rattle.std.proofs.Common.{ap₂, ◌∙◌, arith}
-use Rattle.std.specs.Prelude.{Bool, false, cond, List, [], ◌⊎◌, ltb, ℤ, length, get_or}
+use Rattle.std.specs.Prelude.{Bool, false, cond, List, [], ◌⊎◌, ltb, ℤ, length, get_or, Option, Some}
 use Rattle.std.proofs.Math.Bool.{true}
 use Rattle.std.proofs.Math.Logic.{inl, inr}
 use borrow.Author.Tests.{lt-ltb, ltb-true, ltb-false}
@@ -12,8 +12,6 @@ use Rattle.statements.specs.StatementLaws.{read-typed, read-limits}
 use Rattle.statements.specs.declared.CallSite.{CallSite}
 use Rattle.statements.specs.declared.Statement.{Statement}
 use Rattle.statements.specs.declared.Statement.TheVariants.{Plain, If, While, Bundle, Call}
-use Rattle.statements.specs.declared.StatementRead.{StatementRead}
-use Rattle.statements.specs.declared.StatementRead.TheVariants.{Read}
 use Rattle.statements.specs.Decode.{decoded_at}
 use Rattle.statements.specs.DecodeLaws.{read-decoded}
 use Rattle.blocks.specs.Flow.{Successors, successors, table_flow}
@@ -32,7 +30,7 @@ use Rattle.steps.specs.Bare.{Move, statement_move, bare_move, Inside, Marked, Re
 use Rattle.entry.specs.Ends.{ends_of}
 use Rattle.answers.specs.declared.stops.Outcome.TheVariants.{Done, Stopped}
 use Rattle.checks.specs.Checked.{check_of}
-use Rattle.interpreter.specs.BareRun.{Result, result, follow, bare_run, Onward, SafeRun}
+use Rattle.interpreter.specs.BareRun.{BareResult, result, follow, bare_run, Onward, SafeRun}
 use Rattle.interpreter.specs.Agreement.{step_shown, result_shown}
 use Rattle.interpreter.specs.AgreementLaws.{Stepped, stepped, inside, if-true, spent-or-done, shown-going, shown-stopped}
 use Rattle.interpreter.specs.NumberLaws.{stopped-number}
@@ -52,10 +50,10 @@ kind-of (If c x y) = no_call (λ d e. let z : ◌≡◌ {A = ℕ} 0 1 = cc in om
 kind-of (While c x) = no_call (λ d e. let z : ◌≡◌ {A = ℕ} 0 1 = cc in omega arith)
 kind-of (Bundle x) = no_call (λ c e. let z : ◌≡◌ {A = ℕ} 0 1 = cc in omega arith)
 
-other-read : (x : StatementRead) (t : Statement) → x ≡ Read t → ((c : CallSite) → t ≡ Call c → ⊥) → (c : CallSite) → x ≡ Read (Call c) → ⊥
+other-read : (x : Option Statement) (t : Statement) → x ≡ Some t → ((c : CallSite) → t ≡ Call c → ⊥) → (c : CallSite) → x ≡ Some (Call c) → ⊥
 other-read x t e k c q = k c (inner t (Call c) (sym e ∙ q))
   where
-    inner : (x y : Statement) → Read x ≡ Read y → x ≡ y
+    inner : (x y : Statement) → Some x ≡ Some y → x ≡ y
     inner x y e = cc
 
 module _ (rs : List Routine) (D : List ℕ) (room : ℕ) (S : SetSetting rs D room []) where
@@ -77,7 +75,7 @@ module _ (rs : List Routine) (D : List ℕ) (room : ℕ) (S : SetSetting rs D ro
     pub sound-here : Sound (T n) (h n) (E n) D room [] P
     sound-here = (stack-sound rs D room [] S (stack gs n P) A.invariant).running
 
-    pub reads_here : (a : ℕ) → a < (h n).statements → (s : Statement) × (statement_at (T n) (h n) a ≡ Read s)
+    pub reads_here : (a : ℕ) → a < (h n).statements → (s : Statement) × (statement_at (T n) (h n) a ≡ Some s)
     reads_here a l = (S.formed n known).formed.statements a l
 
     object-inside : (o : ℕ) → o < (h n).objects → high D o ≤ length P.cells
@@ -92,15 +90,15 @@ module _ (rs : List Routine) (D : List ℕ) (room : ℕ) (S : SetSetting rs D ro
     -- ---- one step
 
     module _ (gs : List Frame) (W : List ℕ) (P : Point) (A : Stands rs D room gs n P) (ends : W ≡ ends_of (E n) P.rows) (due : P.due < (h n).statements)
-        (s : Statement) (read : statement_at (T n) (h n) P.due ≡ Read s) where
+        (s : Statement) (read : statement_at (T n) (h n) P.due ≡ Some s) where
       abbrev next : Successors
       next = entries_at F P.due
 
-      after_is : after P ≡ statement_step (E n) D (Read s) next P
+      after_is : after P ≡ statement_step (E n) D (Some s) next P
       after_is =
           ap (λ (x : Status). next_point (T n) (h n) (E n) D x P) A.goes
           ∙ (next-going (T n) (h n) (E n) D P due
-          ∙ ap₂ (λ (r : StatementRead) (m : Successors). statement_step (E n) D r m P) read (sym (flow P.due due)))
+          ∙ ap₂ (λ (r : Option Statement) (m : Successors). statement_step (E n) D r m P) read (sym (flow P.due due)))
 
       move-is : bare_move X (h n) W D F P.due P.values P.cells ≡ statement_move W D s P.due next P.values P.cells
       unfolding bare_move
@@ -108,12 +106,12 @@ module _ (rs : List Routine) (D : List ℕ) (room : ℕ) (S : SetSetting rs D ro
           ap (λ (x : Statement). statement_move W D x P.due next P.values P.cells) (same P.due ∙ read-decoded (T n) (h n) P.due s read)
 
       -- Where the statement is no call.
-      module _ (other : (c : CallSite) → statement_at (T n) (h n) P.due ≡ Read (Call c) → ⊥) where
+      module _ (other : (c : CallSite) → statement_at (T n) (h n) P.due ≡ Some (Call c) → ⊥) where
         kept : Invariant (T n) (h n) (E n) D room [] (after P)
         kept = next-kept (T n) (h n) (E n) D room (S.setting n A.invariant.known) [] (before n rs) (S.walked n A.invariant.known) P
             A.invariant.running other P.status
 
-        free : (statement_step (E n) D (Read s) next P).status ≡ stuck → ⊥
+        free : (statement_step (E n) D (Some s) next P).status ≡ stuck → ⊥
         free e = kept.has-step (ap (λ (Q : Point). Q.status) after_is ∙ e)
 
         step-stepped : Stepped (E n) P (after P) (h n).objects (bare_move X (h n) W D F P.due P.values P.cells)
@@ -142,7 +140,7 @@ module _ (rs : List Routine) (D : List ℕ) (room : ℕ) (S : SetSetting rs D ro
     -- ---- a stretch
 
     -- Where a stretch of at most l steps from P ends, with `left` of them left: o is what the run without origins gives.
-    pub record Stretch (l : ℕ) (gs : List Frame) (P : Point) (o : Result) : Type 0 where
+    pub record Stretch (l : ℕ) (gs : List Frame) (P : Point) (o : BareResult) : Type 0 where
       pub point : Point
       pub left : ℕ
       pub origins : (p : ℕ) → get_or point.origins p 0 ≤ (h n).objects
@@ -153,11 +151,11 @@ module _ (rs : List Routine) (D : List ℕ) (room : ℕ) (S : SetSetting rs D ro
       pub counted : point.steps + left ≡ P.steps + l
       pub ahead : stack_after rs D l (settled rs D gs n P) ≡ stack_after rs D left (settled rs D gs n point)
       -- it is given up before the limit only where a call is due
-      pub paused : point.status ≡ going → point.due < (h n).statements → (left ≡ 0) ⊎ ((c : CallSite) × (statement_at (T n) (h n) point.due ≡ Read (Call c)))
+      pub paused : point.status ≡ going → point.due < (h n).statements → (left ≡ 0) ⊎ ((c : CallSite) × (statement_at (T n) (h n) point.due ≡ Some (Call c)))
 
     -- A stretch that ends where it begins.
-    stays_here : (l : ℕ) (gs : List Frame) (P : Point) (o : Result) → Stands rs D room gs n P → o ≡ result_shown (E n) (h n) P
-        → (P.due < (h n).statements → (l ≡ 0) ⊎ ((c : CallSite) × (statement_at (T n) (h n) P.due ≡ Read (Call c)))) → Stretch l gs P o
+    stays_here : (l : ℕ) (gs : List Frame) (P : Point) (o : BareResult) → Stands rs D room gs n P → o ≡ result_shown (E n) (h n) P
+        → (P.due < (h n).statements → (l ≡ 0) ⊎ ((c : CallSite) × (statement_at (T n) (h n) P.due ≡ Some (Call c)))) → Stretch l gs P o
     stays_here l gs P o A e p = record {
       point = P;
       left = l;
@@ -172,13 +170,13 @@ module _ (rs : List Routine) (D : List ℕ) (room : ℕ) (S : SetSetting rs D ro
     }
 
     -- What follows a move from P.
-    abbrev goes_on : ℕ → Point → Move → Result
+    abbrev goes_on : ℕ → Point → Move → BareResult
     goes_on l P m =
         follow m.said (λ b. bare_run X (h n) m.ends D F l (P.steps + 1) b m.values m.cells) P.steps P.due m.ends m.values m.cells
 
     module _ (l : ℕ) (gs : List Frame) (W : List ℕ) (P : Point) (A : Stands rs D room gs n P) (ends : W ≡ ends_of (E n) P.rows)
         (due : P.due < (h n).statements)
-        (s : Statement) (read : statement_at (T n) (h n) P.due ≡ Read s) where
+        (s : Statement) (read : statement_at (T n) (h n) P.due ≡ Some s) where
       -- A call is due.
       call-here : (c : CallSite) → s ≡ Call c → Stretch (suc l) gs P (goes_on l P (bare_move X (h n) W D F P.due P.values P.cells))
       unfolding statement_move
@@ -187,9 +185,9 @@ module _ (rs : List Routine) (D : List ℕ) (room : ℕ) (S : SetSetting rs D ro
           (ap (goes_on l P) (move-is gs W P A ends due s read
           ∙ ap (λ (x : Statement). statement_move W D x P.due (entries_at F P.due) P.values P.cells) e)
           ∙ rw ends (shown-going X (h n) (E n) D F P true A.goes (lt-ltb _ _ due)))
-          (λ d. inr (c, read ∙ ap Read e))
+          (λ d. inr (c, read ∙ ap Some e))
 
-      module _ (other : (c : CallSite) → statement_at (T n) (h n) P.due ≡ Read (Call c) → ⊥)
+      module _ (other : (c : CallSite) → statement_at (T n) (h n) P.due ≡ Some (Call c) → ⊥)
           (rest : (Q : Point) → Stands rs D room gs n Q
           → Stretch l gs Q (bare_run X (h n) (ends_of (E n) Q.rows) D F l Q.steps Q.due Q.values Q.cells)) where
         abbrev Q : Point
@@ -253,7 +251,7 @@ module _ (rs : List Routine) (D : List ℕ) (room : ℕ) (S : SetSetting rs D ro
     stretch (suc l) gs W P A ends =
         by-due (ltb P.due (h n).statements) refl (λ Q B. stretch l gs (ends_of (E n) Q.rows) Q B refl)
       where
-        by_kind : (due : P.due < (h n).statements) (s : Statement) (read : statement_at (T n) (h n) P.due ≡ Read s) → Kind s
+        by_kind : (due : P.due < (h n).statements) (s : Statement) (read : statement_at (T n) (h n) P.due ≡ Some s) → Kind s
             → ((Q : Point) → Stands rs D room gs n Q
             → Stretch l gs Q (bare_run X (h n) (ends_of (E n) Q.rows) D F l Q.steps Q.due Q.values Q.cells))
             → Stretch (suc l) gs P (goes_on l P (bare_move X (h n) W D F P.due P.values P.cells))
@@ -285,13 +283,13 @@ module _ (rs : List Routine) (D : List ℕ) (room : ℕ) (S : SetSetting rs D ro
         )
 
     ready-here : (gs : List Frame) (W : List ℕ) (P : Point) (A : Stands rs D room gs n P) (ends : W ≡ ends_of (E n) P.rows) (due : P.due < (h n).statements)
-        (s : Statement) (read : statement_at (T n) (h n) P.due ≡ Read s) → Kind s → Ready X (h n) W F P.due P.values P.cells
+        (s : Statement) (read : statement_at (T n) (h n) P.due ≡ Some s) → Kind s → Ready X (h n) W F P.due P.values P.cells
     ready-here gs W P A ends due s read (a_call c e) =
         record {
           checked = T n;
           same = same P.due;
           statement = Call c;
-          reads = read ∙ ap Read e;
+          reads = read ∙ ap Some e;
           inside = tt;
           known = λ m x q. absurd (unmarked A.invariant.known P.due due m);
         }
@@ -307,7 +305,7 @@ module _ (rs : List Routine) (D : List ℕ) (room : ℕ) (S : SetSetting rs D ro
 
     module _ (l : ℕ) (gs : List Frame) (W : List ℕ) (P : Point) (A : Stands rs D room gs n P) (ends : W ≡ ends_of (E n) P.rows)
         (due : P.due < (h n).statements)
-        (s : Statement) (read : statement_at (T n) (h n) P.due ≡ Read s) where
+        (s : Statement) (read : statement_at (T n) (h n) P.due ≡ Some s) where
       abbrev SafeAfter : Move → Type 0
       SafeAfter m = Onward m.said (λ b. SafeRun X (h n) m.ends D F l b m.values m.cells)
 
@@ -317,7 +315,7 @@ module _ (rs : List Routine) (D : List ℕ) (room : ℕ) (S : SetSetting rs D ro
           subst SafeAfter (sym (move-is gs W P A ends due s read
           ∙ ap (λ (x : Statement). statement_move W D x P.due (entries_at F P.due) P.values P.cells) e)) tt
 
-      module _ (other : (c : CallSite) → statement_at (T n) (h n) P.due ≡ Read (Call c) → ⊥)
+      module _ (other : (c : CallSite) → statement_at (T n) (h n) P.due ≡ Some (Call c) → ⊥)
           (rest : (Q : Point) → Stands rs D room gs n Q → SafeRun X (h n) (ends_of (E n) Q.rows) D F l Q.due Q.values Q.cells) where
         safe-status : (x : Status) → (after P).status ≡ x → Onward (step_shown x (after P).due)
             (λ b. SafeRun X (h n) (ends_of (E n) (after P).rows) D F l b (after P).values (after P).cells)
@@ -340,7 +338,7 @@ module _ (rs : List Routine) (D : List ℕ) (room : ℕ) (S : SetSetting rs D ro
           by_kind due r.0 r.1 (kind-of r.0) (λ Q B. stretch-safe l gs (ends_of (E n) Q.rows) Q B refl),
         ))
       where
-        by_kind : (due : P.due < (h n).statements) (s : Statement) (read : statement_at (T n) (h n) P.due ≡ Read s) → Kind s
+        by_kind : (due : P.due < (h n).statements) (s : Statement) (read : statement_at (T n) (h n) P.due ≡ Some s) → Kind s
             → ((Q : Point) → Stands rs D room gs n Q → SafeRun X (h n) (ends_of (E n) Q.rows) D F l Q.due Q.values Q.cells)
             → SafeAfter l gs W P A ends due s read (bare_move X (h n) W D F P.due P.values P.cells)
         by_kind due s read (a_call c e) rest = safe-call l gs W P A ends due s read c e

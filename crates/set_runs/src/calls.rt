@@ -3,18 +3,15 @@ ghost use Rattle.std.specs.Prelude.{◌+◌, ◌-◌, ◌*◌, ◌<◌, ◌≤�
 ghost use Rattle.set_runs.specs.Lent.{called_values};
 
 use declared::calls::argument;
-use machine::{value_at, wide};
+use machine::value_at;
 use statements::CallSite;
+use std::array;
 
 // The values of a callee: the arguments, then zeros.
 pub(crate) fn called_values(values: &[u32], site: CallSite) -> [u32; 16]
     ensures { result ≡ called_values values.now site }
 {
-    let mut called = [0u32; 16];
-    for j in 0..16 {
-        called[j] = value_at(values, argument(site, j)) as u32;
-    }
-    called
+    array::from_fn(|j| value_at(values, argument(site, j)) as u32)
 }
 
 // The caller's variable `result` gets the value of the callee's last variable, of `count`; with no such variable nothing is set.
@@ -32,5 +29,5 @@ pub(crate) fn due_after(successors: &[u32], n: usize, at: usize) -> usize
     requires { (n < 8) × (at < 1024) × (length successors.now ≡ 16384) }
     ensures { result ≡ get_or successors.now (2048 * n + 2 * at) 0 }
 {
-    wide(successors[2048 * n + 2 * at]) as usize
+    successors[2048 * n + 2 * at] as usize
 }

@@ -45,16 +45,12 @@ pub(crate) fn part_of(tables: &[i32], lengths: &[u32], n: usize) -> Part
     ensures within { (result.start ≤ result.end) × (result.end ≤ length tables.now) }
 {
     let first = span_of(lengths, 1, 0, 0, tables.len());
-    let first_start = first.start;
-    let first_end = first.end;
     let own = span_of(lengths, 1, 0, n, tables.len());
-    let own_start = own.start;
-    let own_end = own.end;
-    let shared = sections_of(&tables[first_start..first_end]);
-    let sections = sections_of(&tables[own_start..own_end]);
+    let shared = sections_of(&tables[first.start..first.end]);
+    let sections = sections_of(&tables[own.start..own.end]);
     Part {
-        start: back(n, own_start, shared.objects),
-        end: own_end,
+        start: back(n, own.start, shared.objects),
+        end: own.end,
         sections: Sections {
             start: sections.start,
             objects: shared.objects,
@@ -72,9 +68,7 @@ pub(crate) fn lay_routine(tables: &[i32], lengths: &[u32], n: usize, ends: &mut 
         (sections_in tables.now lengths.now n)) own_rows) ends.new }
 {
     let part = part_of(tables, lengths, n);
-    let start = part.start;
-    let end = part.end;
-    let environment = read_environment(&tables[start..end], part.sections);
+    let environment = read_environment(&tables[part.start..part.end], part.sections);
     let room_start = 512 * n;
     let room_end = room_start + 512;
     copy_ends(lay_ends(environment), &mut ends[room_start..room_end]);
@@ -87,9 +81,7 @@ pub(crate) fn call_at(tables: &[i32], lengths: &[u32], n: usize, at: usize) -> C
         at }
 {
     let part = part_of(tables, lengths, n);
-    let start = part.start;
-    let end = part.end;
-    decode_call_at(&tables[start..end], part.sections, at)
+    decode_call_at(&tables[part.start..part.end], part.sections, at)
 }
 
 // How many variables routine n has.
@@ -98,6 +90,5 @@ pub(crate) fn variables_of(tables: &[i32], lengths: &[u32], n: usize) -> usize
     ensures { result ≡ (sections_in tables.now lengths.now n).variables }
 {
     let part = part_of(tables, lengths, n);
-    let sections = part.sections;
-    sections.variables
+    part.sections.variables
 }

@@ -20,7 +20,7 @@ fn halts(outcome: Outcome, n: usize) -> Pause
     ensures { result ≡ halts outcome n }
 {
     Pause::Leaves(Level::Halts(SetOutcome {
-        outcome: outcome,
+        outcome,
         routine: n,
     }))
 }
@@ -33,15 +33,11 @@ fn pause_of(limit: u32, n: usize, outcome: Outcome) -> Pause
         Outcome::Done { steps } => Pause::Leaves(Level::Returns(steps)),
         Outcome::Spent { steps, statement } => {
             if steps < limit {
-                return Pause::Calls {
-                    steps: steps,
-                    statement: statement,
-                };
+                return Pause::Calls { steps, statement };
             }
             halts(outcome, n)
         }
-        Outcome::Stopped { steps: _, check: _ } => halts(outcome, n),
-        Outcome::Refused(_) => halts(outcome, n),
+        Outcome::Stopped { .. } | Outcome::Refused(_) => halts(outcome, n),
     }
 }
 
@@ -64,14 +60,12 @@ fn stretch(
         ends.old values.old cells.old result ends.new values.new cells.new }
 {
     let part = part_of(tables, lengths, n);
-    let start = part.start;
-    let end = part.end;
     let room_start = 512 * n;
     let room_end = room_start + 512;
     let flow_start = 2048 * n;
     let flow_end = flow_start + 2048;
     resume(
-        &tables[start..end],
+        &tables[part.start..part.end],
         part.sections,
         &mut ends[room_start..room_end],
         directory,

@@ -13,11 +13,10 @@ ghost use Rattle.sets.specs.Tables.{tables_in};
 ghost use Rattle.set_runs.specs.SetRuns.{leaves, outcome_of, RunsAccepted, room_enough, SetRunAnswered};
 
 use answers::stops::Outcome;
-use entry::EntryVerdict;
 use levels::run_routine;
 use prepare::{enter_last, lay_flows};
-use rules::SetVerdict;
-use sets::{SetChecked, check_set};
+use rules::SetRefusal;
+use sets::check_set;
 
 // How a run of a set ends, and in which routine.
 #[derive(Clone, Copy)]
@@ -33,20 +32,13 @@ pub enum Level {
     Halts(SetOutcome),
 }
 
-// What `run_set` answers: the run, or that too little room is lent for it.
-#[derive(Clone, Copy)]
-pub enum SetRun {
-    NoRoom,
-    Ran(SetOutcome),
-}
-
 // How the run has ended when the level of the last routine has.
 fn outcome_of(last: usize, level: Level) -> SetOutcome
     ensures { result ≡ outcome_of last level }
 {
     match level {
         Level::Returns(steps) => SetOutcome {
-            outcome: Outcome::Done { steps: steps },
+            outcome: Outcome::Done { steps },
             routine: last,
         },
         Level::Halts(outcome) => outcome,
@@ -78,11 +70,11 @@ fn run_accepted(
     let entry = enter_last(tables, lengths, member, directory, cells, values, origins);
     let last = lengths.len() - 1;
     match entry {
-        EntryVerdict::Refused(refusal) => SetOutcome {
+        Err(refusal) => SetOutcome {
             outcome: Outcome::Refused(refusal),
             routine: last,
         },
-        EntryVerdict::Begun => {
+        Ok(()) => {
             lay_flows(tables, lengths, member, successors);
             let level = run_routine(
                 tables, lengths, last, 0, ends, successors, directory, values, cells, limit,
@@ -106,7 +98,7 @@ pub fn run_set(
     member: &mut [i32],
     ends: &mut [u64],
     successors: &mut [u32],
-) -> SetRun
+) -> Option<SetOutcome>
     ensures { SetRunAnswered (room_enough (length member.old) (length ends.old) (length successors.old))
         (tables_in tables.now lengths.now) (record {
           directory = directory.entry.now;
@@ -117,21 +109,21 @@ pub fn run_set(
         limit result values.new cells.new }
 {
     if ends.len() < 4096 {
-        return SetRun::NoRoom;
+        return None;
     }
     if successors.len() < 16384 {
-        return SetRun::NoRoom;
+        return None;
     }
     let checked = check_set(tables, lengths, member);
-    let SetChecked::Judged(verdict) = checked else {
-        return SetRun::NoRoom;
+    let Some(verdict) = checked else {
+        return None;
     };
     match verdict {
-        SetVerdict::Refused { routine, refusal } => SetRun::Ran(SetOutcome {
+        Err(SetRefusal { routine, refusal }) => Some(SetOutcome {
             outcome: Outcome::Refused(refusal),
-            routine: routine,
+            routine,
         }),
-        SetVerdict::Accepted => SetRun::Ran(run_accepted(
+        Ok(()) => Some(run_accepted(
             tables,
             lengths,
             directory,

@@ -7,8 +7,9 @@ ghost use Rattle.sets.specs.Checked.{member_words};
 ghost use Rattle.sets.specs.Tables.{tables_in};
 ghost use Rattle.set_runs.specs.Prepared.{Holds, FlowLaid, AllLaid};
 
+use answers::refusals::Refusal;
 use blocks::flow::write_successors;
-use entry::{EntryVerdict, enter};
+use entry::enter;
 use parts::span_of;
 use rules::read_environment;
 use sets::member::put_objects;
@@ -20,11 +21,7 @@ fn copy_table(table: &[i32], member: &mut [i32]) -> usize
     ensures { Holds table.now member.old result member.new }
 {
     let count = table.len();
-    let mut i = 0;
-    while i < count {
-        member[i] = table[i];
-        i += 1;
-    }
+    member[..count].copy_from_slice(table);
     count
 }
 
@@ -34,17 +31,13 @@ fn put_member(tables: &[i32], lengths: &[u32], n: usize, member: &mut [i32]) -> 
     ensures { Holds (member_of (tables_in tables.now lengths.now) n) member.old result member.new }
 {
     let own = span_of(lengths, 1, 0, n, tables.len());
-    let own_start = own.start;
-    let own_end = own.end;
     if n == 0 {
-        return copy_table(&tables[own_start..own_end], member);
+        return copy_table(&tables[own.start..own.end], member);
     }
     let first = span_of(lengths, 1, 0, 0, tables.len());
-    let first_start = first.start;
-    let first_end = first.end;
     put_objects(
-        &tables[first_start..first_end],
-        &tables[own_start..own_end],
+        &tables[first.start..first.end],
+        &tables[own.start..own.end],
         member,
     )
 }
@@ -67,11 +60,8 @@ pub(crate) fn lay_flows(tables: &[i32], lengths: &[u32], member: &mut [i32], suc
     requires { AllAccepted (tables_in tables.now lengths.now) × (member_words ≤ length member.old) × (length successors.old ≡ 16384) }
     ensures { AllLaid tables.now lengths.now (length lengths.now) successors.new }
 {
-    let count = lengths.len();
-    let mut n = 0;
-    while n < count {
+    for n in 0..lengths.len() {
         lay_flow(tables, lengths, n, member, successors);
-        n += 1;
     }
 }
 
@@ -84,7 +74,7 @@ pub(crate) fn enter_last(
     cells: &[u32],
     values: &[u32],
     origins: &[u32],
-) -> EntryVerdict
+) -> Result<(), Refusal>
     requires { AllAccepted (tables_in tables.now lengths.now) × (member_words ≤ length member.old) }
     ensures { result ≡ entered (entry_faults (tables_in tables.now lengths.now) (record {
       directory = directory.entry.now;

@@ -1,6 +1,6 @@
 -- The verdict on a routine of a set, from what the check of its table answers.
 use Prim.Native.Nat.{ℕ, zero, suc, ◌≤◌, ◌<◌}
-use Rattle.std.specs.Prelude.{◌≡◌, Bool, not, ◌&&◌, eqb, ℤ, length, get_or}
+use Rattle.std.specs.Prelude.{◌≡◌, Bool, not, ◌&&◌, eqb, ℤ, length, get_or, Err, Ok, Result}
 use Rattle.std.proofs.Math.Path.{refl, ap}
 use Rattle.std.proofs.Common.{sym, ◌∙◌, arith, ne_eqb}
 use Rattle.std.proofs.Math.Bool.{true, false, cond}
@@ -13,8 +13,6 @@ use Rattle.words.specs.declared.sections.Sections.{Sections}
 use Rattle.statements.specs.declared.CallSite.{CallSite}
 use Rattle.table.specs.Form.{sections_of, length_right, directory_right, head_right, items_form, form_of}
 use Rattle.table.specs.FormLaws.{well-formed, head-limits}
-use Rattle.table.specs.declared.Form.{Form}
-use Rattle.table.specs.declared.Form.TheVariants as form
 use Rattle.rules.specs.FactSets.{FactSets}
 use Rattle.rules.specs.Calls.{Routine, routine_at}
 use Rattle.rules.specs.CallLaws.{AllFormed, none-formed}
@@ -29,22 +27,20 @@ use Rattle.rules.specs.PutLaws.{head-whole, objects-few}
 use Rattle.rules.proofs.SetLaws.{put-at, lists-none, lent-head, member-formed, routine-at, length-routines, before_at}
 use Rattle.rules.specs.declared.Bounds.{Bounds}
 use Rattle.rules.specs.declared.Environment.{Environment}
-use Rattle.rules.specs.declared.Verdict.{Verdict}
-use Rattle.rules.specs.declared.Verdict.TheVariants.{Accepted, Refused}
 use Rattle.declared.specs.Callee.{signature_of, signed-faults}
 use Rattle.sets.specs.Member.{later_faults}
 use Rattle.sets.specs.SignatureLaws.{sections-same, signature-same, put-variables}
 
 -- ---- a table and its callees
 
-module _ (T : List ℤ) {f : Form} (e : f ≡ form_of T) (rs : List Routine) where
-  pub routine-refused : {r : Refusal} → f ≡ form.Refused r → Refused r ≡ verdict_of (faults rs T [])
+module _ (T : List ℤ) {f : Result Sections Refusal} (e : f ≡ form_of T) (rs : List Routine) where
+  pub routine-refused : {r : Refusal} → f ≡ Err r → Err r ≡ verdict_of (faults rs T [])
   unfolding verdict_rules.faults verdict_of
-  routine-refused p = ap (λ (g : Form). verdict_of (form_faults rs T [] g)) (sym p ∙ e)
+  routine-refused p = ap (λ (g : Result Sections Refusal). verdict_of (form_faults rs T [] g)) (sym p ∙ e)
 
-  pub routine-checked : {h : Sections} {v : Verdict} → f ≡ form.WellFormed h → v ≡ verdict_of (section_faults rs T h []) → v ≡ verdict_of (faults rs T [])
+  pub routine-checked : {h : Sections} {v : Result (Unit {0}) Refusal} → f ≡ Ok h → v ≡ verdict_of (section_faults rs T h []) → v ≡ verdict_of (faults rs T [])
   unfolding verdict_rules.faults
-  routine-checked p q = q ∙ ap (λ (g : Form). verdict_of (form_faults rs T [] g)) (sym p ∙ e)
+  routine-checked p q = q ∙ ap (λ (g : Result Sections Refusal). verdict_of (form_faults rs T [] g)) (sym p ∙ e)
 
 pub faults-same : (T : List ℤ) (rs qs : List Routine)
     → ((E : Environment) (f : FactSet) (K : List Bounds) (c : CallSite) (a : ℕ) → call_faults rs E a c f K ≡ call_faults qs E a c f K)
@@ -52,9 +48,9 @@ pub faults-same : (T : List ℤ) (rs qs : List Routine)
 unfolding verdict_rules.faults
 faults-same T rs qs e = go (form_of T)
   where
-    go : (f : Form) → form_faults rs T [] f ≡ form_faults qs T [] f
-    go (form.Refused r) = refl
-    go (form.WellFormed h) = sections-same T h [] rs qs (λ a c f K. e _ f K c a)
+    go : (f : Result Sections Refusal) → form_faults rs T [] f ≡ form_faults qs T [] f
+    go (Err r) = refl
+    go (Ok h) = sections-same T h [] rs qs (λ a c f K. e _ f K c a)
 
 -- ---- the verdict on routine n, by the paper's chains
 
@@ -64,8 +60,8 @@ unfolding verdict_rules.faults form_of head_right
 head-faults S T e = go (length_right T) (directory_right T (sections_of T)) e
   where
     go : (a b : Bool) → (a && b) ≡ false
-        → verdict_rules.form_faults S [] T [] (cond a (cond b (items_form T (sections_of T)) (form.Refused Directory)) (form.Refused Length))
-        ≡ form_faults [] T [] (cond a (cond b (items_form T (sections_of T)) (form.Refused Directory)) (form.Refused Length))
+        → verdict_rules.form_faults S [] T [] (cond a (cond b (items_form T (sections_of T)) (Err Directory)) (Err Length))
+        ≡ form_faults [] T [] (cond a (cond b (items_form T (sections_of T)) (Err Directory)) (Err Length))
     go false b z = refl
     go true false z = refl
     go true true z = absurd (false≢true (sym z))
@@ -84,7 +80,8 @@ module _ (Ts : List (List ℤ)) (n : ℕ) (g : AllFormed (before n (routines_of 
       go false true q = same-verdict _ _ (faults-agree (before n (routines_of Ts)) g (member_of Ts n) [] d r)
       go false false q = ap verdict_of (sym (head-faults (by_chains d) (get_or Ts n []) q))
 
-pub routine-judged : (Ts : List (List ℤ)) (n : ℕ) (v : Verdict) → AllFormed (before n (routines_of Ts)) → v ≡ verdict_of (member_faults store Ts n)
+pub routine-judged : (Ts : List (List ℤ)) (n : ℕ) (v : Result (Unit {0}) Refusal) → AllFormed (before n (routines_of Ts))
+    → v ≡ verdict_of (member_faults store Ts n)
     → RoutineJudged Ts n v
 unfolding RoutineJudged
 routine-judged Ts n v g e =
@@ -94,7 +91,7 @@ routine-judged Ts n v g e =
 -- ---- the callees of routine n, as they are lent, are enough
 
 -- An accepted routine of a set has the signature of its table as it is lent.
-pub lent-signature : (Ts : List (List ℤ)) (k : ℕ) → k < length Ts → ((m : ℕ) → m ≤ k → RoutineJudged Ts m Accepted)
+pub lent-signature : (Ts : List (List ℤ)) (k : ℕ) → k < length Ts → ((m : ℕ) → m ≤ k → RoutineJudged Ts m (Ok tt))
     → signature_of (routine_of (get_or Ts k [])) ≡ signature_of (routine_of (member_of Ts k))
 unfolding members
 lent-signature [] k l a = absurd (omega arith)
@@ -123,7 +120,8 @@ none_before : (rs : List Routine) → AllFormed (before 0 rs)
 unfolding before
 none_before rs = none-formed
 
-pub said-first : (Ts : List (List ℤ)) {rs : List Routine} {v : Verdict} → 0 < length Ts → rs ≡ [] → v ≡ verdict_of (faults rs (get_or Ts 0 []) [])
+pub said-first : (Ts : List (List ℤ)) {rs : List Routine} {v : Result (Unit {0}) Refusal} → 0 < length Ts → rs ≡ []
+    → v ≡ verdict_of (faults rs (get_or Ts 0 []) [])
     → RoutineJudged Ts 0 v
 said-first Ts {rs} {v} l n e =
     routine-judged Ts 0 v (none_before (routines_of Ts)) (e ∙ (ap (λ (qs : List Routine). verdict_of (faults qs (get_or Ts 0 []) [])) n
@@ -151,7 +149,7 @@ later-faults Ts n z l =
     go false b xs ys = refl
 
 -- Where the callees are the tables as they are lent, the faults are those of routine n of the set.
-module _ (Ts : List (List ℤ)) (n : ℕ) (within : n ≤ length Ts) (earlier : (m : ℕ) → m < n → RoutineJudged Ts m Accepted)
+module _ (Ts : List (List ℤ)) (n : ℕ) (within : n ≤ length Ts) (earlier : (m : ℕ) → m < n → RoutineJudged Ts m (Ok tt))
     (rs : List Routine) (count : length rs ≡ n) (each : (k : ℕ) → k < n → routine_at rs k ≡ routine_of (get_or Ts k [])) where
   before-long : (m : ℕ) (qs : List Routine) → m ≤ length qs → length (before m qs) ≡ m
   unfolding before
@@ -186,5 +184,6 @@ module _ (Ts : List (List ℤ)) (n : ℕ) (within : n ≤ length Ts) (earlier : 
       (lent-faults (with_objects (object_words F) T))
 
   -- Routine n behind the first.
-  pub said-later : {v : Verdict} → (n ≡ 0 → ⊥) → n < length Ts → v ≡ verdict_of (later_faults rs (get_or Ts 0 []) (get_or Ts n [])) → RoutineJudged Ts n v
+  pub said-later : {v : Result (Unit {0}) Refusal} → (n ≡ 0 → ⊥) → n < length Ts → v ≡ verdict_of (later_faults rs (get_or Ts 0 []) (get_or Ts n []))
+      → RoutineJudged Ts n v
   said-later {v} z l e = routine-judged Ts n v prefix-formed (e ∙ ap verdict_of (later-alike (get_or Ts 0 []) (get_or Ts n []) ∙ sym (later-faults Ts n z l)))

@@ -1,6 +1,7 @@
 -- What the check of a set answers is small: the place and the pointer of a refusal, and the number of the routine.
+use Rattle.rules.specs.declared.SetRefusal.{SetRefusal}
 use Prim.Native.Nat.{ℕ, zero, suc, ◌^◌, ◌<◌, ◌≤◌}
-use Rattle.std.specs.Prelude.{◌≡◌, ◌⊎◌, Bool, true, false, cond, List, [], ◌∷◌, leb, ℤ, length, get_or}
+use Rattle.std.specs.Prelude.{◌≡◌, ◌⊎◌, Bool, true, false, cond, List, [], ◌∷◌, leb, ℤ, length, get_or, Err, Ok, Result}
 use Rattle.std.proofs.Math.Path.{refl}
 use Rattle.std.proofs.Common.{◌∙◌, eq-or-lt_of_le, arith, leb-true}
 use Rattle.std.proofs.Math.Logic.{inl, inr, ⊎_elim}
@@ -19,10 +20,6 @@ use Rattle.rules.specs.Sets.{FirstRefused, AllAccepted, SetRefused, SetJudged}
 use Rattle.rules.proofs.SetLaws.{member-formed, routine-at, before_at, before-short}
 use Rattle.rules.specs.Small.{RefusalSmall, FirstSmall, ReadingSmall, one-small, verdict-small}
 use Rattle.rules.proofs.SmallLaws.{faults-small}
-use Rattle.rules.specs.declared.SetVerdict.{SetVerdict}
-use Rattle.rules.specs.declared.SetVerdict.TheVariants as whole
-use Rattle.rules.specs.declared.Verdict.{Verdict}
-use Rattle.rules.specs.declared.Verdict.TheVariants.{Accepted, Refused}
 use Rattle.sets.specs.Checked.{verdict_in, routine_in}
 use Rattle.sets.specs.JudgedLaws.{routine-judged}
 
@@ -38,11 +35,11 @@ member-small S Ts n = go (lists_objects n (get_or Ts n [])) (head_right (get_or 
     go false true = faults-small S (before n (routines_of Ts)) (member_of Ts n) []
     go false false = faults-small S [] (get_or Ts n []) []
 
-judged-small : (Ts : List (List ℤ)) (n : ℕ) (r : Refusal) → RoutineJudged Ts n (Refused r) → RefusalSmall r
+judged-small : (Ts : List (List ℤ)) (n : ℕ) (r : Refusal) → RoutineJudged Ts n (Err r) → RefusalSmall r
 unfolding RoutineJudged
 judged-small Ts n r j =
     let S = by_chains j.decider in
-    let t = verdict-small (member_faults S Ts n) (Refused r) (member-small S Ts n) (j.by-each j.decider j.decides).verdict in
+    let t = verdict-small (member_faults S Ts n) (Err r) (member-small S Ts n) (j.by-each j.decider j.decides).verdict in
     record { place-small = t.0; pointer-small = t.1 }
 
 pub count-few : (Ts : List (List ℤ)) → count_right Ts ≡ true → length Ts ≤ 8
@@ -64,10 +61,10 @@ refused-small false Ts n r j = let p = j.0 in let q = j.1 in rw (p, q) (count_sm
 refused-small true Ts n r j = first_small Ts n r j
 
 -- WHAT THE CHECK OF A SET ANSWERS.
-pub set-small : (Ts : List (List ℤ)) (v : SetVerdict) → SetJudged Ts v → ReadingSmall (verdict_reads (verdict_in v)) × (routine_in v < 2 ^ 32)
+pub set-small : (Ts : List (List ℤ)) (v : Result (Unit {0}) SetRefusal) → SetJudged Ts v → ReadingSmall (verdict_reads (verdict_in v)) × (routine_in v < 2 ^ 32)
 unfolding SetJudged
-set-small Ts whole.Accepted j = (tt, omega arith)
-set-small Ts (whole.Refused n r) j = let s = refused-small (count_right Ts) Ts n r j in ((s.0.place-small, s.0.pointer-small), s.1)
+set-small Ts (Ok _) j = (tt, omega arith)
+set-small Ts (Err x) j = let s = refused-small (count_right Ts) Ts x.routine x.refusal j in ((s.0.place-small, s.0.pointer-small), s.1)
 
 -- ---- of a set of the right count either a first routine is refused, or all are accepted
 
@@ -76,7 +73,7 @@ module _ (Ts : List (List ℤ)) (count : count_right Ts ≡ true) where
   Found = (n : ℕ) × (r : Refusal) × FirstRefused Ts n r
 
   AllTo : ℕ → Type 0
-  AllTo k = (m : ℕ) → m < k → RoutineJudged Ts m Accepted
+  AllTo k = (m : ℕ) → m < k → RoutineJudged Ts m (Ok tt)
 
   earlier-formed : (k : ℕ) → k ≤ length Ts → AllTo k → AllFormed (before k (routines_of Ts))
   unfolding AllTo
@@ -89,9 +86,9 @@ module _ (Ts : List (List ℤ)) (count : count_right Ts ≡ true) where
   unfolding AllTo Found
   one_more k l a = go (verdict_of (member_faults store Ts k)) (routine-judged Ts k _ (earlier-formed k (omega arith) a) refl)
     where
-      go : (v : Verdict) → RoutineJudged Ts k v → Found ⊎ AllTo (suc k)
-      go (Refused r) j = inl (k, r, record { count = count; below = l; refused-it = j; earlier = a })
-      go Accepted j = inr (λ m b. ⊎_elim (λ (e : m ≡ k). rw e j) (λ (e : m < k). a m e) (eq-or-lt_of_le (omega arith)))
+      go : (v : Result (Unit {0}) Refusal) → RoutineJudged Ts k v → Found ⊎ AllTo (suc k)
+      go (Err r) j = inl (k, r, record { count = count; below = l; refused-it = j; earlier = a })
+      go (Ok tt) j = inr (λ m b. ⊎_elim (λ (e : m ≡ k). rw e j) (λ (e : m < k). a m e) (eq-or-lt_of_le (omega arith)))
 
   search-to : (k : ℕ) → k ≤ length Ts → Found ⊎ AllTo k
   unfolding AllTo

@@ -3,12 +3,11 @@
 
 pub mod member; // member.rt: a table with the objects of routine 0 put in
 
-ghost use Rattle.std.specs.Prelude.{ℕ, ◌≤◌, ◌<◌, true, ◌≡◌, [], length};
+ghost use Rattle.std.specs.Prelude.{ℕ, ◌≤◌, ◌<◌, true, ◌≡◌, [], length, Ok};
 ghost use Rattle.table.specs.Form.{head_right};
 ghost use Rattle.rules.specs.Sets.{RoutineJudged};
 ghost use Rattle.rules.specs.Stored.{faults};
 ghost use Rattle.rules.specs.Verdict.{verdict_of};
-ghost use Rattle.rules.specs.declared.Verdict.TheVariants.{Accepted};
 ghost use Rattle.declared.specs.Callee.{callees_in};
 ghost use Rattle.sets.specs.Tables.{tables_in};
 ghost use Rattle.sets.specs.Member.{later_faults};
@@ -18,30 +17,17 @@ use answers::refusals::Refusal;
 use checker::sections::check_sections;
 use member::put_objects;
 use parts::span_of;
-use rules::{SetVerdict, Verdict};
-use table::{Form, head_right, read_form, sections_of};
-
-// What the check of a set answers.
-#[derive(Clone, Copy)]
-pub enum SetChecked {
-    // too little room is lent for a table with the objects put in
-    NoRoom,
-    Judged(SetVerdict),
-}
+use rules::SetRefusal;
+use table::{head_right, read_form, sections_of};
 
 // The verdict on a table of a routine that may call the callees. `callees` are the lengths of their tables, which stand in `words`, one after the other.
-fn check_routine(table: &[i32], words: &[i32], callees: &[u32]) -> Verdict
+fn check_routine(table: &[i32], words: &[i32], callees: &[u32]) -> Result<(), Refusal>
     ensures { result ≡ verdict_of (faults (callees_in words.now callees.now) table.now []) }
 {
-    let form = read_form(table);
-    match form {
-        Form::Refused(refusal) => Verdict::Refused(refusal),
-        Form::WellFormed(sections) => {
-            let listed = [0i32; 0];
-            let checked = check_sections(table, sections, &listed, words, callees);
-            checked.verdict
-        }
-    }
+    let sections = read_form(table)?;
+    let listed = [0i32; 0];
+    check_sections(table, sections, &listed, words, callees)?;
+    Ok(())
 }
 
 // The verdict on a routine behind the first: causes 1 and 2, then that it lists no objects, then with those of routine 0 put in.
@@ -51,7 +37,7 @@ fn check_later(
     words: &[i32],
     callees: &[u32],
     member: &mut [i32],
-) -> Verdict
+) -> Result<(), Refusal>
     requires { (head_right first.now ≡ true) × (member_words ≤ length member.old) }
     ensures value { result ≡ verdict_of (later_faults (callees_in words.now callees.now) first.now table.now) }
     ensures long { length member.new ≡ length member.old }
@@ -62,16 +48,21 @@ fn check_later(
     }
     let sections = sections_of(table);
     if sections.objects != 0 {
-        return Verdict::Refused(Refusal::ObjectLength(0));
+        return Err(Refusal::ObjectLength(0));
     }
     let count = put_objects(first, table, member);
     check_routine(&member[..count], words, callees)
 }
 
 // The verdict on routine n, where those before it are accepted.
-fn check_numbered(tables: &[i32], lengths: &[u32], member: &mut [i32], n: usize) -> Verdict
+fn check_numbered(
+    tables: &[i32],
+    lengths: &[u32],
+    member: &mut [i32],
+    n: usize,
+) -> Result<(), Refusal>
     requires { (n < length lengths.now) × (length lengths.now ≤ 8) × (member_words ≤ length member.old)
-        × ((m : ℕ) → m < n → RoutineJudged (tables_in tables.now lengths.now) m Accepted) }
+        × ((m : ℕ) → m < n → RoutineJudged (tables_in tables.now lengths.now) m (Ok tt)) }
     ensures routine_judged { RoutineJudged (tables_in tables.now lengths.now) n result }
     ensures long { length member.new ≡ length member.old }
 {
@@ -96,39 +87,40 @@ fn check_numbered(tables: &[i32], lengths: &[u32], member: &mut [i32], n: usize)
 
 // The verdict on the set whose tables stand in `tables`, one after the other; `lengths` are their lengths in words. `member` is room for one of them with the
 // objects of routine 0 put in.
-pub fn check_set(tables: &[i32], lengths: &[u32], member: &mut [i32]) -> SetChecked
+pub fn check_set(
+    tables: &[i32],
+    lengths: &[u32],
+    member: &mut [i32],
+) -> Option<Result<(), SetRefusal>>
     ensures { SetAnswered (length member.old) (tables_in tables.now lengths.now) result }
 {
     if member.len() < 7720 {
-        return SetChecked::NoRoom;
+        return None;
     }
     let count = lengths.len();
     if count < 1 {
-        return SetChecked::Judged(SetVerdict::Refused {
+        return Some(Err(SetRefusal {
             routine: 0,
             refusal: Refusal::RoutineCount,
-        });
+        }));
     }
     if 8 < count {
-        return SetChecked::Judged(SetVerdict::Refused {
+        return Some(Err(SetRefusal {
             routine: 0,
             refusal: Refusal::RoutineCount,
-        });
+        }));
     }
-    let mut n = 0;
-    while n < count {
+    for n in 0..count {
         let verdict = check_numbered(tables, lengths, member, n);
         match verdict {
-            Verdict::Refused(refusal) => {
-                return SetChecked::Judged(SetVerdict::Refused {
+            Err(refusal) => {
+                return Some(Err(SetRefusal {
                     routine: n,
-                    refusal: refusal,
-                });
+                    refusal,
+                }));
             }
-            Verdict::Accepted => {
-                n += 1;
-            }
+            Ok(()) => {}
         }
     }
-    SetChecked::Judged(SetVerdict::Accepted)
+    Some(Ok(()))
 }

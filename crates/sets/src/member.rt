@@ -51,10 +51,8 @@ pub fn put_objects(first: &[i32], table: &[i32], member: &mut [i32]) -> usize
     let own = sections_of(first);
     let sections = sections_of(table);
     let count = table.len() + own.objects;
-    let mut i = 0;
-    while i < count {
+    for i in 0..count {
         member[i] = member_word(first, own, table, sections, i);
-        i += 1;
     }
     count
 }

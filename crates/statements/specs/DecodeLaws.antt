@@ -1,5 +1,5 @@
 -- A record that reads is decoded as the statement that it reads as.
-use Rattle.std.specs.Prelude.{ℕ, ◌+◌, ◌-◌, ◌^◌, ◌≤◌, ◌<◌, Bool, ◌&&◌, ◌||◌, List, ◌⊎◌, ℤ, leb, ltb}
+use Rattle.std.specs.Prelude.{ℕ, ◌+◌, ◌-◌, ◌^◌, ◌≤◌, ◌<◌, Bool, ◌&&◌, ◌||◌, List, ◌⊎◌, ℤ, leb, ltb, None, Option, Some}
 use Rattle.std.proofs.Math.Path.{◌≡◌, refl}
 use Rattle.std.proofs.Common.{sym, ap, ◌∙◌, inl, inr, leb-true, ltb-true, eqb-true, arith}
 use Rattle.std.proofs.Math.Bool.{true, false, cond}
@@ -24,8 +24,6 @@ use Rattle.statements.specs.StatementLaws.{read-limits}
 use Rattle.statements.specs.declared.CallSite.{CallSite}
 use Rattle.statements.specs.declared.Statement.{Statement}
 use Rattle.statements.specs.declared.Statement.TheVariants.{Plain, If, While, Bundle, Call}
-use Rattle.statements.specs.declared.StatementRead.{StatementRead}
-use Rattle.statements.specs.declared.StatementRead.TheVariants.{Read, Unread}
 use Rattle.statements.specs.Decode.{unsigned, decoded_index, decoded_right, decoded_offset, decoded_condition, decoded_call, decoded_as}
 use Rattle.statements.specs.Decode.{decoded_at, decoded_call_at}
 
@@ -144,29 +142,29 @@ call_same k a b c d e v w x y z p q r s t = rw (p, q, r, s, t)
 
 -- ---- records
 
-read-if : (b : Bool) (s t : Statement) → read_if b s ≡ Read t → s ≡ t
+read-if : (b : Bool) (s t : Statement) → read_if b s ≡ Some t → s ≡ t
 read-if true s t e = cc
 read-if false s t e = let z : ◌≡◌ {A = ℕ} 0 1 = cc in absurd (omega arith)
 
 -- A record that is read where its tests hold, and decoded as the same then.
-read_as : (b : Bool) (s u t : Statement) → (b ≡ true → u ≡ s) → read_if b s ≡ Read t → u ≡ t
+read_as : (b : Bool) (s u t : Statement) → (b ≡ true → u ≡ s) → read_if b s ≡ Some t → u ≡ t
 read_as true s u t g e = g refl ∙ read-if true s t e
 read_as false s u t g e = let z : ◌≡◌ {A = ℕ} 0 1 = cc in absurd (omega arith)
 
-unread : (s t : Statement) → Unread ≡ Read t → s ≡ t
+unread : (s t : Statement) → None ≡ Some t → s ≡ t
 unread s t e = let z : ◌≡◌ {A = ℕ} 0 1 = cc in absurd (omega arith)
 
 -- Which of two records it is makes no difference.
-either-record : (b : Bool) (r q : StatementRead) (s u t : Statement) → (r ≡ Read t → s ≡ t) → (q ≡ Read t → u ≡ t) → cond b r q ≡ Read t → cond b s u ≡ t
+either-record : (b : Bool) (r q : Option Statement) (s u t : Statement) → (r ≡ Some t → s ≡ t) → (q ≡ Some t → u ≡ t) → cond b r q ≡ Some t → cond b s u ≡ t
 either-record true r q s u t f g e = f e
 either-record false r q s u t f g e = g e
 
-within : (b : Bool) (r : StatementRead) (t : Statement) → cond b r Unread ≡ Read t → r ≡ Read t
+within : (b : Bool) (r : Option Statement) (t : Statement) → cond b r None ≡ Some t → r ≡ Some t
 within true r t e = e
 within false r t e = let z : ◌≡◌ {A = ℕ} 0 1 = cc in absurd (omega arith)
 
 -- The last kind is decoded in any case.
-last : (b : Bool) (r : StatementRead) (s t : Statement) → (r ≡ Read t → s ≡ t) → cond b r Unread ≡ Read t → s ≡ t
+last : (b : Bool) (r : Option Statement) (s t : Statement) → (r ≡ Some t → s ≡ t) → cond b r None ≡ Some t → s ≡ t
 last true r s t f e = f e
 last false r s t f e = unread s t e
 
@@ -181,7 +179,7 @@ both₅ : (a b c d f : Bool) → (a && b && c && d && f) ≡ true → (a ≡ tru
 both₅ a b c d f e = let p = both₄ (a && b) c d f e in let q = both a b p.0 in (q.0, q.1, p.1, p.2)
 
 -- A kind by which a record reads is its 32 bits.
-known : (b : Bool) (r q : StatementRead) (t : Statement) (A : Type 0) → (b ≡ true → A) → (q ≡ Read t → A) → cond b r q ≡ Read t → A
+known : (b : Bool) (r q : Option Statement) (t : Statement) (A : Type 0) → (b ≡ true → A) → (q ≡ Some t → A) → cond b r q ≡ Some t → A
 known true r q t A f g e = f refl
 known false r q t A f g e = g e
 
@@ -209,7 +207,7 @@ module _ (table : List ℤ) (h : Sections) (limits : Limits h) (f : Fields) (t :
   kind-is : (n : ℕ) → 1 ≤ n → n ≤ 15 → eqb kind n ≡ true → unsigned f.kind ≡ kind
   kind-is n l u e = let a : kind ≡ n = eqb-true kind n e in omega arith
 
-  kind-unsigned : kind_read table h f ≡ Read t → unsigned f.kind ≡ kind
+  kind-unsigned : kind_read table h f ≡ Some t → unsigned f.kind ≡ kind
   unfolding kind_read
   kind-unsigned =
       known (eqb kind 1) _ _ t _ (kind-is 1 (omega arith) (omega arith))
@@ -229,7 +227,7 @@ module _ (table : List ℤ) (h : Sections) (limits : Limits h) (f : Fields) (t :
       (known (eqb kind 15) _ _ t _ (kind-is 15 (omega arith) (omega arith))
       (λ e. let z : ◌≡◌ {A = ℕ} 0 1 = cc in absurd (omega arith))))))))))))))))
 
-  kind-decoded : kind_read table h f ≡ Read t → decoded_as kind f ≡ t
+  kind-decoded : kind_read table h f ≡ Some t → decoded_as kind f ≡ t
   unfolding kind_read decoded_as literal_read add_constant_read arithmetic_read null_read address_read pointer_offset_read pointer_index_read load_read
       store_read check_read
       if_read while_read bundle_read declare_read call_read
@@ -279,7 +277,7 @@ module _ (table : List ℤ) (h : Sections) (limits : Limits h) (f : Fields) (t :
       (last (eqb kind 15) _ _ t (read_as (names_index table h f.second && is_argument h f.third && is_argument h f.fourth && is_argument h f.fifth
       && is_argument h f.sixth) _ _ t (λ e. rw (call-unsigned table h limits f e)))))))))))))))))
 
-pub read-decoded : (table : List ℤ) (h : Sections) (a : ℕ) (s : Statement) → statement_at table h a ≡ Read s → decoded_at table h a ≡ s
+pub read-decoded : (table : List ℤ) (h : Sections) (a : ℕ) (s : Statement) → statement_at table h a ≡ Some s → decoded_at table h a ≡ s
 unfolding statement_at decoded_at
 read-decoded table h a s e =
     let f = fields_at table (statement_start h a) in

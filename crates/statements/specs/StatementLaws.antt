@@ -1,5 +1,5 @@
 -- Laws of the reading of statements.
-use Rattle.std.specs.Prelude.{ℕ, ◌-◌, ◌^◌, ◌<◌, ◌≡◌, refl, Bool, true, false, ◌&&◌, ◌||◌, cond, List, ℤ, eqb}
+use Rattle.std.specs.Prelude.{ℕ, ◌-◌, ◌^◌, ◌<◌, ◌≡◌, refl, Bool, true, false, ◌&&◌, ◌||◌, cond, List, ℤ, eqb, None, Option, Some}
 use Rattle.std.proofs.Math.Dec.{ltb}
 use borrow.Author.Tests.{ltb-true}
 use Rattle.std.proofs.Common.{arith}
@@ -20,8 +20,6 @@ use Rattle.statements.specs.Statements.{check_read, if_read, while_read, bundle_
 use Rattle.statements.specs.Typed.{WellTyped, IsArgument, missing, given}
 use Rattle.statements.specs.declared.Statement.{Statement}
 use Rattle.statements.specs.declared.Statement.TheVariants.{If, While, Bundle}
-use Rattle.statements.specs.declared.StatementRead.{StatementRead}
-use Rattle.statements.specs.declared.StatementRead.TheVariants.{Read, Unread}
 
 argument-named : (h : Sections) (w : ℕ) → is_argument h w ≡ true → IsArgument h (index_of w)
 unfolding is_argument index_of
@@ -32,9 +30,9 @@ argument-named h w e = go (eqb w (bias - 1)) e
     go false g = given (below_holds h.variables w g)
 
 module _ (table : List ℤ) (h : Sections) where
-  abbrev TypedRead : StatementRead → Type 0
-  TypedRead (Read s) = WellTyped table h s
-  TypedRead Unread = Unit {0}
+  abbrev TypedRead : Option Statement → Type 0
+  TypedRead (Some s) = WellTyped table h s
+  TypedRead None = Unit {0}
 
   -- A record that is read where its tests hold is well typed if they make it so.
   typed₂ : (a b : Bool) (s : Statement) → (a ≡ true → b ≡ true → WellTyped table h s) → TypedRead (read_if (a && b) s)
@@ -53,7 +51,7 @@ module _ (table : List ℤ) (h : Sections) where
   typed₅ a b c d f s k = typed₄ (a && b) c d f s (λ e. let p = both a b e in k p.0 p.1)
 
   -- Which of two readings is taken makes no difference.
-  typed-pick : (b : Bool) (r s : StatementRead) → TypedRead r → TypedRead s → TypedRead (cond b r s)
+  typed-pick : (b : Bool) (r s : Option Statement) → TypedRead r → TypedRead s → TypedRead (cond b r s)
   typed-pick true r s p q = p
   typed-pick false r s p q = q
 
@@ -218,36 +216,36 @@ module _ (table : List ℤ) (h : Sections) where
         (typed-pick (is 12) (while_read table h f) _ while-typed
         (typed-pick (is 13) (bundle_read f) _ bundle-typed
         (typed-pick (is 14) (declare_read table h f) _ declare-typed
-        (typed-pick (is 15) (call_read table h f) Unread call-typed tt))))))))))))))
+        (typed-pick (is 15) (call_read table h f) None call-typed tt))))))))))))))
 
   statement-typed : (a : ℕ) → TypedRead (statement_at table h a)
   unfolding statement_at
-  statement-typed a = typed-pick (in_limits h && ltb a h.statements) (kind_read table h (fields_at table (statement_start h a))) Unread
+  statement-typed a = typed-pick (in_limits h && ltb a h.statements) (kind_read table h (fields_at table (statement_start h a))) None
       (kind-typed (fields_at table (statement_start h a))) tt
 
 -- A statement that was read is well typed.
-pub read-typed : (table : List ℤ) (h : Sections) (a : ℕ) (s : Statement) → statement_at table h a ≡ Read s → WellTyped table h s
+pub read-typed : (table : List ℤ) (h : Sections) (a : ℕ) (s : Statement) → statement_at table h a ≡ Some s → WellTyped table h s
 read-typed table h a s e = rw e at (statement-typed table h a)
 
 -- A statement that was read has a number below the number of statements.
-pub read-limits : (table : List ℤ) (h : Sections) (a : ℕ) (s : Statement) → statement_at table h a ≡ Read s → Limits h × (a < h.statements)
+pub read-limits : (table : List ℤ) (h : Sections) (a : ℕ) (s : Statement) → statement_at table h a ≡ Some s → Limits h × (a < h.statements)
 unfolding statement_at
 read-limits table h a s e = go (in_limits h && ltb a h.statements) refl e
   where
-    go : (b : Bool) → (in_limits h && ltb a h.statements) ≡ b → cond b (kind_read table h (fields_at table (statement_start h a))) Unread ≡ Read s
+    go : (b : Bool) → (in_limits h && ltb a h.statements) ≡ b → cond b (kind_read table h (fields_at table (statement_start h a))) None ≡ Some s
         → Limits h × (a < h.statements)
     go true q g = statement-limits h a q
     go false q g = let z : ◌≡◌ {A = ℕ} 0 1 = cc in absurd (omega arith)
 
-pub read-within : (table : List ℤ) (h : Sections) (a : ℕ) (s : Statement) → statement_at table h a ≡ Read s → a < h.statements
+pub read-within : (table : List ℤ) (h : Sections) (a : ℕ) (s : Statement) → statement_at table h a ≡ Some s → a < h.statements
 read-within table h a s e = (read-limits table h a s e).1
 
 -- The counts of a head that was read.
-pub read-counts-if : (table : List ℤ) (h : Sections) (a : ℕ) (c : Condition) (n m : ℕ) → statement_at table h a ≡ Read (If c n m) → (n < 2 ^ 31) × (m < 2 ^ 31)
+pub read-counts-if : (table : List ℤ) (h : Sections) (a : ℕ) (c : Condition) (n m : ℕ) → statement_at table h a ≡ Some (If c n m) → (n < 2 ^ 31) × (m < 2 ^ 31)
 read-counts-if table h a c n m e = let t = read-typed table h a (If c n m) e in (t.then-count, t.else-count)
 
-pub read-counts-while : (table : List ℤ) (h : Sections) (a : ℕ) (c : Condition) (n : ℕ) → statement_at table h a ≡ Read (While c n) → n < 2 ^ 31
+pub read-counts-while : (table : List ℤ) (h : Sections) (a : ℕ) (c : Condition) (n : ℕ) → statement_at table h a ≡ Some (While c n) → n < 2 ^ 31
 read-counts-while table h a c n e = (read-typed table h a (While c n) e).count
 
-pub read-counts-bundle : (table : List ℤ) (h : Sections) (a n : ℕ) → statement_at table h a ≡ Read (Bundle n) → n < 2 ^ 31
+pub read-counts-bundle : (table : List ℤ) (h : Sections) (a n : ℕ) → statement_at table h a ≡ Some (Bundle n) → n < 2 ^ 31
 read-counts-bundle table h a n e = read-typed table h a (Bundle n) e

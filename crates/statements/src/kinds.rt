@@ -4,7 +4,7 @@ ghost use Rattle.statements.specs.Statements.{unused_from, literal_read, add_con
 ghost use Rattle.statements.specs.Statements.{pointer_index_read, load_read, store_read, check_read, if_read, while_read, bundle_read, declare_read};
 ghost use Rattle.statements.specs.Statements.{is_argument, call_site, call_read, kind_read};
 
-use crate::{CallSite, Simple, Statement, StatementRead};
+use crate::{CallSite, Simple, Statement};
 use conditions::{condition_of, condition_right};
 use sums::BIAS;
 use words::Fields;
@@ -25,20 +25,20 @@ fn unused_from(n: usize, f: Fields) -> bool
 }
 
 // Kind 1: x := literal.
-fn read_literal(table: &[i32], sections: Sections, f: Fields) -> StatementRead
+fn read_literal(table: &[i32], sections: Sections, f: Fields) -> Option<Statement>
     ensures { result ≡ literal_read table.now sections f }
 {
     if names_integer(table, sections, f.first) & unused_from(3, f) {
-        return StatementRead::Read(Statement::Plain(Simple::Literal {
+        return Some(Statement::Plain(Simple::Literal {
             target: plain(f.first),
             value: literal_value(f.second),
         }));
     }
-    StatementRead::Unread
+    None
 }
 
 // Kind 2: x := y + k.
-fn read_add_constant(table: &[i32], sections: Sections, f: Fields) -> StatementRead
+fn read_add_constant(table: &[i32], sections: Sections, f: Fields) -> Option<Statement>
     ensures { result ≡ add_constant_read table.now sections f }
 {
     if names_integer(table, sections, f.first)
@@ -46,17 +46,17 @@ fn read_add_constant(table: &[i32], sections: Sections, f: Fields) -> StatementR
         & is_constant(f.third)
         & unused_from(4, f)
     {
-        return StatementRead::Read(Statement::Plain(Simple::AddConstant {
+        return Some(Statement::Plain(Simple::AddConstant {
             target: plain(f.first),
             source: plain(f.second),
             constant: f.third,
         }));
     }
-    StatementRead::Unread
+    None
 }
 
 // Kind 3: x := y op z.
-fn read_arithmetic(table: &[i32], sections: Sections, f: Fields) -> StatementRead
+fn read_arithmetic(table: &[i32], sections: Sections, f: Fields) -> Option<Statement>
     ensures { result ≡ arithmetic_read table.now sections f }
 {
     if names_integer(table, sections, f.first)
@@ -65,30 +65,30 @@ fn read_arithmetic(table: &[i32], sections: Sections, f: Fields) -> StatementRea
         & is_below(3, f.fourth)
         & unused_from(5, f)
     {
-        return StatementRead::Read(Statement::Plain(Simple::Arithmetic {
+        return Some(Statement::Plain(Simple::Arithmetic {
             target: plain(f.first),
             left: plain(f.second),
             right: plain(f.third),
             operation: plain(f.fourth),
         }));
     }
-    StatementRead::Unread
+    None
 }
 
 // Kind 4: p := null.
-fn read_null(table: &[i32], sections: Sections, f: Fields) -> StatementRead
+fn read_null(table: &[i32], sections: Sections, f: Fields) -> Option<Statement>
     ensures { result ≡ null_read table.now sections f }
 {
     if names_pointer(table, sections, f.first) & unused_from(2, f) {
-        return StatementRead::Read(Statement::Plain(Simple::Null {
+        return Some(Statement::Plain(Simple::Null {
             target: plain(f.first),
         }));
     }
-    StatementRead::Unread
+    None
 }
 
 // Kind 5: p := address of object o.
-fn read_address(table: &[i32], sections: Sections, f: Fields) -> StatementRead
+fn read_address(table: &[i32], sections: Sections, f: Fields) -> Option<Statement>
     ensures { result ≡ address_read table.now sections f }
 {
     if names_pointer(table, sections, f.first)
@@ -96,16 +96,16 @@ fn read_address(table: &[i32], sections: Sections, f: Fields) -> StatementRead
         & takes_object(table, sections, f.first, f.second)
         & unused_from(3, f)
     {
-        return StatementRead::Read(Statement::Plain(Simple::Address {
+        return Some(Statement::Plain(Simple::Address {
             target: plain(f.first),
             object: plain(f.second),
         }));
     }
-    StatementRead::Unread
+    None
 }
 
 // Kind 6: p := q + k.
-fn read_pointer_offset(table: &[i32], sections: Sections, f: Fields) -> StatementRead
+fn read_pointer_offset(table: &[i32], sections: Sections, f: Fields) -> Option<Statement>
     ensures { result ≡ pointer_offset_read table.now sections f }
 {
     if names_pointer(table, sections, f.first)
@@ -114,17 +114,17 @@ fn read_pointer_offset(table: &[i32], sections: Sections, f: Fields) -> Statemen
         & takes_pointer(table, sections, f.first, f.second)
         & unused_from(4, f)
     {
-        return StatementRead::Read(Statement::Plain(Simple::PointerOffset {
+        return Some(Statement::Plain(Simple::PointerOffset {
             target: plain(f.first),
             source: plain(f.second),
             constant: f.third,
         }));
     }
-    StatementRead::Unread
+    None
 }
 
 // Kind 7: p := q + i. Here i is a variable.
-fn read_pointer_index(table: &[i32], sections: Sections, f: Fields) -> StatementRead
+fn read_pointer_index(table: &[i32], sections: Sections, f: Fields) -> Option<Statement>
     ensures { result ≡ pointer_index_read table.now sections f }
 {
     if names_pointer(table, sections, f.first)
@@ -133,17 +133,17 @@ fn read_pointer_index(table: &[i32], sections: Sections, f: Fields) -> Statement
         & takes_pointer(table, sections, f.first, f.second)
         & unused_from(4, f)
     {
-        return StatementRead::Read(Statement::Plain(Simple::PointerIndex {
+        return Some(Statement::Plain(Simple::PointerIndex {
             target: plain(f.first),
             source: plain(f.second),
             index: plain(f.third),
         }));
     }
-    StatementRead::Unread
+    None
 }
 
 // Kind 8: x := p[i + k].
-fn read_load(table: &[i32], sections: Sections, f: Fields) -> StatementRead
+fn read_load(table: &[i32], sections: Sections, f: Fields) -> Option<Statement>
     ensures { result ≡ load_read table.now sections f }
 {
     if names_integer(table, sections, f.first)
@@ -152,18 +152,18 @@ fn read_load(table: &[i32], sections: Sections, f: Fields) -> StatementRead
         & is_constant(f.fourth)
         & unused_from(5, f)
     {
-        return StatementRead::Read(Statement::Plain(Simple::Load {
+        return Some(Statement::Plain(Simple::Load {
             target: plain(f.first),
             pointer: plain(f.second),
             index: index_of(f.third),
             constant: f.fourth,
         }));
     }
-    StatementRead::Unread
+    None
 }
 
 // Kind 9: p[i + k] := x.
-fn read_store(table: &[i32], sections: Sections, f: Fields) -> StatementRead
+fn read_store(table: &[i32], sections: Sections, f: Fields) -> Option<Statement>
     ensures { result ≡ store_read table.now sections f }
 {
     if names_pointer(table, sections, f.first)
@@ -172,81 +172,81 @@ fn read_store(table: &[i32], sections: Sections, f: Fields) -> StatementRead
         & names_integer(table, sections, f.fourth)
         & unused_from(5, f)
     {
-        return StatementRead::Read(Statement::Plain(Simple::Store {
+        return Some(Statement::Plain(Simple::Store {
             pointer: plain(f.first),
             index: index_of(f.second),
             constant: f.third,
             source: plain(f.fourth),
         }));
     }
-    StatementRead::Unread
+    None
 }
 
 // Kind 10: dynamic check.
-fn read_check(table: &[i32], sections: Sections, f: Fields) -> StatementRead
+fn read_check(table: &[i32], sections: Sections, f: Fields) -> Option<Statement>
     ensures { result ≡ check_read table.now sections f }
 {
     if condition_right(table, sections, f) & unused_from(5, f) {
-        return StatementRead::Read(Statement::Plain(Simple::Check {
+        return Some(Statement::Plain(Simple::Check {
             condition: condition_of(f),
         }));
     }
-    StatementRead::Unread
+    None
 }
 
 // Kind 11: if.
-fn read_if(table: &[i32], sections: Sections, f: Fields) -> StatementRead
+fn read_if(table: &[i32], sections: Sections, f: Fields) -> Option<Statement>
     ensures { result ≡ if_read table.now sections f }
 {
     if condition_right(table, sections, f) & is_below(COUNTS, f.fifth) & is_below(COUNTS, f.sixth) {
-        return StatementRead::Read(Statement::If {
+        return Some(Statement::If {
             condition: condition_of(f),
             then_count: plain(f.fifth),
             else_count: plain(f.sixth),
         });
     }
-    StatementRead::Unread
+    None
 }
 
 // Kind 12: while.
-fn read_while(table: &[i32], sections: Sections, f: Fields) -> StatementRead
+fn read_while(table: &[i32], sections: Sections, f: Fields) -> Option<Statement>
     ensures { result ≡ while_read table.now sections f }
 {
     if condition_right(table, sections, f) & is_below(COUNTS, f.fifth) & unused_from(6, f) {
-        return StatementRead::Read(Statement::While {
+        return Some(Statement::While {
             condition: condition_of(f),
             count: plain(f.fifth),
         });
     }
-    StatementRead::Unread
+    None
 }
 
 // Kind 13: bundle. Its count is judged with the blocks, so a negative one reads as 0.
-fn read_bundle(f: Fields) -> StatementRead
+fn read_bundle(f: Fields) -> Option<Statement>
     ensures { result ≡ bundle_read f }
 {
     if (plain(f.first) < COUNTS) & unused_from(2, f) {
-        return StatementRead::Read(Statement::Bundle {
+        return Some(Statement::Bundle {
             count: plain(f.first),
         });
     }
-    StatementRead::Unread
+    None
 }
 
 // Kind 14: bounds declared at a statement. The row is one of the table's.
-fn read_declare(table: &[i32], sections: Sections, f: Fields) -> StatementRead
+fn read_declare(table: &[i32], sections: Sections, f: Fields) -> Option<Statement>
     ensures { result ≡ declare_read table.now sections f }
 {
     if names_pointer(table, sections, f.first)
         & is_below(sections.rows, f.second)
         & unused_from(3, f)
     {
-        return StatementRead::Read(Statement::Plain(Simple::Declare {
+        return Some(Statement::Plain(Simple::Declare {
             pointer: plain(f.first),
             row: plain(f.second),
         }));
     }
-    StatementRead::Unread
+    None
 }
 
 // An argument of a call: a variable, or -1 for none.
@@ -270,7 +270,7 @@ fn call_site(f: Fields) -> CallSite
 }
 
 // Kind 15: a call. Whether there is such a callee, and whether the arguments fit it, is judged in the walk.
-fn read_call(table: &[i32], sections: Sections, f: Fields) -> StatementRead
+fn read_call(table: &[i32], sections: Sections, f: Fields) -> Option<Statement>
     ensures { result ≡ call_read table.now sections f }
 {
     if names_index(table, sections, f.second)
@@ -279,12 +279,12 @@ fn read_call(table: &[i32], sections: Sections, f: Fields) -> StatementRead
         & is_argument(sections, f.fifth)
         & is_argument(sections, f.sixth)
     {
-        return StatementRead::Read(Statement::Call(call_site(f)));
+        return Some(Statement::Call(call_site(f)));
     }
-    StatementRead::Unread
+    None
 }
 
-pub(crate) fn read_kind(table: &[i32], sections: Sections, f: Fields) -> StatementRead
+pub(crate) fn read_kind(table: &[i32], sections: Sections, f: Fields) -> Option<Statement>
     ensures { result ≡ kind_read table.now sections f }
 {
     let kind = plain(f.kind);
@@ -304,6 +304,6 @@ pub(crate) fn read_kind(table: &[i32], sections: Sections, f: Fields) -> Stateme
         13 => read_bundle(f),
         14 => read_declare(table, sections, f),
         15 => read_call(table, sections, f),
-        _ => StatementRead::Unread,
+        _ => None,
     }
 }

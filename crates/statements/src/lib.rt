@@ -37,7 +37,7 @@ use words::sections::{Sections, in_limits};
 //    |                | arguments          |        |                                              | unknown                         | callee
 
 // Kinds 1 to 10 and 14, in this order. Literals are plain numbers, constants are biased. A missing index is 16.
-#[derive(Clone, Copy)]
+#[derive(Clone, Copy, Debug, PartialEq, Eq)]
 pub enum Simple {
     Literal {
         target: usize,
@@ -93,7 +93,7 @@ pub enum Simple {
 }
 
 // Kind 15, a call: the callee's number (one below 0 is taken plus 4,294,967,296, which no routine has), the result and the arguments. A missing one is 16.
-#[derive(Clone, Copy)]
+#[derive(Clone, Copy, Debug, PartialEq, Eq)]
 pub struct CallSite {
     pub callee: u64,
     pub result: usize,
@@ -104,7 +104,7 @@ pub struct CallSite {
 }
 
 // The fifteen kinds. A bundle holds kinds 1 to 10 and 14 only, so these have a type of their own.
-#[derive(Clone, Copy)]
+#[derive(Clone, Copy, Debug, PartialEq, Eq)]
 pub enum Statement {
     Plain(Simple),
     If {
@@ -122,19 +122,13 @@ pub enum Statement {
     Call(CallSite),
 }
 
-#[derive(Clone, Copy)]
-pub enum StatementRead {
-    Read(Statement),
-    Unread,
-}
-
 // The statement of a number; one that the sections do not have is unread.
-pub fn read_statement(table: &[i32], sections: Sections, at: usize) -> StatementRead
+pub fn read_statement(table: &[i32], sections: Sections, at: usize) -> Option<Statement>
     ensures { result ≡ statement_at table.now sections at }
 {
     if in_limits(sections) & (at < sections.statements) {
         let start = sections.start + sections.objects + 8 * sections.variables + 7 * at;
         return read_kind(table, sections, fields_at(table, start));
     }
-    StatementRead::Unread
+    None
 }

@@ -1,5 +1,5 @@
 -- A step of the plain machine without origins, which is what the code does.
-use Rattle.std.specs.Prelude.{cond, ℕ, ◌+◌, ◌-◌, ◌*◌, ◌%◌, ◌^◌, ◌<◌, ◌≤◌, zero, suc, ◌≡◌, List, eqb, ℤ, length, get_or, set}
+use Rattle.std.specs.Prelude.{cond, ℕ, ◌+◌, ◌-◌, ◌*◌, ◌%◌, ◌^◌, ◌<◌, ◌≤◌, zero, suc, ◌≡◌, List, eqb, ℤ, length, get_or, set, Some}
 use Rattle.sums.specs.Numbers.{bias}
 use Rattle.words.specs.Sections.{statement_start}
 use Rattle.words.specs.declared.sections.Sections.{Sections}
@@ -9,7 +9,6 @@ use Rattle.statements.specs.declared.Simple.TheVariants.{Literal, AddConstant, A
 use Rattle.statements.specs.declared.Simple.TheVariants.{PointerIndex, Load, Store, Check as Test, Declare}
 use Rattle.statements.specs.declared.Statement.{Statement}
 use Rattle.statements.specs.declared.Statement.TheVariants.{Plain, If, While, Bundle, Call}
-use Rattle.statements.specs.declared.StatementRead.TheVariants.{Read}
 use Rattle.statements.specs.Decode.{decoded_at}
 use Rattle.blocks.specs.Flow.{Successors}
 use Rattle.blocks.specs.Shape.{entries_at}
@@ -173,7 +172,7 @@ pub record Ready (T : List ℤ) (h : Sections) (W S : List ℕ) (a : ℕ) (vs cs
   pub checked : List ℤ
   pub same : decoded_at T h a ≡ decoded_at checked h a
   pub statement : Statement
-  pub reads : statement_at checked h a ≡ Read statement
+  pub reads : statement_at checked h a ≡ Some statement
   pub inside : Inside W statement vs cs
   pub known : Marked S a → (s : Simple) → statement ≡ Plain s → failing (declared_in W) vs s ≡ none
 

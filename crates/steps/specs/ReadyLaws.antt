@@ -1,5 +1,5 @@
 -- What a statement that reads gives the code: its operands are in range, and its step is that of its kind.
-use Rattle.std.specs.Prelude.{cond, ℕ, ◌+◌, ◌*◌, ◌^◌, ◌<◌, ◌≤◌, ◌≡◌, List, ℤ, length, get_or}
+use Rattle.std.specs.Prelude.{cond, ℕ, ◌+◌, ◌*◌, ◌^◌, ◌<◌, ◌≤◌, ◌≡◌, List, ℤ, length, get_or, Some}
 use Rattle.std.proofs.Math.Path.{refl, ap}
 use Rattle.std.proofs.Common.{sym, ◌∙◌, arith}
 use Rattle.words.specs.Sections.{Limits, statement_start}
@@ -17,7 +17,6 @@ use Rattle.statements.specs.declared.Simple.TheVariants.{PointerIndex, Load, Sto
 use Rattle.statements.specs.declared.Statement.{Statement}
 use Rattle.statements.specs.declared.CallSite.{CallSite}
 use Rattle.statements.specs.declared.Statement.TheVariants.{Plain, If, While, Bundle, Call}
-use Rattle.statements.specs.declared.StatementRead.TheVariants.{Read}
 use Rattle.statements.specs.Decode.{decoded_at}
 use Rattle.statements.specs.DecodeLaws.{read-decoded}
 use Rattle.machine.specs.Machine.{address, condition_holds, Failing, none, failing}
@@ -92,10 +91,10 @@ module _ (T : List ℤ) (h : Sections) (W S : List ℕ) (a : ℕ) (vs cs : List 
   pub ready-below : Ready T h W S a vs cs → a < h.statements
   ready-below r = (read-limits r.checked h a r.statement r.reads).1
 
-  ready-reads : (s : Statement) (r : Ready T h W S a vs cs) → decoded_at T h a ≡ s → (statement_at r.checked h a ≡ Read s) × Inside W s vs cs
+  ready-reads : (s : Statement) (r : Ready T h W S a vs cs) → decoded_at T h a ≡ s → (statement_at r.checked h a ≡ Some s) × Inside W s vs cs
   ready-reads s r e =
       let g : r.statement ≡ s = sym (read-decoded r.checked h a r.statement r.reads) ∙ (sym r.same ∙ e) in
-      (r.reads ∙ ap Read g, rw g at r.inside)
+      (r.reads ∙ ap Some g, rw g at r.inside)
 
   pub ready-if : (c : Condition) (n m : ℕ) → 16 < length vs → Ready T h W S a vs cs → decoded_at T h a ≡ If c n m → Comparable c vs
   ready-if c n m l r e =

@@ -11,7 +11,6 @@ ghost use Rattle.steps.specs.Bare.{Prepared, Ready, bare_move, Moves};
 
 use checks::{Step, condition_holds};
 use conditions::Condition;
-use machine::wide;
 use simple::advance_simple;
 use statements::Statement;
 use statements::decode::decode_statement;
@@ -25,7 +24,7 @@ fn successor(successors: &[u32], i: usize) -> usize
     requires { i < length successors.now }
     ensures { result ≡ get_or successors.now i 0 }
 {
-    wide(successors[i]) as usize
+    successors[i] as usize
 }
 
 // An if or a while: `next` where its condition holds, else `other`.
@@ -61,22 +60,15 @@ pub fn advance(
         Statement::Plain(p) => advance_simple(
             ends, directory, successors, at, next, p, values, cells,
         ),
-        Statement::If {
-            condition,
-            then_count: _,
-            else_count: _,
-        } => {
+        Statement::If { condition, .. } => {
             let other = successor(successors, 2 * at + 1);
             Step::Go(branch(values, condition, next, other))
         }
-        Statement::While {
-            condition,
-            count: _,
-        } => {
+        Statement::While { condition, .. } => {
             let other = successor(successors, 2 * at + 1);
             Step::Go(branch(values, condition, next, other))
         }
-        Statement::Bundle { count: _ } => Step::Go(next),
+        Statement::Bundle { .. } => Step::Go(next),
         Statement::Call(_) => Step::Call,
     }
 }

@@ -9,7 +9,7 @@ ghost use Rattle.steps.specs.Bare.{offset_failing, index_failing, copied, Access
 use crate::MARK;
 use crate::numbers::{add_constant, combine};
 use checks::{Step, check_arithmetic, check_condition, check_load, check_store, size_in, slot};
-use machine::{scaled, wide};
+use machine::scaled;
 use statements::Simple;
 use sums::BIAS;
 
@@ -31,8 +31,7 @@ fn assign_pointer(
             values[target] = (sum - BIAS) as u32;
             arithmetic
         }
-        Step::Stop(_) => arithmetic,
-        Step::Call => arithmetic,
+        Step::Stop(_) | Step::Call => arithmetic,
     }
 }
 
@@ -53,7 +52,7 @@ fn offset_pointer(
         values[target] = values[source];
         return Step::Go(next);
     }
-    let base = wide(values[source]);
+    let base = u64::from(values[source]);
     assign_pointer(at, next, target, base, base + constant, values)
 }
 
@@ -72,8 +71,8 @@ fn index_pointer(
     ensures { Assigns (index_failing ends.now values.old source index) at next target
         (indexed (declared_in ends.now) values.old source index) values.old result values.new }
 {
-    let base = wide(values[source]);
-    let sum = base + scaled(size_in(ends, source), wide(values[index])) + BIAS;
+    let base = u64::from(values[source]);
+    let sum = base + scaled(size_in(ends, source), u64::from(values[index])) + BIAS;
     assign_pointer(at, next, target, base, sum, values)
 }
 
@@ -124,8 +123,7 @@ fn load(
             values[target] = cells[place];
             said
         }
-        Step::Stop(_) => said,
-        Step::Call => said,
+        Step::Stop(_) | Step::Call => said,
     }
 }
 
@@ -159,20 +157,17 @@ fn store(
             cells[place] = values[source];
             said
         }
-        Step::Stop(_) => said,
-        Step::Call => said,
+        Step::Stop(_) | Step::Call => said,
     }
 }
 
-// Kind 14: the six numbers of the row become those of the pointer.
+// Kind 14: the six numbers of the row become those of the pointer. A loop: the library has no `copy_within`.
 fn declare(ends: &mut [u64], next: usize, pointer: usize, row: usize) -> Step
     requires { (pointer < 16) × (row < 64) × (length ends.old ≡ 512) }
     ensures { (result ≡ Go next) × (ends.new ≡ copied 6 pointer row ends.old) }
 {
-    let mut j = 0;
-    while j < 6 {
+    for j in 0..6 {
         ends[6 * pointer + j] = ends[96 + 6 * row + j];
-        j += 1;
     }
     Step::Go(next)
 }

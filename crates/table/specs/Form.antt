@@ -1,5 +1,10 @@
 -- Causes of refusal 1 to 5: "Causes 1 to 6 come in that order over the whole table, lowest place first."
-use Rattle.std.specs.Prelude.{ℕ, zero, suc, ◌+◌, ◌*◌, ◌/◌, Bool, true, false, ◌&&◌, cond, ◌||◌, List, ℤ, length, leb, ltb, eqb}
+use Rattle.answers.specs.declared.refusals.Refusal.{Refusal}
+use Rattle.statements.specs.declared.Statement.{Statement}
+use Rattle.table.specs.declared.variables.BoundsRow.{BoundsRow}
+use Rattle.table.specs.declared.variables.Variable.{Variable}
+use Rattle.std.specs.Prelude.{ℕ, zero, suc, ◌+◌, ◌*◌, ◌/◌, Bool, true, false, ◌&&◌, cond, ◌||◌, List, ℤ, length, leb, ltb, eqb, is_some}
+use Rattle.std.specs.Prelude.{Err, None, Ok, Option, Result, Some}
 use Rattle.sums.specs.Numbers.{bias}
 use Rattle.answers.specs.declared.refusals.Refusal.TheVariants.{Length, Directory, ObjectLength, VariableRecord, StatementRecord}
 use Rattle.words.specs.Words.{word}
@@ -7,15 +12,7 @@ use Rattle.words.specs.Fields.{plain}
 use Rattle.words.specs.Sections.{in_limits, variables_start, statements_start, rows_start, table_end}
 use Rattle.words.specs.declared.sections.Sections.{Sections}
 use Rattle.statements.specs.Statements.{statement_at}
-use Rattle.statements.specs.declared.StatementRead.{StatementRead}
-use Rattle.statements.specs.declared.StatementRead.TheVariants as statement
 use Rattle.table.specs.Variables.{variable_at, object_at, row_at}
-use Rattle.table.specs.declared.variables.VariableRead.{VariableRead}
-use Rattle.table.specs.declared.variables.VariableRead.TheVariants as variable
-use Rattle.table.specs.declared.variables.RowRead.{RowRead}
-use Rattle.table.specs.declared.Form.{Form}
-use Rattle.table.specs.declared.Form.TheVariants.{WellFormed, Refused}
-use Rattle.table.specs.declared.variables.RowRead.TheVariants as row
 
 -- The word is the number n.
 unfoldable pub is_number : ℕ → ℕ → Bool
@@ -63,28 +60,16 @@ unfoldable pub object_right : List ℤ → Sections → ℕ → Bool
 object_right table h o = leb 1 (object_at table h o) && leb (object_at table h o) 1000000
 
 -- Cause 4: the record reads.
-abbrev pub is_variable_read : VariableRead → Bool
-is_variable_read (variable.Read v) = true
-is_variable_read variable.Unread = false
-
 unfoldable pub variable_reads : List ℤ → Sections → ℕ → Bool
-variable_reads table h v = is_variable_read (variable_at table h v)
+variable_reads table h v = is_some (variable_at table h v)
 
 -- Cause 4, of a row.
-abbrev pub is_row_read : RowRead → Bool
-is_row_read (row.Read l u) = true
-is_row_read row.Unread = false
-
 unfoldable pub row_reads : List ℤ → Sections → ℕ → Bool
-row_reads table h r = is_row_read (row_at table h r)
+row_reads table h r = is_some (row_at table h r)
 
 -- Cause 5: the record reads.
-abbrev pub is_statement_read : StatementRead → Bool
-is_statement_read (statement.Read s) = true
-is_statement_read statement.Unread = false
-
 unfoldable pub statement_reads : List ℤ → Sections → ℕ → Bool
-statement_reads table h a = is_statement_read (statement_at table h a)
+statement_reads table h a = is_some (statement_at table h a)
 
 -- Of n numbers from i on, the lowest at which the test fails; where it holds at all of them, the number after them.
 unfoldable pub lowest_from : (ℕ → Bool) → ℕ → ℕ → ℕ
@@ -104,14 +89,14 @@ unfoldable pub lowest_statement : List ℤ → Sections → ℕ
 lowest_statement table h = lowest_from (statement_reads table h) 0 h.statements
 
 -- Causes 3 to 5, "lowest place first". Point 2: "A faulty row is refusal 4 with the place number of variables plus row."
-unfoldable pub items_form : List ℤ → Sections → Form
+unfoldable pub items_form : List ℤ → Sections → Result Sections Refusal
 items_form table h =
-    cond (ltb (lowest_object table h) h.objects) (Refused (ObjectLength (lowest_object table h)))
-    (cond (ltb (lowest_variable table h) h.variables) (Refused (VariableRecord (lowest_variable table h)))
-    (cond (ltb (lowest_row table h) h.rows) (Refused (VariableRecord (h.variables + lowest_row table h)))
-    (cond (ltb (lowest_statement table h) h.statements) (Refused (StatementRecord (lowest_statement table h))) (WellFormed h))))
+    cond (ltb (lowest_object table h) h.objects) (Err (ObjectLength (lowest_object table h)))
+    (cond (ltb (lowest_variable table h) h.variables) (Err (VariableRecord (lowest_variable table h)))
+    (cond (ltb (lowest_row table h) h.rows) (Err (VariableRecord (h.variables + lowest_row table h)))
+    (cond (ltb (lowest_statement table h) h.statements) (Err (StatementRecord (lowest_statement table h))) (Ok h))))
 
 -- The first of the causes 1 to 5; where there is none, the sections.
-unfoldable pub form_of : List ℤ → Form
+unfoldable pub form_of : List ℤ → Result Sections Refusal
 form_of table = cond (length_right table)
-    (cond (directory_right table (sections_of table)) (items_form table (sections_of table)) (Refused Directory)) (Refused Length)
+    (cond (directory_right table (sections_of table)) (items_form table (sections_of table)) (Err Directory)) (Err Length)

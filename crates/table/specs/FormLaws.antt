@@ -1,5 +1,7 @@
 -- What holds of a table that causes 1 to 5 do not refuse.
-use Rattle.std.specs.Prelude.{ℕ, ◌+◌, ◌-◌, ◌*◌, ◌≤◌, ◌<◌, ◌≡◌, refl, Bool, ◌&&◌, ◌||◌, cond, List, ℤ, pos, negsuc, length, get_or, leb, ltb}
+use Rattle.table.specs.declared.variables.BoundsRow.{BoundsRow}
+use Rattle.std.specs.Prelude.{ℕ, ◌+◌, ◌-◌, ◌*◌, ◌≤◌, ◌<◌, ◌≡◌, refl, Bool, ◌&&◌, ◌||◌, cond, List, ℤ, pos, negsuc, length, get_or, leb, ltb, is_some}
+use Rattle.std.specs.Prelude.{Err, None, Ok, Option, Result, Some}
 use Rattle.std.proofs.Common.{sym, ap, ◌∙◌, leb-true, eqb-true, ne_eqb, ltb-false, arith}
 use Rattle.std.proofs.Math.Bool.{true, false}
 use Rattle.std.proofs.lemmas.Bool.{false≢true}
@@ -13,50 +15,42 @@ use Rattle.words.specs.SectionsLaws.{both, limits}
 use Rattle.words.specs.declared.sections.Sections.{Sections}
 use Rattle.statements.specs.Statements.{statement_at}
 use Rattle.statements.specs.declared.Statement.{Statement}
-use Rattle.statements.specs.declared.StatementRead.{StatementRead}
-use Rattle.statements.specs.declared.StatementRead.TheVariants as statement
 use Rattle.table.specs.Variables.{variable_at, object_at, row_at}
 use Rattle.table.specs.declared.variables.End.{End}
-use Rattle.table.specs.declared.variables.RowRead.{RowRead}
 use Rattle.table.specs.declared.variables.Variable.{Variable}
-use Rattle.table.specs.declared.variables.VariableRead.{VariableRead}
-use Rattle.table.specs.declared.variables.VariableRead.TheVariants as variable
-use Rattle.table.specs.Form.{length_right, is_number, four_pairs, sections_of, directory_right, head_right, object_right, is_variable_read}
-use Rattle.table.specs.Form.{variable_reads, is_statement_read, statement_reads, lowest_object, lowest_variable}
-use Rattle.table.specs.Form.{lowest_statement, items_form, form_of, fourth_right, is_row_read, row_reads, lowest_row}
+use Rattle.table.specs.Form.{length_right, is_number, four_pairs, sections_of, directory_right, head_right, object_right}
+use Rattle.table.specs.Form.{variable_reads, statement_reads, lowest_object, lowest_variable}
+use Rattle.table.specs.Form.{lowest_statement, items_form, form_of, fourth_right, row_reads, lowest_row}
 use Rattle.table.specs.Searches.{holds-below}
-use Rattle.table.specs.declared.Form.{Form}
-use Rattle.table.specs.declared.Form.TheVariants.{WellFormed, Refused}
-use Rattle.table.specs.declared.variables.RowRead.TheVariants as row
 
 pub record Formed (table : List ℤ) (h : Sections) : Type 0 where
   pub limits : Limits h
   pub long : length table ≡ table_end h
   pub objects : (o : ℕ) → o < h.objects → (1 ≤ object_at table h o) × (object_at table h o ≤ 1000000)
-  pub variables : (v : ℕ) → v < h.variables → (x : Variable) × (variable_at table h v ≡ variable.Read x)
-  pub rows : (r : ℕ) → r < h.rows → (l u : End) × (row_at table h r ≡ row.Read l u)
-  pub statements : (a : ℕ) → a < h.statements → (s : Statement) × (statement_at table h a ≡ statement.Read s)
+  pub variables : (v : ℕ) → v < h.variables → (x : Variable) × (variable_at table h v ≡ Some x)
+  pub rows : (r : ℕ) → r < h.rows → (l u : End) × (row_at table h r ≡ Some (record { lower = l; upper = u }))
+  pub statements : (a : ℕ) → a < h.statements → (s : Statement) × (statement_at table h a ≡ Some s)
 
 -- The last of two forms is well formed, and the first is a refusal.
-passes : (b : Bool) (r : Refusal) (f : Form) (h : Sections) → cond b (Refused r) f ≡ WellFormed h → (b ≡ false) × (f ≡ WellFormed h)
+passes : (b : Bool) (r : Refusal) (f : Result Sections Refusal) (h : Sections) → cond b (Err r) f ≡ Ok h → (b ≡ false) × (f ≡ Ok h)
 passes true r f h e = let z : ◌≡◌ {A = ℕ} 0 1 = cc in absurd (omega arith)
 passes false r f h e = (refl, e)
 
-holds : (b : Bool) (r : Refusal) (f : Form) (h : Sections) → cond b f (Refused r) ≡ WellFormed h → (b ≡ true) × (f ≡ WellFormed h)
+holds : (b : Bool) (r : Refusal) (f : Result Sections Refusal) (h : Sections) → cond b f (Err r) ≡ Ok h → (b ≡ true) × (f ≡ Ok h)
 holds true r f h e = (refl, e)
 holds false r f h e = let z : ◌≡◌ {A = ℕ} 0 1 = cc in absurd (omega arith)
 
-variable-read : (r : VariableRead) → is_variable_read r ≡ true → (x : Variable) × (r ≡ variable.Read x)
-variable-read (variable.Read x) e = (x, refl)
-variable-read variable.Unread e = let z : ◌≡◌ {A = ℕ} 0 1 = cc in absurd (omega arith)
+variable-read : (r : Option Variable) → is_some r ≡ true → (x : Variable) × (r ≡ Some x)
+variable-read (Some x) e = (x, refl)
+variable-read None e = let z : ◌≡◌ {A = ℕ} 0 1 = cc in absurd (omega arith)
 
-statement-read : (r : StatementRead) → is_statement_read r ≡ true → (s : Statement) × (r ≡ statement.Read s)
-statement-read (statement.Read s) e = (s, refl)
-statement-read statement.Unread e = let z : ◌≡◌ {A = ℕ} 0 1 = cc in absurd (omega arith)
+statement-read : (r : Option Statement) → is_some r ≡ true → (s : Statement) × (r ≡ Some s)
+statement-read (Some s) e = (s, refl)
+statement-read None e = let z : ◌≡◌ {A = ℕ} 0 1 = cc in absurd (omega arith)
 
-row_read : (r : RowRead) → is_row_read r ≡ true → (l u : End) × (r ≡ row.Read l u)
-row_read (row.Read l u) e = (l, u, refl)
-row_read row.Unread e = let z : ◌≡◌ {A = ℕ} 0 1 = cc in absurd (omega arith)
+row_read : (r : Option BoundsRow) → is_some r ≡ true → (l u : End) × (r ≡ Some (record { lower = l; upper = u }))
+row_read (Some b) e = (b.lower, b.upper, refl)
+row_read None e = let z : ◌≡◌ {A = ℕ} 0 1 = cc in absurd (omega arith)
 
 object-length : (table : List ℤ) (h : Sections) (o : ℕ) → object_right table h o ≡ true → (1 ≤ object_at table h o) × (object_at table h o ≤ 1000000)
 unfolding object_right
@@ -80,14 +74,14 @@ directory-long table h e =
     let p = both (in_limits h) (words && ends) e in
     (limits h p.0, eqb-true (length table) (table_end h) (both words ends p.1).1)
 
-items-formed : (table : List ℤ) (g h : Sections) → directory_right table g ≡ true → items_form table g ≡ WellFormed h → (g ≡ h) × Formed table g
+items-formed : (table : List ℤ) (g h : Sections) → directory_right table g ≡ true → items_form table g ≡ Ok h → (g ≡ h) × Formed table g
 unfolding items_form lowest_object lowest_variable lowest_row lowest_statement variable_reads row_reads statement_reads
 items-formed table g h d e =
     let o = passes (ltb (lowest_object table g) g.objects) (ObjectLength (lowest_object table g)) _ h e in
     let v = passes (ltb (lowest_variable table g) g.variables) (VariableRecord (lowest_variable table g)) _ h o.1 in
     let w = passes (ltb (lowest_row table g) g.rows) (VariableRecord (g.variables + lowest_row table g)) _ h v.1 in
-    let s = passes (ltb (lowest_statement table g) g.statements) (StatementRecord (lowest_statement table g)) (WellFormed g) h w.1 in
-    let same : WellFormed g ≡ WellFormed h = s.1 in
+    let s = passes (ltb (lowest_statement table g) g.statements) (StatementRecord (lowest_statement table g)) (Ok g) h w.1 in
+    let same : Ok g ≡ Ok h = s.1 in
     let l = directory-long table g d in (
       cc,
       record {
@@ -103,7 +97,7 @@ items-formed table g h d e =
     )
 
 -- A table that is well formed: its sizes, its length, and every record reads.
-pub well-formed : (table : List ℤ) (h : Sections) → form_of table ≡ WellFormed h → Formed table h
+pub well-formed : (table : List ℤ) (h : Sections) → form_of table ≡ Ok h → Formed table h
 unfolding form_of
 well-formed table h e =
     let a = holds (length_right table) Length _ h e in
@@ -113,7 +107,7 @@ well-formed table h e =
     rw same at p.1
 
 -- The sections of a well-formed table are those that its directory gives, and causes 1 and 2 do not refuse it.
-pub formed-sections : (table : List ℤ) (h : Sections) → form_of table ≡ WellFormed h → h ≡ sections_of table
+pub formed-sections : (table : List ℤ) (h : Sections) → form_of table ≡ Ok h → h ≡ sections_of table
 unfolding form_of
 formed-sections table h e =
     let g : Sections = sections_of table in
@@ -121,7 +115,7 @@ formed-sections table h e =
     let b = holds (directory_right table g) Directory (items_form table g) h a.1 in
     sym (items-formed table g h b.0 b.1).0
 
-pub formed-head : (table : List ℤ) (h : Sections) → form_of table ≡ WellFormed h → head_right table ≡ true
+pub formed-head : (table : List ℤ) (h : Sections) → form_of table ≡ Ok h → head_right table ≡ true
 unfolding form_of head_right
 formed-head table h e =
     let g : Sections = sections_of table in

@@ -1,41 +1,30 @@
--- The loop that looks for the lowest number at which a test fails: `while i < n { if !right(i) { return i; } i += 1; } i`.
-use Prim.Native.Nat.{ℕ, zero, suc, ◌+◌, ◌-◌, ◌≤◌, ◌<◌}
-use Rattle.std.specs.Prelude.{◌≡◌, Bool}
+-- The lowest number at which a test fails, as `arrays::lowest` finds it.
+use Prim.Native.Nat.{ℕ, zero, suc, ◌+◌, ◌≤◌, ◌<◌}
+use Rattle.std.specs.Prelude.{◌≡◌, Bool, not}
 use Rattle.std.proofs.Math.Path.{refl, ap, sym}
 use Rattle.std.proofs.Common.{◌∙◌, eq-or-lt_of_le}
 use Rattle.std.proofs.Math.Bool.{true, false, cond}
 use Rattle.std.proofs.Math.Logic.{⊎_elim}
 use native.Mathlib.Omega.{arith}
+use Rattle.arrays.specs.Lowest.{LowestAt}
 use Rattle.table.specs.Form.{lowest_from}
 
--- The loop's invariant: looking from i on gives what looking from 0 on gives.
-pub record Passed (right : ℕ → Bool) (n i : ℕ) : Type 0 where
-  pub within : i ≤ n
-  pub so_far : lowest_from right 0 n ≡ lowest_from right i (n - i)
-
 module _ (right : ℕ → Bool) where
-  next : (i n : ℕ) → i < n → lowest_from right i (n - i) ≡ cond (right i) (lowest_from right (i + 1) (n - (i + 1))) i
+  from-lowest : (found count n i : ℕ) → count ≡ i + n → i ≤ found → found ≤ count → ((k : ℕ) → k < found → right k ≡ true)
+      → (found < count → right found ≡ false) → found ≡ lowest_from right i n
   unfolding lowest_from
-  next i n h = let e : n - i ≡ suc (n - (i + 1)) = omega arith in ap (lowest_from right i) e
+  from-lowest found count zero i s l u p e = omega arith
+  from-lowest found count (suc n) i s l u p e =
+      ⊎_elim (λ (m : i ≡ found). let h : right i ≡ false = ap right m ∙ e (omega arith) in rw h (sym m))
+      (λ (m : i < found). let h = p i m in rw h (from-lowest found count n (i + 1) (omega arith) (omega arith) u p e))
+      (eq-or-lt_of_le l)
 
-  pub passed_none : (n : ℕ) → Passed right n 0
-  passed_none n = let e : n ≡ n - 0 = omega arith in record { within = omega arith; so_far = ap (lowest_from right 0) e }
-
-  pub passed-more : (n i : ℕ) → Passed right n i → i < n → right i ≡ true → Passed right n (i + 1)
-  passed-more n i p h e =
-      record {
-        within = omega arith;
-        so_far = p.so_far ∙ next i n h ∙ ap (λ (b : Bool). cond b (lowest_from right (i + 1) (n - (i + 1))) i) e;
-      }
-
-  -- What the loop answers at its end, and where the test fails.
-  pub passed-all : (n i : ℕ) → Passed right n i → n ≤ i → i ≡ lowest_from right 0 n
-  unfolding lowest_from
-  passed-all n i p h = let e : n - i ≡ 0 = omega (arith, p.within) in sym (p.so_far ∙ ap (lowest_from right i) e)
-
-  pub passed-fail : (n i : ℕ) → Passed right n i → i < n → right i ≡ false → i ≡ lowest_from right 0 n
-  passed-fail n i p h e =
-      sym (p.so_far ∙ next i n h ∙ ap (λ (b : Bool). cond b (lowest_from right (i + 1) (n - (i + 1))) i) e)
+  -- Where the search's test answers the contrary of `right`.
+  pub lowest-is : {answers : ℕ → Bool → Type 0} {count found : ℕ} → LowestAt answers count found
+      → ((i : ℕ) (b : Bool) → i < count → answers i b → right i ≡ not b) → found ≡ lowest_from right 0 count
+  lowest-is {answers} {count} {found} p e =
+      from-lowest found count count 0 (omega arith) (omega arith) p.within (λ k l. e k false (omega (arith, p.within)) (p.before k l))
+      (λ l. e found true l (p.there l))
 
   -- Where nothing fails, the test holds at each number.
   from-holds : (n i : ℕ) → i + n ≤ lowest_from right i n → (k : ℕ) → i ≤ k → k < i + n → right k ≡ true

@@ -1,5 +1,6 @@
 -- Laws of the reading of variables.
-use Rattle.std.specs.Prelude.{ℕ, ◌+◌, ◌<◌, ◌≤◌, ◌≡◌, Bool, ◌&&◌, cond, List, ℤ, leb, eqb}
+use Rattle.table.specs.declared.variables.BoundsRow.{BoundsRow}
+use Rattle.std.specs.Prelude.{ℕ, ◌+◌, ◌<◌, ◌≤◌, ◌≡◌, Bool, ◌&&◌, cond, List, ℤ, leb, eqb, None, Option, Some}
 use Rattle.std.proofs.Math.Path.{refl}
 use Rattle.std.proofs.Math.Bool.{true, false}
 use Rattle.std.proofs.Math.Dec.{ltb}
@@ -16,12 +17,8 @@ use Rattle.table.specs.Variables.{variable_of, variable_at, row_words_at, row_of
 use Rattle.table.specs.Typed.{EndTyped, PointerTyped, VariableTyped, RowTyped}
 use Rattle.table.specs.declared.variables.Variable.{Variable}
 use Rattle.table.specs.declared.variables.Variable.TheVariants.{Integer, Pointer}
-use Rattle.table.specs.declared.variables.VariableRead.{VariableRead}
-use Rattle.table.specs.declared.variables.VariableRead.TheVariants.{Read, Unread}
-use Rattle.table.specs.declared.variables.RowRead.{RowRead}
 use Rattle.table.specs.declared.variables.EndWords.{EndWords}
 use Rattle.table.specs.declared.variables.End.{End}
-use Rattle.table.specs.declared.variables.RowRead.TheVariants as row
 
 -- A size is at most 8.
 size_small : (w : ℕ) → is_size w ≡ true → size_of w ≤ 8
@@ -33,9 +30,9 @@ size_small w t = go (eqb w bias)
     go false = omega (arith, leb-true w (bias + 8) (both (leb bias w) (leb w (bias + 8)) t).1)
 
 module _ (table : List ℤ) (h : Sections) where
-  abbrev TypedRead : ℕ → VariableRead → Type 0
-  TypedRead v (Read x) = VariableTyped table h v x
-  TypedRead v Unread = Unit {0}
+  abbrev TypedRead : ℕ → Option Variable → Type 0
+  TypedRead v (Some x) = VariableTyped table h v x
+  TypedRead v None = Unit {0}
 
   end-typed : (e : EndWords) → end_right table h e ≡ true → EndTyped table h (end_of e)
   unfolding end_right end_of
@@ -86,8 +83,8 @@ module _ (table : List ℤ) (h : Sections) where
           (a ≡ true → integer_at table h v ≡ true) →
           (b ≡ true → PointerTyped table h v (size_of (variable_words_at table (variable_start h v)).size)
           (end_of (variable_words_at table (variable_start h v)).lower) (end_of (variable_words_at table (variable_start h v)).upper)) →
-          TypedRead v (cond a (Read Integer) (cond b (Read (Pointer (size_of (variable_words_at table (variable_start h v)).size)
-          (end_of (variable_words_at table (variable_start h v)).lower) (end_of (variable_words_at table (variable_start h v)).upper))) Unread))
+          TypedRead v (cond a (Some Integer) (cond b (Some (Pointer (size_of (variable_words_at table (variable_start h v)).size)
+          (end_of (variable_words_at table (variable_start h v)).lower) (end_of (variable_words_at table (variable_start h v)).upper))) None))
       go true b i p = i refl
       go false true i p = p refl
       go false false i p = tt
@@ -97,16 +94,16 @@ module _ (table : List ℤ) (h : Sections) where
   variable-typed v = go (is_variable h v) (record-typed v)
     where
       go : (b : Bool) → (b ≡ true → TypedRead v (variable_of table h (variable_words_at table (variable_start h v)))) →
-          TypedRead v (cond b (variable_of table h (variable_words_at table (variable_start h v))) Unread)
+          TypedRead v (cond b (variable_of table h (variable_words_at table (variable_start h v))) None)
       go true k = k refl
       go false k = tt
 
 -- A variable that was read is an integer, or a pointer whose ends name existing variables of the right kinds with constants in range.
 -- A row that was read: what its ends name.
 module _ (table : List ℤ) (h : Sections) where
-  abbrev TypedRow : RowRead → Type 0
-  TypedRow (row.Read l u) = RowTyped table h l u
-  TypedRow row.Unread = Unit {0}
+  abbrev TypedRow : Option BoundsRow → Type 0
+  TypedRow (Some b) = RowTyped table h b.lower b.upper
+  TypedRow None = Unit {0}
 
   row_typed : (r : ℕ) → TypedRow (row_at table h r)
   unfolding row_at row_of
@@ -116,23 +113,23 @@ module _ (table : List ℤ) (h : Sections) where
       (end-typed table h w.upper)
     where
       go : (a b c : Bool) {l u : End} → (b ≡ true → EndTyped table h l) → (c ≡ true → EndTyped table h u)
-          → TypedRow (cond a (cond (b && c) (row.Read l u) row.Unread) row.Unread)
+          → TypedRow (cond a (cond (b && c) (Some (record { lower = l; upper = u })) None) None)
       go true true true p q = record { lower = p refl; upper = q refl }
       go true true false p q = tt
       go true false c p q = tt
       go false b c p q = tt
 
-pub row-read-typed : (table : List ℤ) (h : Sections) (r : ℕ) (l u : End) → row_at table h r ≡ row.Read l u → RowTyped table h l u
+pub row-read-typed : (table : List ℤ) (h : Sections) (r : ℕ) (l u : End) → row_at table h r ≡ Some (record { lower = l; upper = u }) → RowTyped table h l u
 row-read-typed table h r l u e = rw e at (row_typed table h r)
 
-pub variable-read-typed : (table : List ℤ) (h : Sections) (v : ℕ) (x : Variable) → variable_at table h v ≡ Read x → VariableTyped table h v x
+pub variable-read-typed : (table : List ℤ) (h : Sections) (v : ℕ) (x : Variable) → variable_at table h v ≡ Some x → VariableTyped table h v x
 variable-read-typed table h v x e = rw e at (variable-typed table h v)
 
-pub variable-read-limits : (table : List ℤ) (h : Sections) (v : ℕ) (x : Variable) → variable_at table h v ≡ Read x → Limits h × (v < h.variables)
+pub variable-read-limits : (table : List ℤ) (h : Sections) (v : ℕ) (x : Variable) → variable_at table h v ≡ Some x → Limits h × (v < h.variables)
 unfolding variable_at
 variable-read-limits table h v x e = go (is_variable h v) refl e
   where
-    go : (b : Bool) → is_variable h v ≡ b → cond b (variable_of table h (variable_words_at table (variable_start h v))) Unread ≡ Read x
+    go : (b : Bool) → is_variable h v ≡ b → cond b (variable_of table h (variable_words_at table (variable_start h v))) None ≡ Some x
         → Limits h × (v < h.variables)
     go true q g = variable-limits h v q
     go false q g = let z : ◌≡◌ {A = ℕ} 0 1 = cc in absurd (omega arith)

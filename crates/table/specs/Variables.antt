@@ -1,5 +1,7 @@
 -- What the record of a variable reads as, and the length of an object (document 01, "The routine table").
-use Rattle.std.specs.Prelude.{ℕ, ◌+◌, ◌-◌, Bool, ◌&&◌, cond, false, true, List, ℤ, ltb, leb, eqb}
+use Rattle.table.specs.declared.variables.BoundsRow.{BoundsRow}
+use Rattle.table.specs.declared.variables.Variable.{Variable}
+use Rattle.std.specs.Prelude.{ℕ, ◌+◌, ◌-◌, Bool, ◌&&◌, cond, false, true, List, ℤ, ltb, leb, eqb, None, Option, Some}
 use Rattle.sums.specs.Numbers.{bias}
 use Rattle.words.specs.Words.{word}
 use Rattle.words.specs.Fields.{plain, index_of, is_zero, is_constant}
@@ -7,13 +9,9 @@ use Rattle.words.specs.Sections.{in_limits, is_variable, object_start, variable_
 use Rattle.words.specs.declared.sections.Sections.{Sections}
 use Rattle.table.specs.declared.variables.End.{End}
 use Rattle.table.specs.declared.variables.Variable.TheVariants.{Integer, Pointer}
-use Rattle.table.specs.declared.variables.VariableRead.{VariableRead}
-use Rattle.table.specs.declared.variables.VariableRead.TheVariants.{Read, Unread}
-use Rattle.table.specs.declared.variables.RowRead.{RowRead}
 use Rattle.table.specs.declared.variables.EndWords.{EndWords}
 use Rattle.table.specs.declared.variables.RowWords.{RowWords}
 use Rattle.table.specs.declared.variables.VariableWords.{VariableWords}
-use Rattle.table.specs.declared.variables.RowRead.TheVariants as row
 
 -- "An end is three words."
 unfoldable pub end_words_at : List ℤ → ℕ → EndWords
@@ -47,24 +45,24 @@ size_of w = cond (eqb w bias) 1 (plain w)
 unfoldable pub pointer_record : List ℤ → Sections → VariableWords → Bool
 pointer_record table h w = kind_is false true true (kind_of w.kind) && is_size w.size && end_right table h w.lower && end_right table h w.upper
 
-unfoldable pub variable_of : List ℤ → Sections → VariableWords → VariableRead
+unfoldable pub variable_of : List ℤ → Sections → VariableWords → Option Variable
 variable_of table h w =
-    cond (integer_record w) (Read Integer) (cond (pointer_record table h w) (Read (Pointer (size_of w.size) (end_of w.lower) (end_of w.upper))) Unread)
+    cond (integer_record w) (Some Integer) (cond (pointer_record table h w) (Some (Pointer (size_of w.size) (end_of w.lower) (end_of w.upper))) None)
 
 -- The variable of a number; a number that no variable has does not read.
-unfoldable pub variable_at : List ℤ → Sections → ℕ → VariableRead
-variable_at table h v = cond (is_variable h v) (variable_of table h (variable_words_at table (variable_start h v))) Unread
+unfoldable pub variable_at : List ℤ → Sections → ℕ → Option Variable
+variable_at table h v = cond (is_variable h v) (variable_of table h (variable_words_at table (variable_start h v))) None
 
 -- Point 2: "bounds rows of six words, two ends each". Its ends are tested as a variable's are.
 unfoldable pub row_words_at : List ℤ → ℕ → RowWords
 row_words_at table i = record { lower = end_words_at table i; upper = end_words_at table (i + 3) }
 
-unfoldable pub row_of : List ℤ → Sections → RowWords → RowRead
-row_of table h w = cond (end_right table h w.lower && end_right table h w.upper) (row.Read (end_of w.lower) (end_of w.upper)) row.Unread
+unfoldable pub row_of : List ℤ → Sections → RowWords → Option BoundsRow
+row_of table h w = cond (end_right table h w.lower && end_right table h w.upper) (Some (record { lower = end_of w.lower; upper = end_of w.upper })) None
 
 -- The row of a number; a number that no row has does not read.
-unfoldable pub row_at : List ℤ → Sections → ℕ → RowRead
-row_at table h r = cond (in_limits h && ltb r h.rows) (row_of table h (row_words_at table (row_start h r))) row.Unread
+unfoldable pub row_at : List ℤ → Sections → ℕ → Option BoundsRow
+row_at table h r = cond (in_limits h && ltb r h.rows) (row_of table h (row_words_at table (row_start h r))) None
 
 -- "Objects: one word each, its length in cells"; point 7: "An object word below 0 marks a terminated object of that many cells, sign removed".
 unfoldable pub object_cells : ℕ → ℕ

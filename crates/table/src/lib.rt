@@ -9,19 +9,13 @@ ghost use Rattle.table.specs.Form.{is_number, four_pairs, length_right, sections
 ghost use Rattle.table.specs.Form.{row_reads, statement_reads, lowest_object, lowest_variable, lowest_row, lowest_statement, items_form, form_of};
 
 use answers::refusals::Refusal;
-use statements::{StatementRead, read_statement};
+use arrays::lowest;
+use statements::read_statement;
 use sums::BIAS;
-use variables::{RowRead, VariableRead, read_object, read_row, read_variable};
+use variables::{read_object, read_row, read_variable};
 use words::field::plain;
 use words::sections::{Sections, in_limits};
 use words::word;
-
-// What causes 1 to 5 say of a table.
-#[derive(Clone, Copy)]
-pub enum Form {
-    WellFormed(Sections),
-    Refused(Refusal),
-}
 
 // The word is the number n.
 fn is_number(n: usize, w: u64) -> bool
@@ -122,124 +116,83 @@ fn object_right(table: &[i32], sections: Sections, o: usize) -> bool
 fn variable_reads(table: &[i32], sections: Sections, v: usize) -> bool
     ensures { result ≡ variable_reads table.now sections v }
 {
-    let read = read_variable(table, sections, v);
-    let VariableRead::Read(_) = read else {
-        return false;
-    };
-    true
+    read_variable(table, sections, v).is_some()
 }
 
 fn row_reads(table: &[i32], sections: Sections, r: usize) -> bool
     ensures { result ≡ row_reads table.now sections r }
 {
-    let read = read_row(table, sections, r);
-    let RowRead::Read { lower: _, upper: _ } = read else {
-        return false;
-    };
-    true
+    read_row(table, sections, r).is_some()
 }
 
 fn statement_reads(table: &[i32], sections: Sections, at: usize) -> bool
     ensures { result ≡ statement_reads table.now sections at }
 {
-    let read = read_statement(table, sections, at);
-    let StatementRead::Read(_) = read else {
-        return false;
-    };
-    true
+    read_statement(table, sections, at).is_some()
 }
 
 // The lowest object whose length is wrong, else their number.
 pub fn lowest_object(table: &[i32], sections: Sections) -> usize
     ensures { result ≡ lowest_object table.now sections }
 {
-    let n = sections.objects;
-    let mut i = 0;
-    while i < n {
-        if !object_right(table, sections, i) {
-            return i;
-        }
-        i += 1;
-    }
-    i
+    lowest(sections.objects, |o| !object_right(table, sections, o))
 }
 
 fn lowest_variable(table: &[i32], sections: Sections) -> usize
     ensures { result ≡ lowest_variable table.now sections }
 {
-    let n = sections.variables;
-    let mut i = 0;
-    while i < n {
-        if !variable_reads(table, sections, i) {
-            return i;
-        }
-        i += 1;
-    }
-    i
+    lowest(sections.variables, |v| !variable_reads(table, sections, v))
 }
 
 fn lowest_row(table: &[i32], sections: Sections) -> usize
     ensures { result ≡ lowest_row table.now sections }
 {
-    let n = sections.rows;
-    let mut i = 0;
-    while i < n {
-        if !row_reads(table, sections, i) {
-            return i;
-        }
-        i += 1;
-    }
-    i
+    lowest(sections.rows, |r| !row_reads(table, sections, r))
 }
 
 pub fn lowest_statement(table: &[i32], sections: Sections) -> usize
     ensures { result ≡ lowest_statement table.now sections }
 {
-    let n = sections.statements;
-    let mut i = 0;
-    while i < n {
-        if !statement_reads(table, sections, i) {
-            return i;
-        }
-        i += 1;
-    }
-    i
+    lowest(
+        sections.statements,
+        |at| !statement_reads(table, sections, at),
+    )
 }
 
 // Causes 3 to 5.
-fn items_form(table: &[i32], sections: Sections) -> Form
+fn items_form(table: &[i32], sections: Sections) -> Result<Sections, Refusal>
     requires { in_limits sections ≡ true }
     ensures { result ≡ items_form table.now sections }
 {
     let object = lowest_object(table, sections);
     if object < sections.objects {
-        return Form::Refused(Refusal::ObjectLength(object));
+        return Err(Refusal::ObjectLength(object));
     }
     let variable = lowest_variable(table, sections);
     if variable < sections.variables {
-        return Form::Refused(Refusal::VariableRecord(variable));
+        return Err(Refusal::VariableRecord(variable));
     }
     let row = lowest_row(table, sections);
     if row < sections.rows {
-        return Form::Refused(Refusal::VariableRecord(sections.variables + row));
+        return Err(Refusal::VariableRecord(sections.variables + row));
     }
     let statement = lowest_statement(table, sections);
     if statement < sections.statements {
-        return Form::Refused(Refusal::StatementRecord(statement));
+        return Err(Refusal::StatementRecord(statement));
     }
-    Form::WellFormed(sections)
+    Ok(sections)
 }
 
 // The first of the causes 1 to 5, in this order, each with its lowest place; else the sections.
-pub fn read_form(table: &[i32]) -> Form
+pub fn read_form(table: &[i32]) -> Result<Sections, Refusal>
     ensures { result ≡ form_of table.now }
 {
     if !length_right(table) {
-        return Form::Refused(Refusal::Length);
+        return Err(Refusal::Length);
     }
     let sections = sections_of(table);
     if !directory_right(table, sections) {
-        return Form::Refused(Refusal::Directory);
+        return Err(Refusal::Directory);
     }
     items_form(table, sections)
 }

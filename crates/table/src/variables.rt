@@ -9,30 +9,24 @@ use words::sections::{Sections, in_limits, kind_is, kind_of, names_index, names_
 use words::word;
 
 // An end of declared bounds: pointer + size times integer + constant. A missing integer is 16, the number that stands for zero. The constant is biased.
-#[derive(Clone, Copy)]
+#[derive(Clone, Copy, Debug, PartialEq, Eq)]
 pub struct End {
     pub pointer: usize,
     pub integer: usize,
     pub constant: u64,
 }
 
-#[derive(Clone, Copy)]
+#[derive(Clone, Copy, Debug, PartialEq, Eq)]
 pub enum Variable {
     Integer,
     Pointer { size: u64, lower: End, upper: End },
 }
 
-#[derive(Clone, Copy)]
-pub enum VariableRead {
-    Read(Variable),
-    Unread,
-}
-
 // A bounds row: the two ends that a kind 14 declares.
 #[derive(Clone, Copy)]
-pub enum RowRead {
-    Read { lower: End, upper: End },
-    Unread,
+pub struct BoundsRow {
+    pub lower: End,
+    pub upper: End,
 }
 
 // The three words of an end.
@@ -138,20 +132,20 @@ fn pointer_record(table: &[i32], sections: Sections, w: VariableWords) -> bool
         & end_right(table, sections, w.upper)
 }
 
-fn variable_of(table: &[i32], sections: Sections, w: VariableWords) -> VariableRead
+fn variable_of(table: &[i32], sections: Sections, w: VariableWords) -> Option<Variable>
     ensures { result ≡ variable_of table.now sections w }
 {
     if integer_record(w) {
-        return VariableRead::Read(Variable::Integer);
+        return Some(Variable::Integer);
     }
     if pointer_record(table, sections, w) {
-        return VariableRead::Read(Variable::Pointer {
+        return Some(Variable::Pointer {
             size: size_of(w.size),
             lower: end_of(w.lower),
             upper: end_of(w.upper),
         });
     }
-    VariableRead::Unread
+    None
 }
 
 fn row_words_at(table: &[i32], start: usize) -> RowWords
@@ -164,20 +158,20 @@ fn row_words_at(table: &[i32], start: usize) -> RowWords
     }
 }
 
-fn row_of(table: &[i32], sections: Sections, w: RowWords) -> RowRead
+fn row_of(table: &[i32], sections: Sections, w: RowWords) -> Option<BoundsRow>
     ensures { result ≡ row_of table.now sections w }
 {
     if end_right(table, sections, w.lower) & end_right(table, sections, w.upper) {
-        return RowRead::Read {
+        return Some(BoundsRow {
             lower: end_of(w.lower),
             upper: end_of(w.upper),
-        };
+        });
     }
-    RowRead::Unread
+    None
 }
 
 // The row of a number; a row that the sections do not have is unread.
-pub fn read_row(table: &[i32], sections: Sections, r: usize) -> RowRead
+pub fn read_row(table: &[i32], sections: Sections, r: usize) -> Option<BoundsRow>
     ensures { result ≡ row_at table.now sections r }
 {
     if in_limits(sections) & (r < sections.rows) {
@@ -188,11 +182,11 @@ pub fn read_row(table: &[i32], sections: Sections, r: usize) -> RowRead
             + 6 * r;
         return row_of(table, sections, row_words_at(table, start));
     }
-    RowRead::Unread
+    None
 }
 
 // The record of a variable; a variable that the sections do not have is unread.
-pub fn read_variable(table: &[i32], sections: Sections, v: usize) -> VariableRead
+pub fn read_variable(table: &[i32], sections: Sections, v: usize) -> Option<Variable>
     ensures { result ≡ variable_at table.now sections v }
 {
     if in_limits(sections) & (v < sections.variables) {
@@ -202,7 +196,7 @@ pub fn read_variable(table: &[i32], sections: Sections, v: usize) -> VariableRea
             variable_words_at(table, sections.start + sections.objects + 8 * v),
         );
     }
-    VariableRead::Unread
+    None
 }
 
 // The length that the word of an object gives, its sign removed.

@@ -40,10 +40,8 @@ impl Text {
         ensures { Grown (text_of self) more.now self.len result }
     {
         let mut text = self;
-        let mut i: usize = 0;
-        while i < more.len() {
-            text = text.push(more[i]);
-            i += 1;
+        for b in more {
+            text = text.push(*b);
         }
         text
     }

@@ -8,7 +8,7 @@ ghost use Rattle.turns.specs.Turns.{following};
 pub fn allowance(quantum: u32, left: u32) -> u32
     ensures { result ≡ min quantum left }
 {
-    if quantum <= left { quantum } else { left }
+    quantum.min(left)
 }
 
 // Whose turn is next, after routine r.

@@ -12,9 +12,10 @@ fn skip_some(input: &mut impl Read) -> bool {
 
 // Reads the input to its end. A loop has to end, and nothing says that an input does, so it counts down from a number that no run uses up.
 fn skip_rest(input: &mut impl Read) {
-    let mut turns = u64::MAX;
-    while turns > 0 && skip_some(input) {
-        turns -= 1;
+    for _ in 0..u64::MAX {
+        if !skip_some(input) {
+            return;
+        }
     }
 }
 

@@ -1,5 +1,6 @@
 -- What the tests of a field say.
-use Rattle.std.specs.Prelude.{ℕ, ◌+◌, ◌-◌, ◌≤◌, ◌<◌, ◌≡◌, Bool, not, ◌&&◌, ◌||◌, cond, List, ◌⊎◌, ℤ, leb, ltb, eqb}
+use Rattle.words.specs.declared.sections.Kind.{Kind}
+use Rattle.std.specs.Prelude.{ℕ, ◌+◌, ◌-◌, ◌≤◌, ◌<◌, ◌≡◌, Bool, not, ◌&&◌, ◌||◌, cond, List, ◌⊎◌, ℤ, leb, ltb, eqb, None, Option, Some}
 use Rattle.std.proofs.Math.Path.{refl}
 use Rattle.std.proofs.Math.Bool.{true, false}
 use Rattle.std.proofs.lemmas.Bool.{false≢true}
@@ -13,8 +14,6 @@ use Rattle.words.specs.SectionsLaws.{both, variable-limits}
 use Rattle.words.specs.Typed.{IsInteger, IsPointer, IsIndex, missing, given, IsSmall}
 use Rattle.words.specs.declared.sections.Sections.{Sections}
 use Rattle.words.specs.declared.sections.Kind.TheVariants.{Integer, Array, String}
-use Rattle.words.specs.declared.sections.KindRead.{KindRead}
-use Rattle.words.specs.declared.sections.KindRead.TheVariants.{Read, Unread}
 
 pub either : (a b : Bool) → (a || b) ≡ true → (a ≡ true) ⊎ (b ≡ true)
 either true b e = inl refl
@@ -54,7 +53,7 @@ module _ (table : List ℤ) (h : Sections) where
   unfolding kind_at kind_is
   kind-within v i a t e = go (is_variable h v) refl e
     where
-      go : (b : Bool) → is_variable h v ≡ b → kind_is i a t (cond b (kind_of (word table (variable_start h v))) Unread) ≡ true → is_variable h v ≡ true
+      go : (b : Bool) → is_variable h v ≡ b → kind_is i a t (cond b (kind_of (word table (variable_start h v))) None) ≡ true → is_variable h v ≡ true
       go true q g = q
       go false q g = absurd (false≢true g)
 
@@ -71,18 +70,18 @@ module _ (table : List ℤ) (h : Sections) where
   unfolding integer_at pointer_at kind_is
   integer-no-pointer v e = go (kind_at table h v) e
     where
-      go : (k : KindRead) → kind_is true false false k ≡ true → kind_is false true true k ≡ false
-      go (Read Integer) g = refl
-      go (Read Array) g = absurd (false≢true g)
-      go (Read String) g = absurd (false≢true g)
-      go Unread g = refl
+      go : (k : Option Kind) → kind_is true false false k ≡ true → kind_is false true true k ≡ false
+      go (Some Integer) g = refl
+      go (Some Array) g = absurd (false≢true g)
+      go (Some String) g = absurd (false≢true g)
+      go None g = refl
 
-  either-kind : (b c : Bool) (k : KindRead) → kind_is false b c k ≡ true → kind_is false true true k ≡ true
+  either-kind : (b c : Bool) (k : Option Kind) → kind_is false b c k ≡ true → kind_is false true true k ≡ true
   unfolding kind_is
-  either-kind b c (Read Integer) g = g
-  either-kind b c (Read Array) g = refl
-  either-kind b c (Read String) g = refl
-  either-kind b c Unread g = g
+  either-kind b c (Some Integer) g = g
+  either-kind b c (Some Array) g = refl
+  either-kind b c (Some String) g = refl
+  either-kind b c None g = g
 
   pub array-pointer : (v : ℕ) → array_at table h v ≡ true → pointer_at table h v ≡ true
   unfolding array_at pointer_at

@@ -1,12 +1,11 @@
 -- The sections of a table, and what a word of a record names (document 01, "The routine table").
-use Rattle.std.specs.Prelude.{ℕ, ◌+◌, ◌-◌, ◌*◌, ◌≤◌, Bool, true, false, not, ◌&&◌, ◌||◌, cond, List, ℤ, leb, ltb, eqb}
+use Rattle.words.specs.declared.sections.Kind.{Kind}
+use Rattle.std.specs.Prelude.{ℕ, ◌+◌, ◌-◌, ◌*◌, ◌≤◌, Bool, true, false, not, ◌&&◌, ◌||◌, cond, List, ℤ, leb, ltb, eqb, None, Option, Some}
 use Rattle.sums.specs.Numbers.{bias}
 use Rattle.words.specs.Words.{word}
 use Rattle.words.specs.Fields.{plain}
 use Rattle.words.specs.declared.sections.Sections.{Sections}
 use Rattle.words.specs.declared.sections.Kind.TheVariants.{Integer, Array, String}
-use Rattle.words.specs.declared.sections.KindRead.{KindRead}
-use Rattle.words.specs.declared.sections.KindRead.TheVariants.{Read, Unread}
 
 -- "The first offset is 6"; point 2: "A first offset of 8 means a fourth pair and section, after the statements: at most 64 bounds rows".
 unfoldable pub start_right : Sections → Bool
@@ -60,19 +59,19 @@ unfoldable pub is_variable : Sections → ℕ → Bool
 is_variable h v = in_limits h && ltb v h.variables
 
 -- "Kind (0 integer, 1 array_ptr)"; point 7: "`nt_array_ptr`, variable kind 2". Another word is no kind.
-unfoldable pub kind_of : ℕ → KindRead
-kind_of w = cond (eqb w bias) (Read Integer) (cond (eqb w (bias + 1)) (Read Array) (cond (eqb w (bias + 2)) (Read String) Unread))
+unfoldable pub kind_of : ℕ → Option Kind
+kind_of w = cond (eqb w bias) (Some Integer) (cond (eqb w (bias + 1)) (Some Array) (cond (eqb w (bias + 2)) (Some String) None))
 
 -- The kind word alone decides; a number that no variable has has no kind.
-unfoldable pub kind_at : List ℤ → Sections → ℕ → KindRead
-kind_at table h v = cond (is_variable h v) (kind_of (word table (variable_start h v))) Unread
+unfoldable pub kind_at : List ℤ → Sections → ℕ → Option Kind
+kind_at table h v = cond (is_variable h v) (kind_of (word table (variable_start h v))) None
 
 -- A test of the kind, by its three answers.
-unfoldable pub kind_is : Bool → Bool → Bool → KindRead → Bool
-kind_is integer array string (Read Integer) = integer
-kind_is integer array string (Read Array) = array
-kind_is integer array string (Read String) = string
-kind_is integer array string Unread = false
+unfoldable pub kind_is : Bool → Bool → Bool → Option Kind → Bool
+kind_is integer array string (Some Integer) = integer
+kind_is integer array string (Some Array) = array
+kind_is integer array string (Some String) = string
+kind_is integer array string None = false
 
 unfoldable pub integer_at : List ℤ → Sections → ℕ → Bool
 integer_at table h v = kind_is true false false (kind_at table h v)

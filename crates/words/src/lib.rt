@@ -12,7 +12,7 @@ ghost use Rattle.words.specs.Words.{biased, word, fields_at};
 use sums::BIAS;
 
 // The seven words of a statement record.
-#[derive(Clone, Copy)]
+#[derive(Clone, Copy, Debug, PartialEq, Eq)]
 pub struct Fields {
     pub kind: u64,
     pub first: u64,
@@ -26,7 +26,7 @@ pub struct Fields {
 fn biased(w: i32) -> u64
     ensures { result ≡ biased w }
 {
-    ((w as i64) + 8589934592) as u64
+    (i64::from(w) + 8589934592) as u64
 }
 
 // The word at an index of the table.

@@ -9,7 +9,7 @@ use sums::BIAS;
 
 // Where the first section starts (6, or 8 where there is a section of rows), and how many items each section has. The offsets follow: objects at word
 // start, variables at start + objects, statements at start + objects + 8 * variables, rows after 7 * statements more.
-#[derive(Clone, Copy)]
+#[derive(Clone, Copy, Debug, PartialEq, Eq)]
 pub struct Sections {
     pub start: usize,
     pub objects: usize,
@@ -19,17 +19,11 @@ pub struct Sections {
 }
 
 // The kinds of variables: 0 integer, 1 array_ptr, 2 nt_array_ptr.
-#[derive(Clone, Copy)]
+#[derive(Clone, Copy, Debug, PartialEq, Eq)]
 pub enum Kind {
     Integer,
     Array,
     String,
-}
-
-#[derive(Clone, Copy)]
-pub enum KindRead {
-    Read(Kind),
-    Unread,
 }
 
 // Six words and no row, or eight words and at most 64 rows.
@@ -56,36 +50,36 @@ fn is_variable(sections: Sections, v: usize) -> bool
 }
 
 // The kind of a kind word.
-pub fn kind_of(w: u64) -> KindRead
+pub fn kind_of(w: u64) -> Option<Kind>
     ensures { result ≡ kind_of w }
 {
     if w == BIAS {
-        return KindRead::Read(Kind::Integer);
+        return Some(Kind::Integer);
     }
     if w == BIAS + 1 {
-        return KindRead::Read(Kind::Array);
+        return Some(Kind::Array);
     }
     if w == BIAS + 2 {
-        return KindRead::Read(Kind::String);
+        return Some(Kind::String);
     }
-    KindRead::Unread
+    None
 }
 
 // The kind of a variable; none where there is no such variable.
-fn kind_at(table: &[i32], sections: Sections, v: usize) -> KindRead
+fn kind_at(table: &[i32], sections: Sections, v: usize) -> Option<Kind>
     ensures { result ≡ kind_at table.now sections v }
 {
     if is_variable(sections, v) {
         return kind_of(word(table, sections.start + sections.objects + 8 * v));
     }
-    KindRead::Unread
+    None
 }
 
 // A test of the kind, by its three answers.
-pub fn kind_is(integer: bool, array: bool, string: bool, read: KindRead) -> bool
+pub fn kind_is(integer: bool, array: bool, string: bool, read: Option<Kind>) -> bool
     ensures { result ≡ kind_is integer array string read }
 {
-    let KindRead::Read(kind) = read else {
+    let Some(kind) = read else {
         return false;
     };
     match kind {

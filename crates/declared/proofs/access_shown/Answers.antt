@@ -3,9 +3,9 @@ use Rattle.declared.specs.ShownLaws.{nothing-needed, pointer-needed}
 use Rattle.declared.proofs.access_shown.Goals as goal
 
 pub returns-in_default : goal.returns-in_default
-returns-in_default c = nothing-needed _ _ _ _ c.access_of-access.ensures c.in_default.is
+returns-in_default c = nothing-needed _ _ _ _ c.access_of.ensures c.in_default.is
 
 pub returns : goal.returns
-returns c = pointer-needed _ _ _ _ c.access_of-access.ensures
-    c.in-Through.is c.bounds_at.ensures c.bounds_at-2.ensures
+returns c = pointer-needed _ _ _ _ c.access_of.ensures
+    c.in-Some.is c.element_or.ensures c.element_or-2.ensures
     c.bounds_shown.ensures

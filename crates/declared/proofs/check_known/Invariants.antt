@@ -1,4 +1,3 @@
-use Prim.Native.Nat.{◌-◌}
 use Rattle.rules.specs.BoundsRules.{known}
 use Rattle.bounds.specs.Touched.{seen_as}
 use Rattle.declared.specs.ShownLaws.{Passed}
@@ -6,6 +5,3 @@ use Rattle.declared.proofs.check_known.Given as goal
 
 abbrev pub invariant-loop-p : goal.invariant-loop-p
 invariant-loop-p l = Passed (seen_as l.environment) l.facts l.known.each l.p
-
-abbrev pub decreases-loop-p : goal.decreases-loop-p
-decreases-loop-p l = 16 - l.p

@@ -14,11 +14,11 @@ pub run_ready-requires : goal.run_ready-requires
 run_ready-requires c = (
   c.requires.0,
   refl,
-  seated-ready _ _ _ _ _ c.in-Ready.is
+  seated-ready _ _ _ _ _ c.in-Ok.is
       c.seat_all-prepared.ensures,
 )
 
-pub returns-in-Refused : goal.returns-in-Refused
-returns-in-Refused c = first-refusal _ _ _ _
-    c.requires.0 (seated-refused _ _ _ _ _ c.in-Refused.is
+pub returns-in-Err : goal.returns-in-Err
+returns-in-Err c = first-refusal _ _ _ _
+    c.requires.0 (seated-refused _ _ _ _ _ c.in-Err.is
     c.seat_all-prepared.ensures)

@@ -7,13 +7,13 @@ pub rewalk-walk-requires : goal.rewalk-walk-requires
 rewalk-walk-requires c = let f = well-formed _ _ c.requires in
     (measured _ _ f.objects, f.limits.statements)
 
-pub returns-in-Refused : goal.returns-in-Refused
-returns-in-Refused c = start-layout _ _ _ c.requires c.read_layout-layout.ensures
-    c.in-Refused.is c.refuse.ensures
+pub returns-in-Err : goal.returns-in-Err
+returns-in-Err c = start-layout _ _ _ c.requires c.read_layout-layout.ensures
+    c.in-Err.is c.refuse.ensures
 
-pub returns-in-LaidOut : goal.returns-in-LaidOut
-returns-in-LaidOut c = start-walked _ _ _ c.requires
+pub returns-in-Ok : goal.returns-in-Ok
+returns-in-Ok c = start-walked _ _ _ c.requires
     c.read_layout-layout.ensures
-    c.in-LaidOut.is
+    c.in-Ok.is
     c.keep_first.ensures
     c.rewalk-walk.ensures c.answer_of.ensures

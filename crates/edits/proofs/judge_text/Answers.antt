@@ -15,7 +15,7 @@ returns-in_default c = text-refused _ _ _ (omega (arith, c.lowest_statement.ensu
 pub returns-then-count-eq0 : goal.returns-then-count-eq0
 returns-then-count-eq0 c = text-none _ _ _
     (omega (arith, c.lowest_statement.ensures, c.if-lowest_statement-count.false))
-    c.if-size-count.false c.read_layout-layout.ensures c.in-LaidOut.is c.if-count-eq0.true
+    c.if-size-count.false c.read_layout-layout.ensures c.in-Ok.is c.if-count-eq0.true
 
 pub returns-then-span-count : goal.returns-then-span-count
 returns-then-span-count c = text-more _ _ _
@@ -24,7 +24,7 @@ returns-then-span-count c = text-more _ _ _
       c.lowest_statement.ensures,
       c.if-lowest_statement-count.false,
     )) c.if-size-count.false
-    c.read_layout-layout.ensures c.in-LaidOut.is c.if-count-eq0.false
+    c.read_layout-layout.ensures c.in-Ok.is c.if-count-eq0.false
     c.span.ensures.0 c.if-span-count.true
 
 pub returns : goal.returns
@@ -34,5 +34,5 @@ returns c = text-right _ _ _
       c.lowest_statement.ensures,
       c.if-lowest_statement-count.false,
     )) c.if-size-count.false
-    c.read_layout-layout.ensures c.in-LaidOut.is c.if-count-eq0.false
+    c.read_layout-layout.ensures c.in-Ok.is c.if-count-eq0.false
     c.span.ensures.0 c.if-span-count.false

@@ -11,22 +11,12 @@ use Rattle.edits.specs.WrittenLaws.{shifted_down}
 use Rattle.edits.proofs.shift_down.Goals as goal
 
 pub loop-i-init : goal.loop-i-init
-loop-i-init c = (over-start _ _ _, search rules, search rules)
-
-pub slice_copy_out-words : goal.slice_copy_out-words
-slice_copy_out-words c = omega (arith, c.loop-i.invariant.0.long)
-
-pub bounds-words-i : goal.bounds-words-i
-bounds-words-i c = omega (arith, c.loop-i.invariant.0.long)
+loop-i-init c = over-start _ _ _
 
 pub loop-i-preserved : goal.loop-i-preserved
-loop-i-preserved c = (
-  over-at c.loop-i.invariant.0 c.loop-i.invariant.1 (omega (arith, c.requires.1))
-      (shifted_down c.args.by c.loop-i.invariant.0 c.loop-i.invariant.1
-      (to_z-of_z {w = w32} {z = get_or c.loop-i.words (c.loop-i.i + c.args.by) (pos 0)} (record { sfits = c.words-1.given }))),
-  search rules,
-  search rules,
-)
+loop-i-preserved c = over-at c.loop-i.invariant (search rules) (omega (arith, c.requires.1, c.loop-i-test.true))
+    (shifted_down c.args.by c.loop-i.invariant (search rules)
+    (to_z-of_z {w = w32} {z = get_or c.loop-i.words (c.loop-i.i + c.args.by) (pos 0)} (record { sfits = c.words-1.given })))
 
 pub returns : goal.returns
-returns c = let z : c.loop-i.i ≡ c.args.end = search rules in rw z at c.loop-i.invariant.0
+returns c = let z : c.loop-i.i ≡ c.args.end = search rules in rw z at c.loop-i.invariant

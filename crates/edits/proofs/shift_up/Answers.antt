@@ -10,21 +10,15 @@ use Rattle.edits.specs.WrittenLaws.{over-empty, shifted_up}
 use Rattle.edits.proofs.shift_up.Goals as goal
 
 pub loop-i-init : goal.loop-i-init
-loop-i-init c = (over-empty _ _ _, search rules, search rules)
-
-pub slice_copy_out-words : goal.slice_copy_out-words
-slice_copy_out-words c = omega (arith, c.loop-i.invariant.0.long)
-
-pub bounds-words-i : goal.bounds-words-i
-bounds-words-i c = omega (arith, c.loop-i.invariant.0.long)
+loop-i-init c = (over-empty _ _ _, c.requires.0)
 
 pub loop-i-preserved : goal.loop-i-preserved
 loop-i-preserved c = (
-  shifted_up c.args.by c.loop-i.invariant.0 (omega arith) c.loop-i.invariant.2 c.requires.1 (omega (arith, c.requires.2))
+  shifted_up c.args.by c.loop-i.invariant.0 (omega (arith, c.loop-i-test.true)) (omega (arith, c.loop-i.auto.i)) c.requires.1
+      (omega (arith, c.requires.2, c.loop-i-test.true))
       (to_z-of_z {w = w32} {z = get_or c.loop-i.words (c.loop-i.i - 1 - c.args.by) (pos 0)} (record { sfits = c.words-1.given })),
-  search rules,
-  search rules,
+  omega (arith, c.loop-i-test.true),
 )
 
 pub returns : goal.returns
-returns c = let z : c.loop-i.i ≡ c.args.first = search rules in rw z at c.loop-i.invariant.0
+returns c = let z : c.loop-i.i ≡ c.args.first = omega (arith, c.loop-i-test.false, c.loop-i.invariant.1) in rw z at c.loop-i.invariant.0

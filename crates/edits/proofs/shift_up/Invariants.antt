@@ -6,7 +6,3 @@ use Rattle.edits.proofs.shift_up.Given as goal
 
 abbrev pub invariant-loop-i : goal.invariant-loop-i
 invariant-loop-i l = Overwritten (pos 0) l.initial.words l.i (l.end - l.i) (λ j. get_or l.initial.words (l.i + j - l.by) (pos 0)) l.words × (l.first ≤ l.i)
-    × (l.i ≤ l.end)
-
-abbrev pub decreases-loop-i : goal.decreases-loop-i
-decreases-loop-i l = l.i

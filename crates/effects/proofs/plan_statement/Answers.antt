@@ -36,7 +36,7 @@ returns-in-AddConstant c = λ f. simp c.in-AddConstant.is (c.add_constant.ensure
 
 pub returns-in-Arithmetic : goal.returns-in-Arithmetic
 unfolding planned applied fact_rules.facts_after bounds_rules.effect
-returns-in-Arithmetic c = λ f. simp (c.in-Arithmetic.is, c.forget.ensures f)
+returns-in-Arithmetic c = λ f. grind (arith, c.forget.ensures f)
 
 pub returns-in-Null : goal.returns-in-Null
 unfolding planned applied fact_rules.facts_after bounds_rules.effect
@@ -46,8 +46,8 @@ pub returns-in-Address : goal.returns-in-Address
 unfolding planned applied fact_rules.facts_after bounds_rules.effect
 returns-in-Address c = λ f. simp (
   c.in-Address.is,
-  c.length_at.ensures,
-  c.size_at.ensures,
+  c.element_or-in-Address.ensures,
+  c.element_or.ensures,
   c.range-in-Address.ensures
       f,
 )
@@ -60,18 +60,10 @@ pub returns-in-PointerIndex : goal.returns-in-PointerIndex
 unfolding planned applied fact_rules.facts_after bounds_rules.effect
 returns-in-PointerIndex c = λ f. simp (c.in-PointerIndex.is, c.index_effect.ensures, c.range-in-PointerIndex.ensures f)
 
-pub returns-in-Load : goal.returns-in-Load
-unfolding planned applied fact_rules.facts_after bounds_rules.effect
-returns-in-Load c = λ f. simp (c.in-Load.is, c.forget-in-Load.ensures f)
-
 pub returns-in-Store : goal.returns-in-Store
 unfolding planned applied fact_rules.facts_after bounds_rules.effect
-returns-in-Store c = λ f. simp (c.in-Store.is, c.keep.ensures f)
+returns-in-Store c = λ f. grind (arith, c.keep.ensures f)
 
 pub returns-in-Check : goal.returns-in-Check
 unfolding planned applied fact_rules.facts_after bounds_rules.effect
 returns-in-Check c = λ f. simp (c.in-Check.is, c.assume.ensures f)
-
-pub returns-in-Declare : goal.returns-in-Declare
-unfolding planned applied fact_rules.facts_after bounds_rules.effect
-returns-in-Declare c = λ f. simp (c.in-Declare.is, c.keep-in-Declare.ensures f)

@@ -8,8 +8,8 @@ pub returns-then-answer-lt3 : goal.returns-then-answer-lt3
 returns-then-answer-lt3 c = no_room c.if-answer-lt3.true
 
 pub put_verdict-requires : goal.put_verdict-requires
-put_verdict-requires c = (search rules, judged-small _ _ _ _ c.check-checked.ensures.0)
+put_verdict-requires c = (search rules, rw c.verdict_of.ensures (judged-small _ _ _ _ c.check.ensures.0))
 
 pub returns : goal.returns
-returns c = checked-words _ c.if-answer-lt3.false c.check-checked.ensures.0
-    c.put_verdict.ensures
+returns c = checked-words _ c.if-answer-lt3.false c.check.ensures.0
+    (rw c.verdict_of.ensures at c.put_verdict.ensures)

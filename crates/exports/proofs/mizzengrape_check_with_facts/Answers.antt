@@ -17,11 +17,11 @@ returns-then-report-lt1024 c = no-room-report c.if-answer-lt4.false c.if-report-
 pub put_verdict-requires : goal.put_verdict-requires
 put_verdict-requires c = (
   let q : 3 ≤ length c.args.answer.now = omega (arith, c.if-answer-lt4.false) in q,
-  judged-small _ _ _ _ c.check-checked.ensures.0,
+  rw c.verdict_of.ensures (judged-small _ _ _ _ c.check-checked.ensures.0),
 )
 
-pub put_report-count-requires : goal.put_report-count-requires
-put_report-count-requires c = let q : 1024 ≤ length c.args.report.now = c.if-report-lt1024.false in q
+pub put_report-requires : goal.put_report-requires
+put_report-requires c = let q : 1024 ≤ length c.args.report.now = c.if-report-lt1024.false in q
 
 pub bounds-answer-3 : goal.bounds-answer-3
 bounds-answer-3 c = let e : length c.put_verdict.new.answer
@@ -36,4 +36,4 @@ returns c = report-words _ c.if-answer-lt4.false
     c.if-report-lt1024.false
     c.check-checked.ensures.0
     c.check-checked.ensures.1
-    c.put_verdict.ensures c.put_report-count.ensures refl
+    (rw c.verdict_of.ensures at c.put_verdict.ensures) (rw c.report_of.ensures at c.put_report.ensures) refl

@@ -8,20 +8,20 @@ pub overflow_cast-place : goal.overflow_cast-place
 overflow_cast-place c = omega (arith, spent_fits c.requires.1 c.in-Spent.is)
 
 pub overflow_cast-place-in-Stopped : goal.overflow_cast-place-in-Stopped
-overflow_cast-place-in-Stopped c = omega (arith, stopped-fits c.requires.1 c.in-Stopped.is c.check_statement-place.ensures)
+overflow_cast-place-in-Stopped c = omega (arith, stopped-fits c.requires.1 c.in-Stopped.is c.statement-place.ensures)
 
 pub overflow_cast-place-in-Refused : goal.overflow_cast-place-in-Refused
 overflow_cast-place-in-Refused c = omega (
   arith,
   not-begun-place c.requires.1 c.in-Refused.is
-      c.refusal_place-place.ensures,
+      c.place-place.ensures,
 )
 
 pub overflow_cast-pointer : goal.overflow_cast-pointer
 overflow_cast-pointer c = omega (
   arith,
   not-begun-pointer c.requires.1
-      c.in-Refused.is c.refusal_pointer-pointer.ensures,
+      c.in-Refused.is c.pointer-pointer.ensures,
 )
 
 pub returns-in-Done : goal.returns-in-Done
@@ -32,10 +32,10 @@ returns-in-Spent c = spent-words _ c.in-Spent.is c.put_four-in-Spent.ensures
 
 pub returns-in-Stopped : goal.returns-in-Stopped
 returns-in-Stopped c = stopped-words _ c.in-Stopped.is
-    c.check_statement-place.ensures c.check_number-number.ensures
+    c.statement-place.ensures c.number-number.ensures
     c.put_four-in-Stopped.ensures
 
 pub returns-in-Refused : goal.returns-in-Refused
 returns-in-Refused c = not-begun-words _ c.in-Refused.is
-    c.refusal_number-number.ensures c.refusal_place-place.ensures
-    c.refusal_pointer-pointer.ensures c.put_four-in-Refused.ensures
+    c.number-number-in-Refused.ensures c.place-place.ensures
+    c.pointer-pointer.ensures c.put_four-in-Refused.ensures

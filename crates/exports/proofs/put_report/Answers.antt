@@ -1,5 +1,5 @@
 -- `exports::put_report` meets its contract.
-use Prim.Native.Nat.{◌-◌, ◌≤◌}
+use Prim.Native.Nat.{◌≤◌}
 use mathlib.Core.Path.{refl}
 use lib.ListN.{length}
 use native.Mathlib.Omega.{arith}
@@ -16,9 +16,6 @@ put_reported-count-requires c = (
   let q : 1024 ≤ length c.loop-at.numbers = omega
       (arith, c.loop-at.invariant.long, c.requires) in q,
 )
-
-pub loop-at-smaller : goal.loop-at-smaller
-loop-at-smaller c = omega (arith, c.loop-at-test.true)
 
 pub loop-at-preserved : goal.loop-at-preserved
 loop-at-preserved c = putting-more c.loop-at.invariant c.loop-at-test.true

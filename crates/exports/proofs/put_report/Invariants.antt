@@ -1,9 +1,5 @@
-use Prim.Native.Nat.{◌-◌}
 use Rattle.exports.specs.Numbers.{Putting}
 use Rattle.exports.proofs.put_report.Given as goal
 
 abbrev pub invariant-loop-at : goal.invariant-loop-at
 invariant-loop-at l = Putting l.report.words l.initial.numbers l.at l.count l.numbers
-
-abbrev pub decreases-loop-at : goal.decreases-loop-at
-decreases-loop-at l = 1024 - l.at

@@ -1,4 +1,5 @@
 -- `files::check_file` meets its contract.
+use Rattle.std.proofs.lemmas.Result.{err_from_is_err_and}
 use native.Mathlib.Omega.{arith}
 use lib.ListN.{length-take}
 use mathlib.Core.Path.{refl}
@@ -17,6 +18,11 @@ slice_bounds-table-end c = omega (arith, c.read_words-count.ensures.filled.withi
 pub slice_bounds-check-end : goal.slice_bounds-check-end
 slice_bounds-check-end c = simp length-take (omega (arith, c.read_words-count.ensures.filled.within, c.read_words-count.ensures.filled.long))
 
+pub returns-in_err-check : goal.returns-in_err-check
+returns-in_err-check c = let p = err_from_is_err_and c.from_residual.result c.from_residual.ensures.1 in
+    rw (p.1, p.2) (file-answered _ _ c.if-size-ne0.false
+    c.if-size-gt-MAX_WORDS.false c.read_words-count.ensures refl (rw c.in_err-check.was at c.check.ensures.0))
+
 pub returns : goal.returns
 returns c = file-answered _ _ c.if-size-ne0.false
-    c.if-size-gt-MAX_WORDS.false c.read_words-count.ensures refl c.check-checked.ensures.0
+    c.if-size-gt-MAX_WORDS.false c.read_words-count.ensures refl (rw c.in_ok-check.was at c.check.ensures.0)

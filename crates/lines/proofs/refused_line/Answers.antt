@@ -65,7 +65,7 @@ returns-then-number-eq8 c = record {
     c.push_all.ensures.long,
     c.new.ensures.long,
   );
-  text = line-of-eight c.args.r c.refusal_number-number.ensures c.refusal_place.ensures c.refusal_pointer.ensures c.if-number-eq8.true
+  text = line-of-eight c.args.r c.number-number.ensures c.place.ensures c.pointer.ensures c.if-number-eq8.true
       (grown-both (grown-both
       (grown-both (grown-both
       (grown-both (grown-both
@@ -97,7 +97,7 @@ returns c = record {
     c.push_all.ensures.long,
     c.new.ensures.long,
   );
-  text = line-of-other c.args.r c.refusal_number-number.ensures c.refusal_place.ensures c.if-number-eq8.false
+  text = line-of-other c.args.r c.number-number.ensures c.place.ensures c.if-number-eq8.false
       (grown-both (grown-both
       (grown-both (grown-both
       (grown-both c.new.ensures c.push_all.ensures) c.push_number.ensures)

@@ -3,11 +3,5 @@ use lib.ListN.{get_or-eq_default}
 use mathlib.Core.Path.{sym}
 use Rattle.machine.proofs.value_at.Goals as goal
 
-pub returns-then-x-values-clause-value : goal.returns-then-x-values-clause-value
-returns-then-x-values-clause-value c = c.wide.ensures.value
-
-pub returns-then-x-values-clause-small : goal.returns-then-x-values-clause-small
-returns-then-x-values-clause-small c = c.wide.ensures.small
-
 pub returns-clause-value : goal.returns-clause-value
 returns-clause-value c = sym (get_or-eq_default c.args.values.now 0 c.if-x-values.false)

@@ -1,18 +1,10 @@
-use Prim.Native.Nat.{◌-◌}
-use mathlib.Core.Path.{sym, ◌∙◌}
-use borrow.Author.Tests.{eq-eqb, ne_eqb}
-use native.Mathlib.Omega.{arith}
-use Rattle.places.specs.StoreLaws.{named_none, named_more}
+use Rattle.std.proofs.Common.{rules, tests, ◌∙◌, eqb}
+use Rattle.std.proofs.lemmas.Iterator.{YieldsList-from_slice}
+use Rattle.std.proofs.lemmas.Iterator.Search.{any_from_yields_List}
+use Rattle.places.specs.StoreLaws.{named-any}
 use Rattle.places.proofs.is_named.Goals as goal
 
-pub overflow_cast-keep : goal.overflow_cast-keep
-overflow_cast-keep c = omega (arith, c.shared_slice_known-1.given c.loop-i.i)
-
-pub returns-then-keep-i : goal.returns-then-keep-i
-returns-then-keep-i c = sym (c.loop-i.invariant ∙ (named_more _ _ _ c.loop-i-test.true ∙ rw (eq-eqb _ _ c.if-keep-i.true)))
-
-pub loop-i-preserved : goal.loop-i-preserved
-loop-i-preserved c = c.loop-i.invariant ∙ (named_more _ _ _ c.loop-i-test.true ∙ rw (ne_eqb _ _ c.if-keep-i.false))
-
 pub returns : goal.returns
-returns c = sym (c.loop-i.invariant ∙ named_none _ _ _ c.loop-i-test.false)
+returns c = any_from_yields_List (λ k. eqb k c.args.at) _ _ _ c.any.ensures.ran (YieldsList-from_slice c.args.keep.now cc)
+    (λ x b q k. search (rules, tests))
+    ∙ named-any _ _

@@ -11,22 +11,22 @@ walk_on-verdict-requires c = (
   c.requires.0,
   c.requires.1,
   laid_from _ _ _ c.if-from-end.false c.lay_block-layout.ensures
-      c.in-LaidOut.is,
+      c.in-Ok.is,
 )
 
 pub begun_to-to-requires : goal.begun_to-to-requires
 begun_to-to-requires c = c.requires.1
 
-pub returns-in-Refused : goal.returns-in-Refused
-returns-in-Refused c = from_last c.last_place-start.ensures
+pub returns-in-Err : goal.returns-in-Err
+returns-in-Err c = from_last c.last_place-start.ensures
     (not-laid _ _ _ _ _ _ c.if-from-end.false c.lay_block-layout.ensures
-    c.in-Refused.is refl refl)
+    c.in-Err.is refl refl)
 
-pub returns-in-LaidOut : goal.returns-in-LaidOut
-returns-in-LaidOut c = from_last c.last_place-start.ensures
+pub returns-in-Ok : goal.returns-in-Ok
+returns-in-Ok c = from_last c.last_place-start.ensures
     (rewalked _ _ _ _ _ _ c.if-from-end.false
     c.lay_block-layout.ensures
-    c.in-LaidOut.is c.walk_on-verdict.ensures
-    (c.less.ensures ∙ ap
+    c.in-Ok.is c.walk_on-verdict.ensures
+    (c.saturating_sub.ensures ∙ ap
     (λ (n : ℕ). n - c.last_place-start.result.position)
     c.begun_to-to.ensures))

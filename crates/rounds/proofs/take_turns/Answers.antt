@@ -103,24 +103,6 @@ pub following_turn-next-requires : goal.following_turn-next-requires
 following_turn-next-requires c = turn-within c.requires
     c.loop-taken.invariant
 
-pub overflow_add-taken : goal.overflow_add-taken
-overflow_add-taken c = let p = product-fits
-    c.args.count
-    c.args.total (omega (
-      arith,
-      c.requires.counted,
-      c.requires.few,
-    )) (omega arith) in omega (
-      arith,
-      c.loop-taken-test.true,
-    )
-
-pub loop-taken-smaller : goal.loop-taken-smaller
-loop-taken-smaller c = omega (
-  arith,
-  c.loop-taken-test.true,
-)
-
 pub loop-taken-preserved : goal.loop-taken-preserved
 loop-taken-preserved c = code-turns c.requires
     c.loop-taken.invariant c.take_turn-outcome.result

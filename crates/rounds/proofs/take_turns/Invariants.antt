@@ -1,4 +1,3 @@
-use Prim.Native.Nat.{◌-◌}
 use Rattle.rounds.specs.Standing.{Looping}
 use Rattle.rounds.proofs.take_turns.Given as goal
 
@@ -12,7 +11,4 @@ invariant-loop-taken l = Looping (record {
   origins = l.origins;
   lengths = l.lengths;
 })
-    l.quantum l.total l.taken l.next l.left l.idle l.seats l.ends l.values l.cells
-
-abbrev pub decreases-loop-taken : goal.decreases-loop-taken
-decreases-loop-taken l = l.limit - l.taken
+    l.quantum l.total l._taken l.next l.left l.idle l.seats l.ends l.values l.cells

@@ -1,4 +1,3 @@
-use Prim.Native.Nat.{◌-◌, ◌≤◌}
 use Rattle.seats.specs.Seats.{ReadyTo}
 use Rattle.seats.proofs.seat_all.Given as goal
 
@@ -12,7 +11,4 @@ invariant-loop-r l = ReadyTo (record {
   origins = l.origins;
   lengths = l.lengths;
 }) l.r
-    l.seats l.ends l.successors × (l.r ≤ l.count)
-
-abbrev pub decreases-loop-r : goal.decreases-loop-r
-decreases-loop-r l = l.count - l.r
+    l.seats l.ends l.successors

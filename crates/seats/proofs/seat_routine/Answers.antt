@@ -1,4 +1,5 @@
 -- `seats::seat_routine` meets its contract.
+use Rattle.std.proofs.lemmas.Result.{err_from_is_err_and}
 use native.Mathlib.Omega.{arith}
 use Rattle.seats.specs.SeatsLaws.{scratch-long, seat-refused, seat-begun}
 use Rattle.seats.proofs.seat_routine.Goals as goal
@@ -101,14 +102,14 @@ slice_bounds-prepare-end-7 c = omega (
   c.requires.2,
 )
 
-pub prepare-start-requires : goal.prepare-start-requires
-prepare-start-requires c = scratch-long _ _ _
+pub prepare-requires : goal.prepare-requires
+prepare-requires c = scratch-long _ _ _
     c.requires.0
     c.requires.1
     c.requires.2
 
-pub returns-in-Refused : goal.returns-in-Refused
-returns-in-Refused c = seat-refused _ _
+pub returns-in_err-sections : goal.returns-in_err-sections
+returns-in_err-sections c = let p = err_from_is_err_and c.from_residual.result c.from_residual.ensures.1 in rw (p.1, p.2) (seat-refused _ _
     c.requires.0
     c.span_of-table.ensures.value
     c.span_of-list.ensures.value
@@ -117,12 +118,12 @@ returns-in-Refused c = seat-refused _ _
     c.span_of-origin.ensures.value _ _ _ _
     c.requires.1
     c.requires.2
-    c.prepare-start.auto.ends
-    c.prepare-start.auto.successors c.in-Refused.is
-    c.prepare-start.ensures
+    c.prepare.auto.ends
+    c.prepare.auto.successors c.in_err-sections.was
+    c.prepare.ensures)
 
-pub returns-in-Begun : goal.returns-in-Begun
-returns-in-Begun c = seat-begun _ _ c.requires.0
+pub returns : goal.returns
+returns c = seat-begun _ _ c.requires.0
     c.span_of-table.ensures.value
     c.span_of-list.ensures.value
     c.span_of-directory.ensures.value
@@ -131,6 +132,6 @@ returns-in-Begun c = seat-begun _ _ c.requires.0
     _ _ _
     c.requires.1
     c.requires.2
-    c.prepare-start.auto.ends
-    c.prepare-start.auto.successors c.in-Begun.is
-    c.prepare-start.ensures c.first_outcome-outcome.ensures
+    c.prepare.auto.ends
+    c.prepare.auto.successors c.in_ok-sections.was
+    c.prepare.ensures c.first_outcome-outcome.ensures

@@ -12,7 +12,7 @@ overflow_sub-last c = omega (arith, some-lengths _ _ c.requires.0)
 pub run_routine-level-requires : goal.run_routine-level-requires
 run_routine-level-requires c = level-asks _ _ _ _ _ _ c.requires.0
     (entered-none _ (sym c.enter_last-entry.ensures
-    ∙ c.in-Begun.is))
+    ∙ c.in-Ok.is))
     (λ x. omega (
       arith,
       c.slice_known-2-1.given x,
@@ -23,16 +23,16 @@ run_routine-level-requires c = level-asks _ _ _ _ _ _ c.requires.0
     )) refl c.requires.2
     c.lay_flows.ensures
 
-pub returns-in-Refused : goal.returns-in-Refused
-returns-in-Refused c = entry-refuses _ _ _ _ (last-number _ _) c.enter_last-entry.ensures c.in-Refused.is
+pub returns-in-Err : goal.returns-in-Err
+returns-in-Err c = entry-refuses _ _ _ _ (last-number _ _) c.enter_last-entry.ensures c.in-Err.is
 
-pub returns-in-Begun : goal.returns-in-Begun
-returns-in-Begun c = rw
+pub returns-in-Ok : goal.returns-in-Ok
+returns-in-Ok c = rw
     c.outcome_of.ensures
     (run-claim _ _ _ _ _ _ c.requires.0
     (entered-none _ (sym
     c.enter_last-entry.ensures
-    ∙ c.in-Begun.is))
+    ∙ c.in-Ok.is))
     (λ x. omega (
       arith,
       c.slice_known-2-1.given x,

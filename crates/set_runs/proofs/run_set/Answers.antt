@@ -47,12 +47,12 @@ returns-in_default c = no_member (tables_in
     c.if-ends-lt4096.false c.if-successors-lt16384.false
     c.check_set-checked.ensures c.in_default.is
 
-pub slice_bounds-run_accepted-end-in-Accepted : goal.slice_bounds-run_accepted-end-in-Accepted
-slice_bounds-run_accepted-end-in-Accepted c = taken-all 4096 c.args.ends.now
+pub slice_bounds-run_accepted-end-in-Ok : goal.slice_bounds-run_accepted-end-in-Ok
+slice_bounds-run_accepted-end-in-Ok c = taken-all 4096 c.args.ends.now
     c.if-ends-lt4096.false
 
-pub slice_bounds-run_accepted-end-in-Accepted-3 : goal.slice_bounds-run_accepted-end-in-Accepted-3
-slice_bounds-run_accepted-end-in-Accepted-3 c = taken-all 16384
+pub slice_bounds-run_accepted-end-in-Ok-3 : goal.slice_bounds-run_accepted-end-in-Ok-3
+slice_bounds-run_accepted-end-in-Ok-3 c = taken-all 16384
     c.args.successors.now
     c.if-successors-lt16384.false
 
@@ -72,8 +72,8 @@ run_accepted-requires c = (
       c.if-ends-lt4096.false
       c.if-successors-lt16384.false
       c.check_set-checked.ensures
-      c.in-Judged.is
-      c.in-Accepted.is,
+      c.in-Some.is
+      c.in-Ok.is,
   omega (
     arith,
     member-enough
@@ -90,7 +90,7 @@ run_accepted-requires c = (
         c.if-ends-lt4096.false
         c.if-successors-lt16384.false
         c.check_set-checked.ensures
-        c.in-Judged.is,
+        c.in-Some.is,
     c.check_set-checked.auto.member,
   ),
   sym (taken-all 4096 c.args.ends.now
@@ -99,8 +99,8 @@ run_accepted-requires c = (
       c.if-successors-lt16384.false),
 )
 
-pub returns-in-Refused : goal.returns-in-Refused
-returns-in-Refused c = ran-refused (tables_in
+pub returns-in-Err : goal.returns-in-Err
+returns-in-Err c = ran-refused (tables_in
     c.args.tables.now c.args.lengths.now) (lends
     c.args.directory.now
     c.args.cells.now c.args.values.now c.args.origins.now)
@@ -108,11 +108,11 @@ returns-in-Refused c = ran-refused (tables_in
     c.args.ends.now) (length
     c.args.successors.now) c.if-ends-lt4096.false
     c.if-successors-lt16384.false
-    c.check_set-checked.ensures c.in-Judged.is
-    c.in-Refused.is
+    c.check_set-checked.ensures c.in-Some.is
+    c.in-Err.is
 
-pub returns-in-Accepted : goal.returns-in-Accepted
-returns-in-Accepted c = ran-accepted (tables_in
+pub returns-in-Ok : goal.returns-in-Ok
+returns-in-Ok c = ran-accepted (tables_in
     c.args.tables.now
     c.args.lengths.now)
     (lends c.args.directory.now
@@ -126,6 +126,6 @@ returns-in-Accepted c = ran-accepted (tables_in
     c.if-ends-lt4096.false
     c.if-successors-lt16384.false
     c.check_set-checked.ensures
-    c.in-Judged.is
-    c.in-Accepted.is
+    c.in-Some.is
+    c.in-Ok.is
     c.run_accepted.ensures

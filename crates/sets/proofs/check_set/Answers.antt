@@ -15,7 +15,7 @@ pub returns-then-count-gt8 : goal.returns-then-count-gt8
 returns-then-count-gt8 c = wrong-many _ _ _ c.if-member-lt7720.false c.if-count-lt1.false c.if-count-gt8.true
 
 pub loop-n-init : goal.loop-n-init
-loop-n-init c = ((λ m l. absurd (omega arith)), refl, omega arith)
+loop-n-init c = ((λ m l. absurd (omega arith)), refl)
 
 pub check_numbered-verdict-requires : goal.check_numbered-verdict-requires
 check_numbered-verdict-requires c = (
@@ -26,32 +26,22 @@ check_numbered-verdict-requires c = (
   c.loop-n.invariant.0,
 )
 
-pub shape_of-member-in-Refused : goal.shape_of-member-in-Refused
-shape_of-member-in-Refused c = c.check_numbered-verdict.ensures.long ∙ c.loop-n.invariant.1
+pub shape_of-member-in-Err : goal.shape_of-member-in-Err
+shape_of-member-in-Err c = c.check_numbered-verdict.ensures.long ∙ c.loop-n.invariant.1
 
-pub returns-in-Refused : goal.returns-in-Refused
-returns-in-Refused c = answer-refused _ _ _ c.if-member-lt7720.false
+pub returns-in-Err : goal.returns-in-Err
+returns-in-Err c = answer-refused _ _ _ c.if-member-lt7720.false
     c.if-count-lt1.false
     c.if-count-gt8.false _ _
     c.loop-n-test.true c.loop-n.invariant.0
-    c.check_numbered-verdict.ensures.routine_judged c.in-Refused.is
-
-pub overflow_add-n : goal.overflow_add-n
-overflow_add-n c = record {
-  fits = omega
-      (arith, c.loop-n-test.true, c.if-count-gt8.false);
-}
-
-pub loop-n-smaller : goal.loop-n-smaller
-loop-n-smaller c = omega (arith, c.loop-n-test.true)
+    c.check_numbered-verdict.ensures.routine_judged c.in-Err.is
 
 pub loop-n-preserved : goal.loop-n-preserved
 loop-n-preserved c = (
   earlier_more _ _ c.loop-n.invariant.0 c.check_numbered-verdict.ensures.routine_judged
-      c.in-Accepted.is,
+      c.in-Ok.is,
   c.check_numbered-verdict.ensures.long
       ∙ c.loop-n.invariant.1,
-  omega (arith, c.loop-n-test.true),
 )
 
 pub shape_of-member : goal.shape_of-member

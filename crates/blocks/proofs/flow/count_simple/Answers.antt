@@ -1,44 +1,27 @@
 -- The invariant: what is counted, and what is left to count, are the whole.
-use Prim.Native.Nat.{◌-◌}
-use mathlib.Core.Path.{sym, ap, ◌∙◌}
+use Rattle.std.specs.Prelude.{Some}
+use Prim.Native.Nat.{◌-◌, ◌+◌}
+use mathlib.Core.Path.{sym, ap, ◌∙◌, ◌≡◌}
 use native.Mathlib.Omega.{arith}
-use Rattle.statements.specs.declared.StatementRead.TheVariants.{Read}
 use Rattle.statements.specs.StatementLaws.{read-within}
 use Rattle.blocks.specs.FlowLaws.{simples-none, simples-unread, simples-plain, simples-other}
 use Rattle.blocks.proofs.flow.count_simple.Goals as goal
 
-pub loop-left-init : goal.loop-left-init
-loop-left-init c = (omega arith, omega arith)
-
 pub returns-in_default : goal.returns-in_default
-returns-in_default c = let e = simples-unread _ _ _ _ c.loop-left-test.true
-    (sym c.read_statement-got.ensures ∙ c.in_default.is) in omega (arith, c.loop-left.invariant.0, e)
+returns-in_default c = let e = simples-unread (c.args.first + c.args.count - c.loop-at.at) _ _ _ (omega (arith, c.loop-at-test.true))
+    (sym c.read_statement-got.ensures ∙ c.in_default.is) in omega (arith, c.loop-at.invariant, e)
 
 pub returns-in_default-s : goal.returns-in_default-s
-returns-in_default-s c = let e = simples-other _ _ _ _ c.loop-left-test.true _ c.in_default-s.not-Plain
-    (sym c.read_statement-got.ensures ∙ c.in-Read.is) in
-    omega (arith, c.loop-left.invariant.0, e)
+returns-in_default-s c = let e = simples-other (c.args.first + c.args.count - c.loop-at.at) _ _ _ (omega
+    (arith, c.loop-at-test.true)) _ c.in_default-s.not-Plain
+    (sym c.read_statement-got.ensures ∙ c.in-Some.is) in omega (arith, c.loop-at.invariant, e)
 
-pub overflow_add-at : goal.overflow_add-at
-overflow_add-at c = omega (
-  arith,
-  read-within _ _ _ _
-      (sym c.read_statement-got.ensures ∙ c.in-Read.is),
-)
-
-pub loop-left-preserved : goal.loop-left-preserved
-loop-left-preserved c = let e = simples-plain _ _ _ _ c.loop-left-test.true _
-    (sym c.read_statement-got.ensures ∙ c.in-Read.is
-    ∙ ap Read c.in-Plain.is) in (
-      omega (
-        arith,
-        c.loop-left.invariant.0,
-        c.loop-left.invariant.1,
-        c.loop-left-test.true,
-        e,
-      ),
-      omega arith,
-    )
+pub loop-at-preserved : goal.loop-at-preserved
+loop-at-preserved c =
+    let z : c.args.first + c.args.count - c.loop-at.at - 1 ≡ c.args.first + c.args.count - (c.loop-at.at + 1) = omega arith in
+    let e = simples-plain (c.args.first + c.args.count - c.loop-at.at) _ _ _ (omega (arith, c.loop-at-test.true)) _
+    (sym c.read_statement-got.ensures ∙ c.in-Some.is ∙ ap Some c.in-Plain.is) in
+    omega (arith, c.loop-at.invariant, rw z at e)
 
 pub returns : goal.returns
-returns c = omega (arith, simples-none _ _ _ _ c.loop-left-test.false c.loop-left.invariant.0)
+returns c = let e = simples-none _ _ _ _ (omega (arith, c.loop-at-test.false)) c.loop-at.invariant in omega (arith, e)

@@ -8,4 +8,4 @@ returns-in_default c = simp c.in_default.is
 
 pub returns : goal.returns
 unfolding end_stays
-returns c = simp (c.in-Known.is, c.end_names.ensures)
+returns c = simp (c.in-Some.is, c.end_names.ensures)

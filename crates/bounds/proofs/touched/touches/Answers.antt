@@ -5,8 +5,8 @@ use Rattle.bounds.proofs.touched.touches.Goals as goal
 pub returns : goal.returns
 unfolding touches
 returns c = simp (
-  c.is_pointer.ensures,
+  c.element_or-2.ensures,
   c.replaced_by.ensures,
-  c.may_be_named.ensures,
+  c.element_or.ensures,
   c.changed_by.ensures,
 )

@@ -9,8 +9,8 @@ returns-in_default c = simp c.in_default.is
 
 pub returns-then-end_names : goal.returns-then-end_names
 unfolding forget_end
-returns-then-end_names c = simp (c.in-Known.is, sym c.end_names.ensures ∙ c.if-end_names.true)
+returns-then-end_names c = simp (c.in-Some.is, sym c.end_names.ensures ∙ c.if-end_names.true)
 
 pub returns : goal.returns
 unfolding forget_end
-returns c = simp (c.in-Known.is, sym c.end_names.ensures ∙ c.if-end_names.false)
+returns c = simp (c.in-Some.is, sym c.end_names.ensures ∙ c.if-end_names.false)

@@ -10,9 +10,9 @@ returns-in_default c = simp c.in_default.is
 
 pub returns-then-end_names : goal.returns-then-end_names
 unfolding bounds_rules.shift_end
-returns-then-end_names c = simp (c.in-Known.is, sym c.end_names.ensures ∙ c.if-end_names.true)
+returns-then-end_names c = simp (c.in-Some.is, sym c.end_names.ensures ∙ c.if-end_names.true)
     (rw c.weight_of.ensures at c.shift_constant.ensures)
 
 pub returns : goal.returns
 unfolding bounds_rules.shift_end
-returns c = simp (c.in-Known.is, sym c.end_names.ensures ∙ c.if-end_names.false)
+returns c = simp (c.in-Some.is, sym c.end_names.ensures ∙ c.if-end_names.false)

@@ -1,5 +1,5 @@
 -- `checker::sections::check_statements` meets its contract.
-use mathlib.Core.Path.{refl}
+use Rattle.std.proofs.lemmas.Result.{err_from_is_err_and}
 use Rattle.listed.specs.ListLaws.{entries-few}
 use Rattle.checker.specs.VerdictLaws.{measured, table-placed, walk_refused, walk-accepted}
 use Rattle.checker.specs.WalkLaws.{forced-own}
@@ -14,17 +14,18 @@ walk-walked-requires c = (
   entries-few _ _ _ c.requires.2,
 )
 
-pub returns-in_default : goal.returns-in_default
-returns-in_default c = walk-accepted _ _ _ _ c.requires.1
-    c.requires.2
-    c.own_force.ensures
-    c.new.ensures c.no_report.ensures c.walk-walked.ensures
-    c.in_default.is refl refl
-    c.requires.0.limits.statements
-
-pub returns : goal.returns
-returns c = walk_refused _ _ _ _ c.requires.1
+pub returns-in_err-walked : goal.returns-in_err-walked
+returns-in_err-walked c = let p = err_from_is_err_and c.from_residual.result c.from_residual.ensures.1 in
+    rw (p.1, p.2) (walk_refused _ _ _ _ c.requires.1
     c.requires.2
     c.own_force.ensures
     c.new.ensures c.no_report.ensures
-    c.walk-walked.ensures c.in-Refused.is c.refuse.ensures
+    c.walk-walked.ensures c.in_err-walked.was)
+
+pub returns : goal.returns
+returns c = walk-accepted _ _ _ _ c.requires.1
+    c.requires.2
+    c.own_force.ensures
+    c.new.ensures c.no_report.ensures c.walk-walked.ensures
+    c.in_ok-walked.was
+    c.requires.0.limits.statements

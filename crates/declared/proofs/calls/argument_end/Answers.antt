@@ -7,4 +7,4 @@ returns-in_default c = simp c.in_default.is
 
 pub returns : goal.returns
 unfolding argument_end
-returns c = simp (c.argument-2.ensures, c.argument.ensures, c.in-Known.is)
+returns c = simp (c.argument-2.ensures, c.argument.ensures, c.in-Some.is)

@@ -7,4 +7,4 @@ returns-in_default c = simp c.in_default.is
 
 pub returns : goal.returns
 unfolding end_fits
-returns c = simp (c.is_parameter-2.ensures, c.is_parameter.ensures, c.in-Known.is)
+returns c = simp (c.is_parameter-2.ensures, c.is_parameter.ensures, c.in-Some.is)

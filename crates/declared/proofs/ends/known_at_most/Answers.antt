@@ -9,8 +9,8 @@ returns-in_default c = simp c.in_default.is
 
 pub returns-in_default-b : goal.returns-in_default-b
 unfolding bounds_rules.known_at_most
-returns-in_default-b c = simp (c.in-Known.is, c.in_default-b.is)
+returns-in_default-b c = simp (c.in-Some.is, c.in_default-b.is)
 
 pub returns : goal.returns
 unfolding bounds_rules.known_at_most
-returns c = simp (c.in-Known.is, c.in-Known-b.is) c.end_at_most.ensures
+returns c = simp (c.in-Some.is, c.in-Some-b.is) c.end_at_most.ensures

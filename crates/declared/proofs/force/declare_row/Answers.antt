@@ -13,5 +13,5 @@ returns-in_default c = row-refused _ _ _ _ c.requires.0 refl c.check_row-own.ens
 pub returns : goal.returns
 returns c = row-taken _ _ _ _ c.requires.0 refl
     c.check_row-own.ensures
-    c.in-Accepted.is c.with_row-rows.ensures c.force_of-after.ensures
+    c.in-Ok.is c.with_row-rows.ensures c.force_of-after.ensures
     c.bounds_after.ensures c.check_known-verdict.ensures refl

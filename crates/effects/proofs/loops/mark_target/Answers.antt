@@ -10,8 +10,8 @@ returns-in_default c = simp c.in_default.is
 
 pub returns-then-target-lt16 : goal.returns-then-target-lt16
 unfolding marked
-returns-then-target-lt16 c = read-target _ c.in-Read.is c.assigned_by-target.ensures c.if-target-lt16.true
+returns-then-target-lt16 c = read-target _ c.in-Some.is c.assigned_by-target.ensures c.if-target-lt16.true
 
 pub returns-else-target-lt16 : goal.returns-else-target-lt16
 unfolding marked
-returns-else-target-lt16 c = read_past _ c.in-Read.is c.assigned_by-target.ensures (search rules) c.if-target-lt16.false
+returns-else-target-lt16 c = read_past _ c.in-Some.is c.assigned_by-target.ensures (search rules) c.if-target-lt16.false

@@ -1,14 +1,14 @@
 -- The invariant: the marks so far with the targets that are left are the marks of all.
-use borrow.Author.Rules.{rules}
-use mathlib.Core.Path.{refl, sym, ◌∙◌}
+use Prim.Native.Nat.{◌+◌, ◌-◌}
+use native.Mathlib.Omega.{arith}
+use mathlib.Core.Path.{◌≡◌, sym, ◌∙◌}
 use Rattle.effects.specs.MarkLaws.{mark-more, mark-none}
 use Rattle.effects.proofs.loops.mark_targets.Goals as goal
 
-pub loop-left-init : goal.loop-left-init
-loop-left-init c = (refl, refl)
-
-pub loop-left-preserved : goal.loop-left-preserved
-loop-left-preserved c = (c.loop-left.invariant.0 ∙ mark-more _ _ _ _ _ c.loop-left-test.true c.read_due.ensures c.mark_target-marks.ensures, search rules)
+pub loop-at-preserved : goal.loop-at-preserved
+loop-at-preserved c =
+    let z : c.args.first + c.args.count - c.loop-at.at - 1 ≡ c.args.first + c.args.count - (c.loop-at.at + 1) = omega arith in
+    rw z at (c.loop-at.invariant ∙ mark-more _ _ _ _ _ (omega (arith, c.loop-at-test.true)) c.read_due.ensures c.mark_target-marks.ensures)
 
 pub returns : goal.returns
-returns c = sym (c.loop-left.invariant.0 ∙ mark-none _ _ _ _ _ c.loop-left-test.false)
+returns c = sym (c.loop-at.invariant ∙ mark-none _ _ _ _ _ (omega (arith, c.loop-at-test.false)))

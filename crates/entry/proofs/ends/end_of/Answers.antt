@@ -1,5 +1,5 @@
 -- `entry::ends::end_of` meets its contract.
 use Rattle.entry.proofs.ends.end_of.Goals as goal
 
-pub returns-in-Unknown : goal.returns-in-Unknown
-returns-in-Unknown c = rw c.in-Unknown.is
+pub returns-in-None : goal.returns-in-None
+returns-in-None c = rw c.in-None.is

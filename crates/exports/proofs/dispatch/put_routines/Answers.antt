@@ -1,5 +1,4 @@
 -- `exports::dispatch::put_routines` meets its contract: the words of the first r routines are put.
-use Prim.Native.Nat.{◌-◌}
 use mathlib.Core.Path.{◌∙◌}
 use native.Mathlib.Omega.{arith}
 use borrow.Author.Rules.{rules}
@@ -7,10 +6,7 @@ use Rattle.exports.specs.DispatchLaws.{routine-none, routine-more, routine-all}
 use Rattle.exports.proofs.dispatch.put_routines.Goals as goal
 
 pub loop-r-init : goal.loop-r-init
-loop-r-init c = (routine-none _ _, omega arith, search rules)
-
-pub offset_bounds-seats-r : goal.offset_bounds-seats-r
-offset_bounds-seats-r c = omega (arith, c.loop-r-test.true, c.requires.0.0)
+loop-r-init c = (routine-none _ _, search rules)
 
 pub bounds-seats-r : goal.bounds-seats-r
 bounds-seats-r c = omega (arith, c.loop-r-test.true, c.requires.0.0)
@@ -28,30 +24,19 @@ put_outcome_at-requires c = (
     c.loop-r-test.true,
     c.requires.0.0,
     c.requires.1,
-    c.loop-r.invariant.2,
+    c.loop-r.invariant.1,
   ),
   c.requires.0.1 c.loop-r.r c.loop-r-test.true,
 )
 
-pub overflow_add-r-in-loop-r : goal.overflow_add-r-in-loop-r
-overflow_add-r-in-loop-r c = omega (
-  arith,
-  c.loop-r-test.true,
-  c.requires.0.0,
-)
-
-pub loop-r-smaller : goal.loop-r-smaller
-loop-r-smaller c = omega (arith, c.loop-r-test.true)
-
 pub loop-r-preserved : goal.loop-r-preserved
 loop-r-preserved c = (
   routine-more _ _ _ _ _ c.loop-r.invariant.0 c.put_outcome_at.ensures,
-  omega (arith, c.loop-r-test.true),
-  c.answer-1.given ∙ c.loop-r.invariant.2,
+  c.answer-1.given ∙ c.loop-r.invariant.1,
 )
 
 pub shape_of-answer : goal.shape_of-answer
-shape_of-answer c = c.loop-r.invariant.2
+shape_of-answer c = c.loop-r.invariant.1
 
 pub returns : goal.returns
-returns c = routine-all _ _ _ _ _ c.loop-r.invariant.0 c.loop-r.invariant.1 c.loop-r-test.false
+returns c = routine-all _ _ _ _ _ c.loop-r.invariant.0 c.loop-r.auto.r-end c.loop-r-test.false

@@ -11,14 +11,14 @@ pub overflow_cast-place : goal.overflow_cast-place
 overflow_cast-place c = omega (
   arith,
   place-fits _ _ c.requires.0 c.in-Refused.is
-      c.refusal_place-place.ensures,
+      c.place-place.ensures,
 )
 
 pub overflow_cast-pointer : goal.overflow_cast-pointer
 overflow_cast-pointer c = omega (
   arith,
   pointer-fits _ _ c.requires.0 c.in-Refused.is
-      c.refusal_pointer-pointer.ensures,
+      c.pointer-pointer.ensures,
 )
 
 pub overflow_cast-routine : goal.overflow_cast-routine
@@ -46,8 +46,8 @@ returns-in-WrongCount c = wrong-count-said _ _ _ c.in-WrongCount.is c.put_five.e
 
 pub returns-in-Refused : goal.returns-in-Refused
 returns-in-Refused c = refused-said _ _ _ c.in-Refused.is
-    c.refusal_number-number.ensures c.refusal_place-place.ensures
-    c.refusal_pointer-pointer.ensures c.put_five-in-Refused.ensures
+    c.number-number.ensures c.place-place.ensures
+    c.pointer-pointer.ensures c.put_five-in-Refused.ensures
 
 pub returns-in-Overlaps : goal.returns-in-Overlaps
 returns-in-Overlaps c = overlaps-said _ _ _ c.in-Overlaps.is c.put_five-in-Overlaps.ensures

@@ -11,9 +11,9 @@ returns-in_default c = no-run-room c.run_set-ran.ensures c.in_default.is
 pub put_set_outcome-requires : goal.put_set_outcome-requires
 put_set_outcome-requires c = let s = ran-fits _ _ _ _ _ _
     c.run_set-ran.ensures
-    c.in-Ran.is in (search rules, s.0, s.1)
+    c.in-Some.is in (search rules, s.0, s.1)
 
 pub returns : goal.returns
 returns c = ran-set c.if-answer-lt5.false
     c.run_set-ran.ensures
-    c.in-Ran.is c.put_set_outcome.ensures
+    c.in-Some.is c.put_set_outcome.ensures

@@ -1,9 +1,5 @@
-use Prim.Native.Nat.{◌-◌, ◌≤◌}
 use Rattle.facts.specs.Words.{RowsSaved}
 use Rattle.facts.proofs.FactSet.save.Given as goal
 
 abbrev pub invariant-loop-i : goal.invariant-loop-i
-invariant-loop-i l = RowsSaved l.initial.words l.at l.self l.i l.words × (l.i ≤ 17)
-
-abbrev pub decreases-loop-i : goal.decreases-loop-i
-decreases-loop-i l = 17 - l.i
+invariant-loop-i l = RowsSaved l.initial.words l.at l.self l.i l.words

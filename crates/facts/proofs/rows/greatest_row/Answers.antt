@@ -13,7 +13,7 @@ loop-j-init c = filled_none _ _ _ (search rules)
 
 pub loop-j-preserved : goal.loop-j-preserved
 unfolding greatest_row
-loop-j-preserved c = filled_more c.loop-j.invariant (search rules) c.greatest.ensures
+loop-j-preserved c = filled_more c.loop-j.invariant (search rules) c.max.ensures
 
 pub returns : goal.returns
 unfolding greatest_row

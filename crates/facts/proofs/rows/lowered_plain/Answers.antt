@@ -17,7 +17,7 @@ concat_plain-requires c = (c.requires.0, c.requires.1.each _ c.loop-j-test.true)
 
 pub loop-j-preserved : goal.loop-j-preserved
 unfolding shortened_row
-loop-j-preserved c = filled_more c.loop-j.invariant (search rules) (c.least.ensures ∙ ap (min _) c.concat_plain.ensures)
+loop-j-preserved c = filled_more c.loop-j.invariant (search rules) (c.min.ensures ∙ ap (min _) c.concat_plain.ensures)
 
 pub returns : goal.returns
 unfolding shortened_row

@@ -21,7 +21,7 @@ loop-j-init c = filled_none _ _ _ (search rules)
 
 pub loop-j-preserved : goal.loop-j-preserved
 unfolding shortened_row
-loop-j-preserved c = filled_more c.loop-j.invariant (search rules) (c.least.ensures ∙ ap (min _) c.concat.ensures)
+loop-j-preserved c = filled_more c.loop-j.invariant (search rules) (c.min.ensures ∙ ap (min _) c.concat.ensures)
 
 pub returns : goal.returns
 unfolding shortened_row

@@ -1,20 +1,9 @@
--- `facts::rows::new_row` meets its contract: each turn fills one more sum.
-use Prim.Native.Nat.{ℕ, ◌-◌}
 use mathlib.Core.Path.{ap}
-use mathlib.Core.List.{List}
 use borrow.Author.Rules.{rules}
-use Rattle.arrays.specs.TabulateLaws.{filled_none, filled_more, filled-whole}
-use Rattle.facts.specs.Store.{new_sum, new_row}
+use Rattle.arrays.specs.FromFn.{made-tabulate}
+use Rattle.facts.specs.Store.{new_row, row_with}
 use Rattle.facts.proofs.rows.new_row.Goals as goal
-
-pub loop-j-init : goal.loop-j-init
-unfolding new_row
-loop-j-init c = filled_none _ _ _ (search rules)
-
-pub loop-j-preserved : goal.loop-j-preserved
-unfolding new_row
-loop-j-preserved c = filled_more c.loop-j.invariant (search rules) c.new_sum.ensures
 
 pub returns : goal.returns
 unfolding new_row
-returns c = ap (λ (l : List ℕ). record { sums = l }) (filled-whole c.loop-j.invariant c.loop-j-test.false)
+returns c = ap row_with (made-tabulate _ _ _ (λ k y q e. search rules) _ _ c.from_fn.ensures.items)

@@ -11,7 +11,7 @@ use Rattle.files.specs.WordLaws.{words-read}
 use Rattle.files.proofs.encoding.read_words.Goals as goal
 
 pub loop-i-init : goal.loop-i-init
-loop-i-init c = (filled_none _ _ _ refl, search rules, c.word_count-count.ensures)
+loop-i-init c = (filled_none _ _ _ refl, search rules, c.min-count.ensures)
 
 pub word_at-requires : goal.word_at-requires
 word_at-requires c = omega (arith, c.loop-i.invariant.2)

@@ -1,14 +1,7 @@
--- `interpreter::runs::load_slots` meets its contract: each turn fills one more slot.
-use Prim.Native.Nat.{◌-◌}
+-- `interpreter::runs::load_slots` meets its contract.
 use borrow.Author.Rules.{rules}
-use Rattle.arrays.specs.TabulateLaws.{filled_none, filled_more, filled-whole}
+use Rattle.arrays.specs.FromFn.{made-tabulate}
 use Rattle.interpreter.proofs.runs.load_slots.Goals as goal
 
-pub loop-x-init : goal.loop-x-init
-loop-x-init c = filled_none _ _ _ (search rules)
-
-pub loop-x-preserved : goal.loop-x-preserved
-loop-x-preserved c = filled_more c.loop-x.invariant (search rules) c.value_at.ensures.value
-
 pub returns : goal.returns
-returns c = filled-whole c.loop-x.invariant c.loop-x-test.false
+returns c = made-tabulate _ _ _ (λ k y q e. search rules) _ _ c.from_fn.ensures.items

@@ -5,8 +5,8 @@ use Rattle.interpreter.proofs.starts.prepare_accepted.Goals as goal
 
 pub prepare_sections-requires-clause-table_value : goal.prepare_sections-requires-clause-table_value
 prepare_sections-requires-clause-table_value c = (
-  sym c.read_form-form.ensures
-      ∙ c.in-WellFormed.is,
+  sym c.read_form.ensures
+      ∙ c.in_ok-sections.was,
   c.requires.listed_value.0,
   c.requires.listed_value.1,
 )
@@ -14,6 +14,6 @@ prepare_sections-requires-clause-table_value c = (
 pub prepare_sections-requires-clause-ends_len : goal.prepare_sections-requires-clause-ends_len
 prepare_sections-requires-clause-ends_len c = c.requires.ends_len
 
-pub returns-in-Refused : goal.returns-in-Refused
-returns-in-Refused c = absurd (no-form-refused _ _ _ c.requires.listed_value.0
-    (sym c.read_form-form.ensures ∙ c.in-Refused.is))
+pub returns-in_err-sections : goal.returns-in_err-sections
+returns-in_err-sections c = absurd (no-form-refused _ _ _ c.requires.listed_value.0
+    (sym c.read_form.ensures ∙ c.in_err-sections.was))

@@ -8,6 +8,6 @@ use Rattle.lines.proofs.report.put_check.Goals as goal
 pub returns : goal.returns
 unfolding bytes_of
 returns c = (
-  stopped-at _ c.check_number-number.ensures c.check_statement-place.ensures (grown-both c.put-start.ensures.0 c.put.ensures.0),
+  stopped-at _ c.number-number.ensures c.statement-place.ensures (grown-both c.put-start.ensures.0 c.put.ensures.0),
   search rules,
 )

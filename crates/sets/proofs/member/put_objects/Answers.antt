@@ -36,14 +36,6 @@ bounds-member-i c = let p = puts-made _ _ c.requires.0 c.requires.1
       c.requires.3,
     )
 
-pub overflow_add-i : goal.overflow_add-i
-overflow_add-i c = let p = puts-made _ _ c.requires.0 c.requires.1
-    c.sections_of-own.ensures c.sections_of-sections.ensures
-    c.requires.2 in record { fits = omega (arith, c.loop-i-test.true, full-long p, full-within p) }
-
-pub loop-i-smaller : goal.loop-i-smaller
-loop-i-smaller c = omega (arith, c.loop-i-test.true)
-
 pub loop-i-preserved : goal.loop-i-preserved
 loop-i-preserved c = let p = puts-made _ _ c.requires.0 c.requires.1
     c.sections_of-own.ensures c.sections_of-sections.ensures

@@ -10,13 +10,13 @@ overflow_mul-result c = record { fits = product_small _ _ (omega arith) (omega a
 
 pub returns-in-0 : goal.returns-in-0
 unfolding combined
-returns-in-0 c = rw (c.in-0.is, c.wide.ensures.value, c.wide-in-0.ensures.value)
+returns-in-0 c = rw (c.in-0.is, c.from.ensures, c.from-in-0.ensures)
 
 pub returns-in-1 : goal.returns-in-1
 unfolding combined
-returns-in-1 c = rw (c.in-1.is, c.wide-in-1.ensures.value, c.wide-in-1-2.ensures.value)
+returns-in-1 c = rw (c.in-1.is, c.from-in-1.ensures, c.from-in-1-2.ensures)
 
 pub returns-in_default : goal.returns-in_default
 unfolding combined
-returns-in_default c = rw (c.wide-in_default.ensures.value, c.wide-in_default-2.ensures.value)
+returns-in_default c = rw (c.from-in_default.ensures, c.from-in_default-2.ensures)
     (combined-else _ _ _ c.in_default.in_default-own.rest.0.1 c.in_default.in_default-own.rest.1)

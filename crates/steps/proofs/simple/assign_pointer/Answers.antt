@@ -13,7 +13,4 @@ pub returns-in-Go : goal.returns-in-Go
 returns-in-Go c = assigns-go c.check_arithmetic-arithmetic.ensures c.in-Go.is
 
 pub returns-in-Stop : goal.returns-in-Stop
-returns-in-Stop c = assigns-stop c.check_arithmetic-arithmetic.ensures c.in-Stop.is
-
-pub returns-in-Call : goal.returns-in-Call
-returns-in-Call c = assigns-call c.check_arithmetic-arithmetic.ensures c.in-Call.is
+returns-in-Stop c = let e = c.check_arithmetic-arithmetic.ensures in grind (arith, assigns-stop, assigns-call)

@@ -10,6 +10,6 @@ scaled-requires c = (rw c.size_in.ensures (c.requires.5 _), search rules)
 
 pub returns : goal.returns
 returns c = assigns-index _ _ _ _ _ _ _ _ _ _ _ c.requires.3
-    c.wide-base.ensures.value
+    c.from-base.ensures
     (c.scaled.ensures.value ∙ ap₂ ◌*◌ c.size_in.ensures
-    c.wide.ensures.value) c.assign_pointer.ensures
+    c.from.ensures) c.assign_pointer.ensures

@@ -44,7 +44,4 @@ returns-in-Go c = rw c.address_of-address.ensures.value
     c.in-Go.is)
 
 pub returns-in-Stop : goal.returns-in-Stop
-returns-in-Stop c = assigns-stop (rw c.address_of-address.ensures.value at c.check_load-said.ensures) c.in-Stop.is
-
-pub returns-in-Call : goal.returns-in-Call
-returns-in-Call c = assigns-call (rw c.address_of-address.ensures.value at c.check_load-said.ensures) c.in-Call.is
+returns-in-Stop c = let e = (rw c.address_of-address.ensures.value at c.check_load-said.ensures) in grind (arith, assigns-stop, assigns-call)

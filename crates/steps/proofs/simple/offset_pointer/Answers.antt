@@ -6,5 +6,5 @@ pub returns-then-constant-eq-BIAS : goal.returns-then-constant-eq-BIAS
 returns-then-constant-eq-BIAS c = assigns-copy _ _ _ _ _ _ c.if-constant-eq-BIAS.true
 
 pub returns : goal.returns
-returns c = assigns-offset _ _ _ _ _ _ _ _ _ c.if-constant-eq-BIAS.false c.wide-base.ensures.value
+returns c = assigns-offset _ _ _ _ _ _ _ _ _ c.if-constant-eq-BIAS.false c.from-base.ensures
     c.assign_pointer.ensures

@@ -48,9 +48,5 @@ returns-in-Go c = rw c.address_of-address.ensures.value
     c.check_store-said.ensures) c.in-Go.is)
 
 pub returns-in-Stop : goal.returns-in-Stop
-returns-in-Stop c = assigns-stop (rw (c.slot-number.ensures.value, c.address_of-address.ensures.value) at
-    c.check_store-said.ensures) c.in-Stop.is
-
-pub returns-in-Call : goal.returns-in-Call
-returns-in-Call c = assigns-call (rw (c.slot-number.ensures.value, c.address_of-address.ensures.value) at
-    c.check_store-said.ensures) c.in-Call.is
+returns-in-Stop c = let e = (rw (c.slot-number.ensures.value, c.address_of-address.ensures.value) at
+    c.check_store-said.ensures) in grind (arith, assigns-stop, assigns-call)

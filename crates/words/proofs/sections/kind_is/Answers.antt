@@ -7,12 +7,12 @@ returns-in_default c = simp c.in_default.is
 
 pub returns-in-Integer : goal.returns-in-Integer
 unfolding kind_is
-returns-in-Integer c = simp (c.in-Read.is, c.in-Integer.is)
+returns-in-Integer c = simp (c.in-Some.is, c.in-Integer.is)
 
 pub returns-in-Array : goal.returns-in-Array
 unfolding kind_is
-returns-in-Array c = simp (c.in-Read.is, c.in-Array.is)
+returns-in-Array c = simp (c.in-Some.is, c.in-Array.is)
 
 pub returns-in-String : goal.returns-in-String
 unfolding kind_is
-returns-in-String c = simp (c.in-Read.is, c.in-String.is)
+returns-in-String c = simp (c.in-Some.is, c.in-String.is)
