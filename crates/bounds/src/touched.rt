@@ -5,7 +5,7 @@ ghost use Rattle.bounds.specs.Touched.{seen_as, touched, named_in, touches};
 
 use crate::stays::{changed_by, left_alone, replaced_by};
 use arrays::lowest;
-use rules::lookups::element_or;
+use rules::lookups::{element_or, is_pointer};
 use rules::{Bounds, Effect};
 use std::array;
 
@@ -52,6 +52,5 @@ pub fn named_in(environment: Seen) -> Named
 pub fn touches(named: Named, pointers: [bool; 17], effect: Effect) -> bool
     ensures { result ≡ touches named.each pointers effect }
 {
-    element_or(named.each, changed_by(effect), true)
-        | element_or(pointers, replaced_by(effect), false)
+    element_or(named.each, changed_by(effect), true) | is_pointer(pointers, replaced_by(effect))
 }

@@ -15,8 +15,8 @@ use bounds::KnownBounds;
 use bounds::touched::Seen;
 use facts::FactSet;
 use parts::span_of;
-use rules::lookups::element_or;
-use rules::{Bounds, Effect, NOTHING_KNOWN, read_declared, read_pointers, read_strings};
+use rules::lookups::{bounds_at, is_pointer, is_string};
+use rules::{Bounds, Effect, read_declared, read_pointers, read_strings};
 use statements::CallSite;
 use table::sections_of;
 use table::variables::End;
@@ -71,8 +71,8 @@ fn kind_fits(kinds: Kinds, x: usize, callee: Signature, j: usize) -> bool
     ensures { result ≡ kind_fits (kinds_as kinds) x (callee_as callee) j }
 {
     (j < callee.variables)
-        & (element_or(kinds.pointers, x, false) == element_or(callee.pointers, j, false))
-        & (element_or(kinds.strings, x, false) == element_or(callee.strings, j, false))
+        & (is_pointer(kinds.pointers, x) == is_pointer(callee.pointers, j))
+        & (is_string(kinds.strings, x) == is_string(callee.strings, j))
 }
 
 // An end that names parameters only.
@@ -119,14 +119,14 @@ fn bounds_fit(
 ) -> bool
     ensures { result ≡ bounds_fit facts known.each (callee_as callee) call j }
 {
-    let own = element_or(callee.declared, j, NOTHING_KNOWN);
+    let own = bounds_at(callee.declared, j);
     let x = argument(call, j);
     end_fits(call, own.lower)
         & end_fits(call, own.upper)
         & bounds_shown(
             facts,
             x,
-            element_or(known.each, x, NOTHING_KNOWN),
+            bounds_at(known.each, x),
             argument_bounds(call, own),
         )
 }
@@ -144,14 +144,14 @@ fn argument_fits(
 {
     !is_parameter(call, j)
         | (kind_fits(kinds, argument(call, j), callee, j)
-            & (!element_or(callee.pointers, j, false) | bounds_fit(facts, known, callee, call, j)))
+            & (!is_pointer(callee.pointers, j) | bounds_fit(facts, known, callee, call, j)))
 }
 
 // The callee's last variable is an integer.
 fn last_integer(callee: Signature) -> bool
     ensures { result ≡ last_integer (callee_as callee) }
 {
-    !element_or(callee.pointers, callee.variables.saturating_sub(1), false)
+    !is_pointer(callee.pointers, callee.variables.saturating_sub(1))
 }
 
 // Refusal 20 does not refuse the call, where its callee has this signature.

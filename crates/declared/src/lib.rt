@@ -21,8 +21,8 @@ use bounds::touched::{Seen, leaves_alone};
 use bounds::transfer::{effect_on, source_of};
 use ends::{address_safe, bounds_shown, same_bounds};
 use facts::FactSet;
-use rules::lookups::element_or;
-use rules::{Effect, NOTHING_KNOWN, read_bound};
+use rules::lookups::bounds_at;
+use rules::{Effect, read_bound};
 use statements::Simple;
 use words::sections::Sections;
 
@@ -136,8 +136,8 @@ pub fn access_shown(environment: Seen, facts: FactSet, known: KnownBounds, simpl
     bounds_shown(
         facts,
         pointer,
-        element_or(each, pointer, NOTHING_KNOWN),
-        element_or(declared, pointer, NOTHING_KNOWN),
+        bounds_at(each, pointer),
+        bounds_at(declared, pointer),
     )
 }
 
@@ -193,7 +193,7 @@ pub fn check_row(
     ensures { result ≡ verdict_of (bounds_at at (row_unshown (environment_of table.now sections) facts known.each (Declare pointer row))) }
 {
     let each = known.each;
-    let own = element_or(each, pointer, NOTHING_KNOWN);
+    let own = bounds_at(each, pointer);
     let bound = read_bound(table, sections, row + 1, pointer);
     if bounds_shown(facts, pointer, own, bound) {
         return Ok(());

@@ -18,7 +18,7 @@ ghost use Rattle.effects.specs.Applied.{applied, Makes, Adds, Assumes, Does, Pla
 use changes::{Answers, Change, Fact, adding, equating, no_fact, ranging, shifting};
 use conditions::Condition;
 use rules::Effect;
-use rules::lookups::element_or;
+use rules::lookups::{length_at, size_at};
 use statements::Simple;
 use sums::{BIAS, MAX_VALUE, ZERO};
 
@@ -206,8 +206,8 @@ pub fn plan_statement(sizes: [u64; 16], spans: [u64; 16], simple: Simple, answer
             change: range(target, 1, MAX_VALUE),
             effect: Effect::Object {
                 target,
-                size: element_or(sizes, target, 1),
-                length: element_or(spans, object, 0),
+                size: size_at(sizes, target),
+                length: length_at(spans, object),
             },
         },
         Simple::PointerOffset {

@@ -23,7 +23,7 @@ fn target_of(simple: Simple) -> usize
         | Simple::PointerOffset { target, .. }
         | Simple::PointerIndex { target, .. }
         | Simple::Load { target, .. } => target,
-        _ => 16,
+        Simple::Store { .. } | Simple::Check { .. } | Simple::Declare { .. } => 16,
     }
 }
 
@@ -34,7 +34,7 @@ fn assigned_by(statement: Statement) -> usize
     match statement {
         Statement::Plain(simple) => target_of(simple),
         Statement::Call(call) => call.result,
-        _ => 16,
+        Statement::If { .. } | Statement::While { .. } | Statement::Bundle { .. } => 16,
     }
 }
 

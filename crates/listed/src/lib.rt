@@ -61,7 +61,10 @@ fn names_while(table: &[i32], sections: Sections, w: u64) -> bool
     };
     match statement {
         Statement::While { .. } => BIAS <= w,
-        _ => false,
+        Statement::Plain(_)
+        | Statement::If { .. }
+        | Statement::Bundle { .. }
+        | Statement::Call(_) => false,
     }
 }
 

@@ -19,7 +19,7 @@ unfolding biased
 raised (pos n) f = refl
 raised (negsuc n) f = rw (le-ltb 8589934592 (suc n) (omega (arith, f.sfits))) (ap pos (omega arith))
 
-wide : {z : ℤ} → SFits w32 z → SFits w64 z
+pub wide : {z : ℤ} → SFits w32 z → SFits w64 z
 wide f = sfits_widen tt f
 
 pub fits-raised : (z : ℤ) → SFits w32 z → SFits w64 (pos (biased z))

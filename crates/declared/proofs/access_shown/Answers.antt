@@ -7,5 +7,5 @@ returns-in_default c = nothing-needed _ _ _ _ c.access_of.ensures c.in_default.i
 
 pub returns : goal.returns
 returns c = pointer-needed _ _ _ _ c.access_of.ensures
-    c.in-Some.is c.element_or.ensures c.element_or-2.ensures
+    c.in-Some.is c.bounds_at.ensures c.bounds_at-2.ensures
     c.bounds_shown.ensures

@@ -46,8 +46,8 @@ pub returns-in-Address : goal.returns-in-Address
 unfolding planned applied fact_rules.facts_after bounds_rules.effect
 returns-in-Address c = λ f. simp (
   c.in-Address.is,
-  c.element_or-in-Address.ensures,
-  c.element_or.ensures,
+  c.length_at.ensures,
+  c.size_at.ensures,
   c.range-in-Address.ensures
       f,
 )

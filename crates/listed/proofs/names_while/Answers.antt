@@ -14,5 +14,5 @@ returns-in-While c = while-answer _ _ _ c.plain.ensures
     c.read_statement-read.ensures (Some (While _ _))
     (c.in-Some.is ∙ ap Some c.in-While.is)
 
-pub returns-in_default-statement : goal.returns-in_default-statement
-returns-in_default-statement c = let e = while-answer _ _ _ c.plain.ensures c.read_statement-read.ensures (Some _) c.in-Some.is in grind arith
+pub returns-in-Plain : goal.returns-in-Plain
+returns-in-Plain c = let e = while-answer _ _ _ c.plain.ensures c.read_statement-read.ensures (Some _) c.in-Some.is in grind arith

@@ -5,7 +5,7 @@ use Rattle.bounds.proofs.touched.touches.Goals as goal
 pub returns : goal.returns
 unfolding touches
 returns c = simp (
-  c.element_or-2.ensures,
+  c.is_pointer.ensures,
   c.replaced_by.ensures,
   c.element_or.ensures,
   c.changed_by.ensures,

@@ -5,7 +5,7 @@ pub returns : goal.returns
 unfolding calls.argument_fits
 returns c = simp (
   c.bounds_fit.ensures,
-  c.element_or.ensures,
+  c.is_pointer.ensures,
   c.kind_fits.ensures,
   c.argument.ensures,
   c.is_parameter.ensures,

@@ -6,9 +6,9 @@ unfolding calls.bounds_fit
 returns c = simp (
   c.bounds_shown.ensures,
   c.argument_bounds.ensures,
-  c.element_or.ensures,
+  c.bounds_at.ensures,
   c.end_fits-2.ensures,
   c.end_fits.ensures,
   c.argument-x.ensures,
-  c.element_or-own.ensures,
+  c.bounds_at-own.ensures,
 )

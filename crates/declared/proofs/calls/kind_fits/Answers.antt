@@ -12,9 +12,9 @@ equal false false = refl
 pub returns : goal.returns
 unfolding kind_fits
 returns c = simp (
-  c.element_or-4.ensures,
-  c.element_or-3.ensures,
-  c.element_or-2.ensures,
-  c.element_or.ensures,
+  c.is_string-2.ensures,
+  c.is_string.ensures,
+  c.is_pointer-2.ensures,
+  c.is_pointer.ensures,
   equal,
 )

@@ -3,4 +3,4 @@ use Rattle.declared.proofs.calls.last_integer.Goals as goal
 
 pub returns : goal.returns
 unfolding last_integer
-returns c = simp (c.element_or.ensures, c.saturating_sub.ensures)
+returns c = simp (c.is_pointer.ensures, c.saturating_sub.ensures)

@@ -7,7 +7,7 @@ pub returns : goal.returns
 unfolding last_right bounds_rules.upper_limit
 returns c = rw (
   c.value_at-3.ensures.value,
-  c.element_or.ensures,
+  c.is_terminated.ensures,
   c.upper_limit-last.ensures.0,
   c.value_at-2.ensures.value,
   c.value_at.ensures.value,

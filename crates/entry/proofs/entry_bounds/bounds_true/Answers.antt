@@ -26,7 +26,7 @@ pub starts_by-requires : goal.starts_by-requires
 unfolding bounds_true
 starts_by-requires c = (
   search rules,
-  rw c.element_or-size.ensures
+  rw c.size_at-size.ensures
       (c.requires _),
 )
 
@@ -34,7 +34,7 @@ pub ends_by-requires : goal.ends_by-requires
 unfolding bounds_true
 ends_by-requires c = (
   search rules,
-  rw c.element_or-size.ensures
+  rw c.size_at-size.ensures
       (c.requires _),
 )
 
@@ -45,11 +45,11 @@ returns c = rw (
   c.starts_by.ensures,
   c.end_of-2.ensures,
   c.end_of.ensures,
-  c.element_or-string.ensures,
-  c.element_or-bounds.ensures,
-  c.element_or-size.ensures,
+  c.is_string-string.ensures,
+  c.bounds_at-bounds.ensures,
+  c.size_at-size.ensures,
   c.upper_limit-high.ensures.0,
-  c.element_or-ended.ensures,
+  c.is_terminated-ended.ensures,
   c.object_end-end.ensures.value,
   c.value_at-low.ensures.value,
   c.value_at-origin.ensures.value,
